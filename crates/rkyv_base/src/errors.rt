@@ -7,8 +7,8 @@
 //! - `DistanceTooLarge` is the error of `resolve` alone.
 //!
 //! `?` converts an `AllocError` into the `Memory` of a `WriteError` or a `ReadError`, and
-//! `DistanceTooLarge` into `WriteError::DistanceTooLarge`. It wraps a `WriteError<NoMemory>` and a
-//! `ReadError` into a `RoundTripError`.
+//! `DistanceTooLarge` into `WriteError::DistanceTooLarge`. It wraps an `IteratorLengthMismatch`
+//! into a `WriteError`, and a `WriteError<NoMemory>` and a `ReadError` into a `RoundTripError`.
 
 ghost use Rattle.std.specs.Prelude.{◌≡◌};
 ghost use Rattle.rkyv_base.specs.declared.errors.ReadError.TheVariants as read;
@@ -16,7 +16,7 @@ ghost use Rattle.rkyv_base.specs.declared.errors.RoundTripError.TheVariants.{Rea
 ghost use Rattle.rkyv_base.specs.declared.errors.WriteError.TheVariants as write;
 
 use crate::writer::NoMemory;
-use std::alloc::AllocError;
+use std::alloc::{AllocError, AllocFailed};
 use thiserror::Error;
 
 /// The error for a distance from a position to a part that doesn't fit in the width.
@@ -92,6 +92,15 @@ impl<F> From<DistanceTooLarge> for WriteError<F> {
     }
 }
 
+impl<F> From<IteratorLengthMismatch> for WriteError<F> {
+    ghost from_gives = { λ error e. e ≡ write.IteratorLengthMismatch error };
+
+    #[inline]
+    fn from(error: IteratorLengthMismatch) -> WriteError<F> {
+        WriteError::IteratorLengthMismatch(error)
+    }
+}
+
 /// The error of a validation: the first fault in the bytes.
 #[derive(Debug, Drop, Error)]
 pub enum VerifyError {
@@ -144,6 +153,15 @@ impl From<AllocError> for ReadError {
 
     #[inline]
     fn from(_error: AllocError) -> ReadError {
+        ReadError::Memory
+    }
+}
+
+impl<T: Drop> From<AllocFailed<T>> for ReadError {
+    ghost from_gives = { λ _ e. e ≡ read.Memory };
+
+    #[inline]
+    fn from(_error: AllocFailed<T>) -> ReadError {
         ReadError::Memory
     }
 }

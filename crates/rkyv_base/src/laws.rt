@@ -4,19 +4,22 @@
 //! by the definitions in `specs/`.
 
 ghost use Rattle.std.specs.Int.{w16, w32, w64, w8};
-ghost use Rattle.std.specs.Prelude.{string_bytes};
-ghost use Rattle.rkyv_base.specs.{IsScalar, IsTextOf, PairRepresents, SameEncoding, SameFormat};
-ghost use Rattle.rkyv_base.specs.{SameSpec, SameValues, ScalarRepresents, bool_encoding};
-ghost use Rattle.rkyv_base.specs.{char_encoding, entry_spec, pair_format, scalar_format, signed};
-ghost use Rattle.rkyv_base.specs.{text_format, text_spec, unit_format, unit_represents, unit_spec};
-ghost use Rattle.rkyv_base.specs.{unsigned, written_as};
+ghost use Rattle.std.specs.Prelude.{string_bytes, ◌≡◌};
+ghost use Rattle.rkyv_base.specs.{IsScalar, IsTextOf, PairRepresents, RepresentsAs, SameEncoding};
+ghost use Rattle.rkyv_base.specs.{SameFormat, SameSpec, SameValues, ScalarRepresents};
+ghost use Rattle.rkyv_base.specs.{bool_encoding, char_encoding, entry_spec, narrow_limit};
+ghost use Rattle.rkyv_base.specs.{pair_format, pair_of, scalar_format, signed, text_format};
+ghost use Rattle.rkyv_base.specs.{text_spec, unit_format, unit_represents, unit_spec, unsigned};
+ghost use Rattle.rkyv_base.specs.{wide_limit, written_as};
 
+use crate::adapter::EntryAdapter;
 use crate::archive::Archive;
 use crate::element::{HasSpec, Represents};
-use crate::entry::Entry;
+use crate::entry::{Entry, LARGEST};
+use crate::lend::Lend;
 use crate::scalars::Scalar;
 use crate::text::Text;
-use crate::width::Width;
+use crate::width::{Narrow, Wide, Width, Word};
 
 /// States by which numbers the integers are encoded: in as many bits as their types have.
 ///
@@ -76,4 +79,34 @@ pub fn entries_are_keys_and_values<W: Width, A: Archive<W>, B: Archive<W>>()
         B.Archived.represents) }
     ensures bytes { SameFormat ⟦<(A, B) as Archive<W>>⟧.format
         (pair_format A.Archived.spec B.Archived.spec A.format B.format) }
+{}
+
+/// States that an adapter is archived as the pair of its key and its value.
+pub fn adapters_are_pairs<W: Width, BK: Lend<A>, BV: Lend<B>, A, B, K, V>()
+where
+    K: Represents<A>,
+    V: Represents<B>,
+    A: Archive<W, Archived = K>,
+    B: Archive<W, Archived = V>,
+    ensures values { SameValues
+        ⟦<Entry<K, V> as Represents<EntryAdapter<BK, BV, A, B>>>⟧.represents
+        (RepresentsAs (pair_of BK.lent BV.lent)
+        (PairRepresents K.spec V.spec K.represents V.represents)) }
+    ensures bytes { SameFormat ⟦<EntryAdapter<BK, BV, A, B> as Archive<W>>⟧.format
+        (written_as (pair_of BK.lent BV.lent) (pair_format K.spec V.spec A.format B.format)) }
+{}
+
+/// States the word, the limit and the greatest capacity of both widths.
+pub fn widths_have_their_numbers()
+    ensures narrow_word { ⟦<Narrow as Word>⟧.word ≡ w32 }
+    ensures narrow_limit { ⟦<Narrow as Width>⟧.LIMIT ≡ narrow_limit }
+    ensures narrow_capacity { ⟦<Narrow as Width>⟧.MAX_CAPACITY ≡ 4294967295 }
+    ensures wide_word { ⟦<Wide as Word>⟧.word ≡ w64 }
+    ensures wide_limit { ⟦<Wide as Width>⟧.LIMIT ≡ wide_limit }
+    ensures wide_capacity { ⟦<Wide as Width>⟧.MAX_CAPACITY ≡ 4611686018427387904 }
+{}
+
+/// States that the greatest size of an element is 1,073,741,824 bytes.
+pub fn largest_element()
+    ensures { LARGEST ≡ 1073741824 }
 {}

@@ -71,9 +71,7 @@ impl<W: Writer> LimitWriter<W> {
         ensures inner { self.new.inner ≡ self.old.inner }
         ensures left { self.new.left ≡ self.old.left }
     {
-        if self.failures < u64::MAX {
-            self.failures += 1;
-        }
+        self.failures = self.failures.saturating_add(1);
     }
 
     // Passes a piece that fits in the rest of the limit to the inner writer.

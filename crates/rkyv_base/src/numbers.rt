@@ -324,10 +324,7 @@ impl Scalar for char {
 
     #[inline]
     fn read(bytes: &[u8]) -> char {
-        match char::from_u32(u32::read(bytes)) {
-            Some(value) => value,
-            None => unreachable!(),
-        }
+        char::from_u32(u32::read(bytes)).unwrap()
     }
 
     #[inline]

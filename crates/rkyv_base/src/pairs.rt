@@ -66,8 +66,7 @@ pub(crate) fn resolve_entry<W: Width, A: Archive<W>, B: Archive<W>>(
     let offset = value_offset::<A::Archived, B::Archived>();
     let (front, back) = out.split_at_mut(offset);
     resolve_padded::<W, A>(key, resolver.key, pos, front)?;
-    resolve_padded::<W, B>(value, resolver.value, pos + offset as u64, back)?;
-    Ok(())
+    resolve_padded::<W, B>(value, resolver.value, pos + offset as u64, back)
 }
 
 /// Writes the parts of a key and a value.

@@ -77,13 +77,9 @@ fn resolve_text<W: Width>(
     if W::TEXT_LIMIT <= len as u64 {
         return Ok(());
     }
-    match W::distance(resolver.pos, pos) {
-        Some(distance) => {
-            fill_out_of_line::<W>(len as u64, distance, out);
-            Ok(())
-        }
-        None => Err(DistanceTooLarge),
-    }
+    let distance = W::distance(resolver.pos, pos).ok_or(DistanceTooLarge)?;
+    fill_out_of_line::<W>(len as u64, distance, out);
+    Ok(())
 }
 
 /// Writes the bytes of a text that is too long to be inline.

@@ -61,10 +61,7 @@ pub(crate) fn is_out_of_line(fixed: &[u8]) -> bool
 pub(crate) fn inline_part(fixed: &[u8]) -> &[u8]
     ensures { result.now ≡ inline_text fixed.now }
 {
-    match first::<PadByte>(fixed) {
-        Some(len) => &fixed[..len],
-        None => fixed,
-    }
+    &fixed[..first::<PadByte>(fixed).unwrap_or(fixed.len())]
 }
 
 /// Returns `true` only if the inline text is ASCII.
@@ -118,10 +115,10 @@ fn check_utf8(text: &[u8], pos: u64) -> Result<(), VerifyError>
         (λ _. IsUtf8 text.now)
         (λ e. (IsUtf8 text.now → ⊥) × (e ≡ InvalidValue pos)) }
 {
-    match str::from_utf8(text) {
-        Ok(_) => Ok(()),
-        Err(_) => Err(VerifyError::InvalidValue { pos }),
+    if str::from_utf8(text).is_err() {
+        return Err(VerifyError::InvalidValue { pos });
     }
+    Ok(())
 }
 
 /// Validates the inline text of the fixed bytes at `pos` as UTF-8.

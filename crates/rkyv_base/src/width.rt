@@ -184,10 +184,8 @@ impl Width for Narrow {
     }
 
     fn distance(target: u64, from: u64) -> Option<i64> {
-        match i32::try_from(target as i128 - from as i128) {
-            Ok(distance) => Some(i64::from(distance)),
-            Err(_) => None,
-        }
+        let distance = i32::try_from(i128::from(target) - i128::from(from)).ok()?;
+        Some(i64::from(distance))
     }
 
     ghost layout = { narrow_layout };
@@ -243,10 +241,7 @@ impl Width for Wide {
     }
 
     fn distance(target: u64, from: u64) -> Option<i64> {
-        match i64::try_from(target as i128 - from as i128) {
-            Ok(distance) => Some(distance),
-            Err(_) => None,
-        }
+        i64::try_from(i128::from(target) - i128::from(from)).ok()
     }
 
     ghost layout = { wide_layout };

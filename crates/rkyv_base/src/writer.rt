@@ -134,15 +134,11 @@ impl Writer for VecWriter {
             (vec_output self.new) bytes.now) }
         ensures kept { OnErr result (self.new.0 ≡ self.old.0) }
     {
-        match self.bytes.extend_from_slice(bytes) {
-            Ok(()) => Ok(()),
-            Err(_) => {
-                if self.failures < u64::MAX {
-                    self.failures += 1;
-                }
-                Err(NoMemory)
-            }
+        if self.bytes.extend_from_slice(bytes).is_err() {
+            self.failures = self.failures.saturating_add(1);
+            return Err(NoMemory);
         }
+        Ok(())
     }
 }
 
@@ -162,10 +158,7 @@ pub fn append_in<W: Width, S: Writer>(serializer: &mut S, bytes: &[u8]) -> Write
     if pos > W::LIMIT || len > W::LIMIT - pos {
         return Err(WriteError::PositionTooLarge);
     }
-    match serializer.write(bytes) {
-        Ok(()) => Ok(()),
-        Err(fault) => Err(WriteError::Writer(fault)),
-    }
+    serializer.write(bytes).map_err(WriteError::Writer)
 }
 
 /// Appends zeros up to the next multiple of the element's alignment, in one piece.

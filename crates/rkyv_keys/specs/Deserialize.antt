@@ -1,5 +1,5 @@
 -- Deserialization: its results and its errors.
-use Rattle.std.specs.Prelude.{◌≡◌, ℕ, List, MatchResult, Result}
+use Rattle.std.specs.Prelude.{◌≡◌, ◌↔◌, ℕ, List, MatchResult, Result}
 use Rattle.rkyv_base.specs.{AtView, ElementSpec, IsElement}
 use Rattle.rkyv_base.specs.declared.errors.ReadError.{ReadError}
 use Rattle.rkyv_base.specs.declared.errors.ReadError.TheVariants.{Memory}
@@ -16,6 +16,10 @@ nothing_fails b p e = ⊥
 -- deserializing fails only if memory could not be allocated
 abbrev pub memory_fails : DeserializeErrors
 memory_fails b p e = e ≡ Memory
+
+-- `errors` and `errors'`: the same errors of the value at each position
+abbrev pub SameErrors : DeserializeErrors → DeserializeErrors → Type 0
+SameErrors errors errors' = (b : List ℕ) (p : ℕ) (e : ReadError) → errors b p e ↔ errors' b p e
 
 -- `result`: a value that the bytes at the view represent, or an error of deserializing it
 abbrev pub Deserializes : {A T : Type 0} → (List ℕ → ℕ → A → Type 0) → DeserializeErrors → View T

@@ -37,10 +37,8 @@ pub fn valid_at<T: Element>(bytes: &[u8], pos: u64) -> Option<View<'_, T>>
     if len < size || len - size < pos || pos % T::align() as u64 != 0 {
         return None;
     }
-    match T::check(bytes, pos, PartRange { lo: 0, hi: pos }) {
-        Ok(_) => Some(View::new(bytes, pos)),
-        Err(_) => None,
-    }
+    T::check(bytes, pos, PartRange { lo: 0, hi: pos }).ok()?;
+    Some(View::new(bytes, pos))
 }
 
 /// A value in an archive, for formatting by `Debug`.

@@ -1,16 +1,23 @@
 //! Laws of keys.
 //!
 //! The first three are of native keys and queries on written keys, proved from the laws of
-//! their traits. The others say by which calls values of the types of this crate are hashed.
+//! their traits. The others say by which calls values of the types of this crate are hashed,
+//! and with which errors they are deserialized.
 
 ghost use Rattle.std.specs.Prelude.{[], string_bytes, ◌++◌, ◌∷◌, ◌≡◌};
 ghost use Rattle.rkyv_scan.specs.{I16, I32, I64, I8, Isize, U16, U32, U64, U8, Usize};
-ghost use Rattle.rkyv_keys.specs.{FitsByValue, HashesAsWritten, HashesBy, RestsOnKeys, bool_call};
+ghost use Rattle.rkyv_keys.specs.{FitsByValue, HashesAsWritten, HashesBy, RestsOnKeys, SameErrors};
+ghost use Rattle.rkyv_keys.specs.{bool_call, entry_deserialize_fails, memory_fails, nothing_fails};
 ghost use Rattle.rkyv_keys.specs.{text_calls};
 
+use crate::deserialize::Deserialize;
 use crate::hash::KeyHash;
 use crate::keys::{KeyElement, NativeKey, Query};
+use crate::scalars::ScalarKey;
 use rkyv_base::element::Represents;
+use rkyv_base::entry::Entry;
+use rkyv_base::text::Text;
+use rkyv_base::width::Width;
 
 /// States that a native key makes the calls of each archived key that represents it.
 pub fn native_keys_hash_as_written<K: KeyElement + Represents<V>, V: NativeKey<K>>()
@@ -59,4 +66,19 @@ pub fn texts_hash_by_their_bytes<'a>()
 /// States that a pair is hashed by the calls of its first value, and then those of its second.
 pub fn pairs_hash_in_order<A: KeyHash, B: KeyHash>()
     ensures { (pair : _) → ⟦<(A, B) as KeyHash>⟧.calls pair ≡ A.calls pair.0 ++ B.calls pair.1 }
+{}
+
+/// States the errors with which scalars, the unit value, texts and pairs are deserialized.
+///
+/// Scalars and `()` never fail. A text fails only to allocate. A pair fails with an error of its
+/// key or of its value.
+pub fn errors_of_deserializing<N: ScalarKey, W: Width, A: Drop, B, K, V>()
+where
+    K: Deserialize<A>,
+    V: Deserialize<B>,
+    ensures scalar { SameErrors ⟦<N as Deserialize<N>>⟧.deserialize_fails nothing_fails }
+    ensures unit { SameErrors ⟦<() as Deserialize<()>>⟧.deserialize_fails nothing_fails }
+    ensures text { SameErrors ⟦<Text<W> as Deserialize<String>>⟧.deserialize_fails memory_fails }
+    ensures pair { SameErrors ⟦<Entry<K, V> as Deserialize<(A, B)>>⟧.deserialize_fails
+        (entry_deserialize_fails K.spec V.spec K.deserialize_fails V.deserialize_fails) }
 {}

@@ -12,15 +12,15 @@
 
 pub mod debug;
 pub mod deserialize;
-pub mod entries;
+mod entries;
 pub mod equality;
 pub mod hash;
 pub mod keys;
 pub mod laws;
 pub mod scalars;
-pub mod texts;
-pub mod units;
-pub mod views;
+mod texts;
+mod units;
+mod views;
 
 pub use debug::{ElementDebug, Shown, valid_at};
 pub use deserialize::Deserialize;

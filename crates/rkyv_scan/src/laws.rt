@@ -5,10 +5,11 @@
 ghost use Rattle.std.specs.Prelude.{◌≡◌, ◌+◌, ◌≤◌, List, [], drop, length, take};
 ghost use Rattle.rkyv_scan.specs.{CallsHashTheirWords, EightBytesAreOneWord, FixedCallsAgree};
 ghost use Rattle.rkyv_scan.specs.{FixedCallsHashAlike, HasherCall, WritesJoin, all_bits, fx_hash};
+ghost use Rattle.rkyv_scan.specs.{bytewise_kind, generic_kind, lanes_kind, paired_kind};
 ghost use Rattle.rkyv_scan.specs.{hash_of_calls, indices_where, is_word_match_at, low_halves};
 
 use crate::hash::{FxHasher64, FxHasher64Wide, KeyHasher};
-use crate::simd::{GroupKind, MAX_GROUP_WIDTH, Marks, bytewise, generic, lanes};
+use crate::simd::{GroupKind, MAX_GROUP_WIDTH, Marks, bytewise, generic, lanes, paired};
 use crate::{Bitmask, Group};
 
 /// States that a list of calls hashes as the list of all words that they feed, from 0.
@@ -80,4 +81,15 @@ pub fn root_group_marks(bytes: &[u8], pos: usize, byte: u8) -> Bitmask
 /// States that `MAX_GROUP_WIDTH` is 16.
 pub fn widest_group()
     ensures { MAX_GROUP_WIDTH ≡ 16 }
+{}
+
+/// States which indices each kind of group marks, and its width.
+///
+/// A `bytewise` or `lanes` group marks the equal bytes alone. A `generic` or `paired` group also
+/// marks a byte that follows a marked one and differs in the lowest bit alone, as in rkyv.
+pub fn kinds_mark_as_defined()
+    ensures bytewise { ⟦<bytewise::Group as GroupKind>⟧.kind ≡ bytewise_kind }
+    ensures generic { ⟦<generic::Group as GroupKind>⟧.kind ≡ generic_kind }
+    ensures lanes { ⟦<lanes::Group as GroupKind>⟧.kind ≡ lanes_kind }
+    ensures paired { ⟦<paired::Group as GroupKind>⟧.kind ≡ paired_kind }
 {}

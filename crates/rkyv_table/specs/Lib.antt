@@ -4,7 +4,7 @@ pub mod Table
 pub mod Lemmas
 unfoldable pub use Controls.Numbers.{IsLoadFactor, capacity, control_count, modulus, probe_capacity}
 unfoldable pub use Controls.Numbers.{start, tag}
-unfoldable pub use Controls.Capacity.{IsCapacity}
+unfoldable pub use Controls.Capacity.{IsCapacity, capacity_write_error}
 unfoldable pub use Controls.Probe.{buckets_at, probe_index, probed, strides, strides_from}
 pub use Controls.Probe.{IsProbe}
 unfoldable pub use Controls.ControlBytes.{HasRoom, IsFullBucket, empty_index, fresh_controls}

@@ -30,7 +30,7 @@ mod parts;
 pub mod raw_iter;
 pub mod raw_iter_seal;
 pub mod resolve;
-pub mod sealed;
+mod sealed;
 mod serialize;
 mod source;
 pub mod take;

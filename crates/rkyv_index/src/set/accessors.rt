@@ -191,10 +191,7 @@ impl<'a, K: KeyElement, H: KeyHasher, W: Width> ArchivedIndexSet<'a, K, H, W> {
         requires stored { IfSome index (IsStoredIndex (keys_of self)) }
         ensures { IsMemberAt self.entry result index }
     {
-        match index {
-            Some(index) => Some(self.map.entries().entry(index).key()),
-            None => None,
-        }
+        Some(self.map.entries().entry(index?).key())
     }
 
     /// Returns the index of the key that the query finds, or `None`.

@@ -116,16 +116,13 @@ fn scan<G: GroupKind, F: Fn(usize) -> bool>(
 {
     if G::WIDTH == 16 {
         let whole = G::read(stride, 0);
-        return match first_accepted(whole.match_byte(tag), pos, cap, cmp) {
-            Some(bucket) => StrideOutcome::Accepted(bucket),
-            None => {
-                if whole.match_empty().any_bit_set() {
-                    StrideOutcome::HasEmpty
-                } else {
-                    StrideOutcome::Continue
-                }
-            }
-        };
+        if let Some(bucket) = first_accepted(whole.match_byte(tag), pos, cap, cmp) {
+            return StrideOutcome::Accepted(bucket);
+        }
+        if whole.match_empty().any_bit_set() {
+            return StrideOutcome::HasEmpty;
+        }
+        return StrideOutcome::Continue;
     }
     let mut empty = false;
     for i in 0..16 / G::WIDTH {

@@ -2,15 +2,41 @@
 //!
 //! The rules are rkyv's.
 ghost use Rattle.std.specs.Prelude.{◌≡◌, ◌%◌, ◌*◌, ◌+◌, ◌<◌, ◌^◌, ◌≤◌};
-ghost use Rattle.rkyv_table.specs.{IsCapacity, control_count, modulus, probe_capacity, start, tag};
+ghost use Rattle.rkyv_table.specs.{IsCapacity, capacity_write_error, control_count, modulus};
+ghost use Rattle.rkyv_table.specs.{probe_capacity, start, tag};
+
+use rkyv_base::errors::WriteError;
 
 /// An error of `capacity`.
 #[derive(Debug, Clone, Copy, PartialEq, Eq)]
 pub enum CapacityError {
     /// The load factor isn't a fraction above 0 and at most 1.
-    InvalidLoadFactor,
-    /// The capacity is above the limit.
-    CapacityTooLarge,
+    InvalidLoadFactor {
+        numerator: usize,
+        denominator: usize,
+    },
+    /// The capacity for this length is above the limit.
+    CapacityTooLarge {
+        len: usize,
+    },
+}
+
+impl<F> From<CapacityError> for WriteError<F> {
+    ghost from_gives = { λ error e. e ≡ capacity_write_error error };
+
+    #[inline]
+    fn from(error: CapacityError) -> WriteError<F> {
+        match error {
+            CapacityError::InvalidLoadFactor {
+                numerator,
+                denominator,
+            } => WriteError::InvalidLoadFactor {
+                numerator,
+                denominator,
+            },
+            CapacityError::CapacityTooLarge { len } => WriteError::CapacityTooLarge { len },
+        }
+    }
 }
 
 /// Returns the number of buckets of a table of `len` items under a load factor.
@@ -27,7 +53,10 @@ pub fn capacity(len: usize, load_factor: (usize, usize), limit: u64) -> Result<u
 {
     let (numerator, denominator) = load_factor;
     if numerator == 0 || numerator > denominator {
-        return Err(CapacityError::InvalidLoadFactor);
+        return Err(CapacityError::InvalidLoadFactor {
+            numerator,
+            denominator,
+        });
     }
     if len == 0 {
         return Ok(0);
@@ -35,7 +64,7 @@ pub fn capacity(len: usize, load_factor: (usize, usize), limit: u64) -> Result<u
     let scaled = len as u128 * denominator as u128 / numerator as u128;
     let buckets = scaled.max(len as u128 + 1);
     if buckets > limit as u128 {
-        return Err(CapacityError::CapacityTooLarge);
+        return Err(CapacityError::CapacityTooLarge { len });
     }
     Ok(buckets as usize)
 }

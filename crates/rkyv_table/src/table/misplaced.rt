@@ -20,10 +20,7 @@ use rkyv_scan::simd::paired;
 pub fn finds_another_or_none(bucket: usize, found: Option<usize>) -> bool
     ensures { result ≡ not (is_found_at bucket found) }
 {
-    match found {
-        Some(found) => bucket != found,
-        None => true,
-    }
+    found != Some(bucket)
 }
 
 /// Returns `true` if more than `limit` strides are counted after `before`, or more than 2^63.

@@ -104,10 +104,7 @@ fn resolved_capacity<W: Width>(resolver: &HashTableResolver<W>) -> usize
     ensures value { result ≡ resolved_capacity resolver.now }
     ensures fits { result < 2 ^ bits W.word }
 {
-    match capacity(resolver.len, resolver.load_factor, W::MAX_CAPACITY) {
-        Ok(cap) => cap,
-        Err(_) => unreachable!(),
-    }
+    capacity(resolver.len, resolver.load_factor, W::MAX_CAPACITY).unwrap()
 }
 
 impl<'a, T: HasSpec, W: Width> ArchivedHashTable<'a, T, W> {
@@ -144,12 +141,8 @@ impl<'a, T: HasSpec, W: Width> ArchivedHashTable<'a, T, W> {
             return Ok(());
         }
         let cap = resolved_capacity(&resolver) as u64;
-        match W::distance(resolver.pos(), pos) {
-            Some(distance) => {
-                write_header::<W>(out, distance, len as u64, cap);
-                Ok(())
-            }
-            None => Err(DistanceTooLarge),
-        }
+        let distance = W::distance(resolver.pos(), pos).ok_or(DistanceTooLarge)?;
+        write_header::<W>(out, distance, len as u64, cap);
+        Ok(())
     }
 }

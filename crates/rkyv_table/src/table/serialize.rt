@@ -11,7 +11,7 @@ ghost use Rattle.std.specs.Prelude.{replicate, vec_capacity};
 ghost use Rattle.rkyv_table.specs.{WritesNonempty, WritesTable, bucket_input, control_count};
 ghost use Rattle.rkyv_table.specs.{from_both, from_iter, item_format, table_input};
 
-use crate::controls::numbers::{CapacityError, capacity, control_count};
+use crate::controls::numbers::{capacity, control_count};
 use crate::table::ArchivedHashTable;
 use crate::table::bytes::write_table;
 use crate::table::resolve::HashTableResolver;
@@ -84,21 +84,19 @@ fn serialize_nonempty<
         (S.output serializer.old) (S.output serializer.new) result }
 {
     let size = <U::Archived as Element>::size();
-    let room: Room<X, U::Resolver> = Room::new(alloc, len, cap, size)?;
-    let mut slots = room.slots;
-    let mut scratch = room.scratch;
-    let resolvers = room.resolvers;
+    let Room {
+        mut slots,
+        mut scratch,
+        resolvers,
+    } = Room::<X, U::Resolver>::new(alloc, len, cap, size)?;
     let slots = slots.as_mut_slice();
     let (controls, bucket) = scratch.as_mut_slice().split_at_mut(control_count(cap));
-    match given.place_all::<G>(len, cap, controls, slots) {
-        Ok(()) => {}
-        Err(actual) => {
-            return Err(WriteError::IteratorLengthMismatch(IteratorLengthMismatch {
-                expected: len,
-                actual,
-            }));
-        }
-    }
+    given
+        .place_all::<G>(len, cap, controls, slots)
+        .map_err(|actual| IteratorLengthMismatch {
+            expected: len,
+            actual,
+        })?;
     write_table::<W, _, U, _>(alloc, slots, controls, bucket, resolvers, serializer)
 }
 
@@ -122,16 +120,7 @@ fn serialize_source<
         (table_input (H.input given) len load_factor)
         (S.output serializer.old) (S.output serializer.new) result }
 {
-    let cap = match capacity(len, load_factor, W::MAX_CAPACITY) {
-        Ok(cap) => cap,
-        Err(CapacityError::InvalidLoadFactor) => {
-            return Err(WriteError::InvalidLoadFactor {
-                numerator: load_factor.0,
-                denominator: load_factor.1,
-            });
-        }
-        Err(CapacityError::CapacityTooLarge) => return Err(WriteError::CapacityTooLarge { len }),
-    };
+    let cap = capacity(len, load_factor, W::MAX_CAPACITY)?;
     if len == 0 {
         return match given.expect_none() {
             Ok(()) => Ok(HashTableResolver {

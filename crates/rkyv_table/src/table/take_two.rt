@@ -50,22 +50,18 @@ pub(crate) fn take_two<G: GroupKind, X: Drop, I: Iterator<Item = X>, J: Iterator
     let mut rest_hashes = hashes;
     let reciprocal = Reciprocal::new(cap as u64);
     for count in 0..len {
-        match next_item(&mut rest) {
-            Some(item) => match next_item(&mut rest_hashes) {
-                Some(hash) => {
-                    let start = reciprocal.rest(hash) as usize;
-                    place_item::<G, X>(controls, slots, cap, start, hash, item);
-                }
-                None => {
-                    let count_of_items = count_rest(rest, count + 1, len);
-                    if count_of_items == len {
-                        return Err(count);
-                    }
-                    return Err(count_of_items);
-                }
-            },
-            None => return Err(count),
-        }
+        let Some(item) = next_item(&mut rest) else {
+            return Err(count);
+        };
+        let Some(hash) = next_item(&mut rest_hashes) else {
+            let count_of_items = count_rest(rest, count + 1, len);
+            if count_of_items == len {
+                return Err(count);
+            }
+            return Err(count_of_items);
+        };
+        let start = reciprocal.rest(hash) as usize;
+        place_item::<G, X>(controls, slots, cap, start, hash, item);
     }
     match next_item(&mut rest) {
         Some(_) => return Err(len + 1),

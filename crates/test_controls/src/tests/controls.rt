@@ -124,11 +124,31 @@ fn rejects_invalid_capacities(rt: HostRuntime) {
         capacity(usize::MAX, (1, 1), u64::MAX),
         capacity(4_611_686_018_427_387_904, (1, 1), WIDE),
     ];
+    let invalid = |numerator, denominator| {
+        Err(CapacityError::InvalidLoadFactor {
+            numerator,
+            denominator,
+        })
+    };
+    let too_large = |len| Err(CapacityError::CapacityTooLarge { len });
     expect_eq!(rt;
         (factors, large),
         (
-            [Err(CapacityError::InvalidLoadFactor); 6],
-            [Err(CapacityError::CapacityTooLarge); 5]
+            [
+                invalid(8, 7),
+                invalid(0, 1),
+                invalid(1, 0),
+                invalid(8, 7),
+                invalid(0, 1),
+                invalid(1, 0)
+            ],
+            [
+                too_large(1),
+                too_large(4_294_967_295),
+                too_large(usize::MAX),
+                too_large(usize::MAX),
+                too_large(4_611_686_018_427_387_904)
+            ]
         )
     );
 }

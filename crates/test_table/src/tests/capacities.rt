@@ -18,9 +18,23 @@ fn fails_with(alloc: Global, len: usize, load_factor: (usize, usize), text: &str
 fn errors_of_capacities_have_a_debug_text(rt: HostRuntime) {
     let alloc = rt.alloc();
     let shown = [
-        fails_with(alloc, 1, (8, 7), "InvalidLoadFactor"),
-        fails_with(alloc, 4_294_967_295, (1, 1), "CapacityTooLarge"),
+        fails_with(
+            alloc,
+            1,
+            (8, 7),
+            "InvalidLoadFactor { numerator: 8, denominator: 7 }",
+        ),
+        fails_with(
+            alloc,
+            4_294_967_295,
+            (1, 1),
+            "CapacityTooLarge { len: 4294967295 }",
+        ),
     ];
-    let same = capacity(1, (8, 7), 2) == Err(CapacityError::InvalidLoadFactor);
+    let error = CapacityError::InvalidLoadFactor {
+        numerator: 8,
+        denominator: 7,
+    };
+    let same = capacity(1, (8, 7), 2) == Err(error);
     expect_eq!(rt; (shown, same), ([true; 2], true));
 }

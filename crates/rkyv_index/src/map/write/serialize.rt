@@ -24,7 +24,7 @@ use rkyv_base::writer::Writer;
 use rkyv_keys::hash::KeyHash;
 use rkyv_keys::keys::{KeyElement, NativeKey};
 use rkyv_scan::hash::KeyHasher;
-use rkyv_table::controls::numbers::{CapacityError, capacity};
+use rkyv_table::controls::numbers::capacity;
 use std::alloc::Global;
 
 /// The format of lists of `X` under each load factor.
@@ -121,31 +121,15 @@ impl<'a, K: KeyElement, V: Element, H: KeyHasher, W: IndexMapWidth> ArchivedInde
             (pairs_in BK.Lend BV.Lend I.Iterator iter len load_factor)
             (S.output serializer.old) (S.output serializer.new) result }
     {
-        match capacity(len, load_factor, W::MAX_CAPACITY) {
-            Ok(_) => {}
-            Err(CapacityError::InvalidLoadFactor) => {
-                return Err(WriteError::InvalidLoadFactor {
-                    numerator: load_factor.0,
-                    denominator: load_factor.1,
-                });
-            }
-            Err(CapacityError::CapacityTooLarge) => {
-                return Err(WriteError::CapacityTooLarge { len });
-            }
-        }
+        capacity(len, load_factor, W::MAX_CAPACITY)?;
         let room = Room::new(alloc, len, Entry::<K, V>::size())?;
         let mut entries = room.entries;
         let mut scratch = room.scratch;
         let resolvers = room.resolvers;
-        match take_entries(iter, len, &mut entries) {
-            Ok(()) => {}
-            Err(actual) => {
-                return Err(WriteError::IteratorLengthMismatch(IteratorLengthMismatch {
-                    expected: len,
-                    actual,
-                }));
-            }
-        }
+        take_entries(iter, len, &mut entries).map_err(|actual| IteratorLengthMismatch {
+            expected: len,
+            actual,
+        })?;
         write_index::<W, H, _, EntryAdapter<_, _, A, B>>(
             alloc,
             entries.as_slice(),

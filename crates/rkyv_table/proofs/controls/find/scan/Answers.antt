@@ -74,7 +74,7 @@ loop-i-preserved g c =
             | else-any_bit_set-2 w ↦ w.empty-is ∙ b ∙ sym (m ∙ or_no before la (sym a'' ∙ w.if-any_bit_set-2.false))
           ]);
       none = λ controls e accept compares.
-          let f = c.in_default.ensures.first accept (λ b r marked returned. compares b r (shown g after b marked) returned) in
+          let f = c.in_default-first_accepted.ensures.first accept (λ b r marked returned. compares b r (shown g after b marked) returned) in
           let f' = rw (c.match_byte-in-loop-i.ensures, indices_are, c.WIDTH-in-loop-i.ensures, g.met.G.GroupKind.width) at f in
           found_more kind controls shows c.args.cap c.args.tag c.args.pos i accept None (width_some kind law) (at controls e) (c.loop-i.invariant.none controls e accept compares) f';
     }
@@ -135,11 +135,11 @@ returns-in-Some-clause-outcome g c = λ controls e accept compares.
 pub returns-then-any_bit_set-clause-outcome : goal.returns-then-any_bit_set-clause-outcome
 returns-then-any_bit_set-clause-outcome g c = λ controls e accept compares.
     let s = whole_none g.G.GroupKind.kind g.met.G.GroupKind.lawful controls (g.G.GroupKind.controls c.read-whole.result) c.args.stride.now c.args.cap c.args.tag c.args.pos accept c.any_bit_set.result (g.G.Mask.Marks.indices c.match_byte.result) (g.G.Mask.Marks.indices c.match_empty.result) (one g (goal.at.returns-then-any_bit_set-clause-outcome g c).After-match_byte) c.read-whole.ensures e
-    c.match_byte.ensures (c.in-None.ensures.first accept (λ b r marked returned. compares b r (whole_is_shown g (goal.at.returns-then-any_bit_set-clause-outcome g c).After-match_byte b marked) returned)) c.match_empty.ensures c.any_bit_set.ensures in
+    c.match_byte.ensures (c.in_default.ensures.first accept (λ b r marked returned. compares b r (whole_is_shown g (goal.at.returns-then-any_bit_set-clause-outcome g c).After-match_byte b marked) returned)) c.match_empty.ensures c.any_bit_set.ensures in
     (s.0, s.1 ∙ c.if-any_bit_set.true)
 
-pub returns-else-any_bit_set-clause-outcome : goal.returns-else-any_bit_set-clause-outcome
-returns-else-any_bit_set-clause-outcome g c = λ controls e accept compares.
-    let s = whole_none g.G.GroupKind.kind g.met.G.GroupKind.lawful controls (g.G.GroupKind.controls c.read-whole.result) c.args.stride.now c.args.cap c.args.tag c.args.pos accept c.any_bit_set.result (g.G.Mask.Marks.indices c.match_byte.result) (g.G.Mask.Marks.indices c.match_empty.result) (one g (goal.at.returns-else-any_bit_set-clause-outcome g c).After-match_byte) c.read-whole.ensures e
-    c.match_byte.ensures (c.in-None.ensures.first accept (λ b r marked returned. compares b r (whole_is_shown g (goal.at.returns-else-any_bit_set-clause-outcome g c).After-match_byte b marked) returned)) c.match_empty.ensures c.any_bit_set.ensures in
+pub returns-then-WIDTH-eq16-clause-outcome : goal.returns-then-WIDTH-eq16-clause-outcome
+returns-then-WIDTH-eq16-clause-outcome g c = λ controls e accept compares.
+    let s = whole_none g.G.GroupKind.kind g.met.G.GroupKind.lawful controls (g.G.GroupKind.controls c.read-whole.result) c.args.stride.now c.args.cap c.args.tag c.args.pos accept c.any_bit_set.result (g.G.Mask.Marks.indices c.match_byte.result) (g.G.Mask.Marks.indices c.match_empty.result) (one g (goal.at.returns-then-WIDTH-eq16-clause-outcome g c).After-match_byte) c.read-whole.ensures e
+    c.match_byte.ensures (c.in_default.ensures.first accept (λ b r marked returned. compares b r (whole_is_shown g (goal.at.returns-then-WIDTH-eq16-clause-outcome g c).After-match_byte b marked) returned)) c.match_empty.ensures c.any_bit_set.ensures in
     (s.0, s.1 ∙ c.if-any_bit_set.false)

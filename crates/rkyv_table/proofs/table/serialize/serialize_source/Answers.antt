@@ -5,24 +5,24 @@ use Rattle.rkyv_table.proofs.TableResults.{capacity_fits, fails_some, wrote_none
 use Rattle.rkyv_table.specs.{HasCapacity}
 use Rattle.rkyv_table.proofs.table.serialize.serialize_source.Goals as goal
 
-pub returns-in-Ok-expect_none : goal.returns-in-Ok-expect_none
-returns-in-Ok-expect_none g c =
-    let cap = c.in-Ok.ensures in
+pub returns-in-Ok : goal.returns-in-Ok
+returns-in-Ok g c =
+    let cap = c.in_ok-cap.ensures in
     let has : HasCapacity c.args.len c.args.load_factor g.W.Width.MAX_CAPACITY = (cap.0, rw (cap.1, c.MAX_CAPACITY.ensures) at cap.2) in
     let fits = capacity_fits c.args.len c.args.load_factor g.W.Width.MAX_CAPACITY g.met.W.Width.layout has in
     let o = g.S.Writer.output c.args.serializer.now in
-    wrote_none (g.H.ItemSource.input c.args.given).yields c.args.len c.args.load_factor g.W.Width.MAX_CAPACITY g.W.Word.word g.U.Archived.HasSpec.spec (written_as g.X.Lend.lent g.U.Archive.format) o o g.W.Width.LIMIT has c.if-len-eq0.true c.in-Ok-expect_none.ensures refl fits
+    wrote_none (g.H.ItemSource.input c.args.given).yields c.args.len c.args.load_factor g.W.Width.MAX_CAPACITY g.W.Word.word g.U.Archived.HasSpec.spec (written_as g.X.Lend.lent g.U.Archive.format) o o g.W.Width.LIMIT has c.if-len-eq0.true c.in-Ok.ensures refl fits
 
 pub returns : goal.returns
 returns g c =
-    let cap = c.in-Ok.ensures in
+    let cap = c.in_ok-cap.ensures in
     let has : HasCapacity c.args.len c.args.load_factor g.W.Width.MAX_CAPACITY = (cap.0, rw (cap.1, c.MAX_CAPACITY.ensures) at cap.2) in
     let fits = capacity_fits c.args.len c.args.load_factor g.W.Width.MAX_CAPACITY g.met.W.Width.layout has in
     wrote_some (g.H.ItemSource.input c.args.given).yields c.args.len c.args.load_factor g.W.Width.MAX_CAPACITY g.W.Word.word g.U.Archived.HasSpec.spec (written_as g.X.Lend.lent g.U.Archive.format) (g.S.Writer.output c.args.serializer.now) (g.S.Writer.output c.serialize_nonempty.new.serializer) g.W.Width.LIMIT has (omega (arith, c.if-len-eq0.false)) c.in_ok-pos.pos fits (rw cap.1 at c.in_ok-pos.ensures)
 
 pub returns-in_err-pos : goal.returns-in_err-pos
 returns-in_err-pos g c =
-    let cap = c.in-Ok.ensures in
+    let cap = c.in_ok-cap.ensures in
     let has : HasCapacity c.args.len c.args.load_factor g.W.Width.MAX_CAPACITY = (cap.0, rw (cap.1, c.MAX_CAPACITY.ensures) at cap.2) in
-    let p = err_from_is_err_and c.from_residual.result c.from_residual.ensures.1 in
+    let p = err_from_is_err_and c.from_residual-in_err-pos.result c.from_residual-in_err-pos.ensures.1 in
     rw (p.1, p.2) (fails_some (g.H.ItemSource.input c.args.given).yields c.args.len c.args.load_factor g.W.Width.MAX_CAPACITY g.W.Word.word g.U.Archived.HasSpec.spec (written_as g.X.Lend.lent g.U.Archive.format) (g.S.Writer.output c.args.serializer.now) (g.S.Writer.output c.serialize_nonempty.new.serializer) g.W.Width.LIMIT has (omega (arith, c.if-len-eq0.false)) ((g.H.ItemSource.input c.args.given).yields_other_count c.args.len) c.in_err-pos.field-0.0 (rw cap.1 at c.in_err-pos.ensures))

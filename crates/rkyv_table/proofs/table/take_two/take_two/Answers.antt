@@ -54,11 +54,11 @@ items_count {A = A} xs = length-map xs (λ (y : ℕ × A). y.1)
 hashes_count : {A : Type 0} (xs : List (ℕ × A)) → length (hashes_of xs) ≡ length xs
 hashes_count {A = A} xs = length-map xs (λ (y : ℕ × A). y.0)
 
-pub returns-in-None : goal.returns-in-None
-returns-in-None g c =
+pub returns-in_default : goal.returns-in_default
+returns-in_default g c =
     let i = c.loop-count.invariant.taken in
     let n = items_count i.0 in
-    inl ((items_of i.0, omega (arith, n, i.3), inl (omega (arith, c.loop-count-test.true), (_, (_, i.1, c.in-None.ensures.steps)))), λ z. omega (arith, z, c.loop-count-test.true))
+    inl ((items_of i.0, omega (arith, n, i.3), inl (omega (arith, c.loop-count-test.true), (_, (_, i.1, c.in_default.ensures.steps)))), λ z. omega (arith, z, c.loop-count-test.true))
 
 pub returns-then-count_of_items-len : goal.returns-then-count_of_items-len
 returns-then-count_of_items-len g c =
@@ -66,10 +66,10 @@ returns-then-count_of_items-len g c =
     let n1 : c.loop-count.count + 1 ≡ length (items_of i.0) + 1 = (let n = items_count i.0 in omega (arith, i.3)) in
     let n0 = hashes_count i.0 in
     let k = counted_after g.I.Iterator.next_gives c.args.len c.count_rest-count_of_items.result _ _ _ (items_of i.0) c.in-Some.item i.1 c.in-Some.ensures.steps (rw n1 at c.count_rest-count_of_items.ensures) in
-    inr (rw c.if-count_of_items-len.true at k, ((hashes_of i.0, omega (arith, n0, i.3), inl (omega (arith, c.loop-count-test.true), (_, (_, i.2, c.in-None-next_item.ensures.steps)))), λ z. omega (arith, z, c.loop-count-test.true)))
+    inr (rw c.if-count_of_items-len.true at k, ((hashes_of i.0, omega (arith, n0, i.3), inl (omega (arith, c.loop-count-test.true), (_, (_, i.2, c.in_default-next_item.ensures.steps)))), λ z. omega (arith, z, c.loop-count-test.true)))
 
-pub returns-in-None-next_item : goal.returns-in-None-next_item
-returns-in-None-next_item g c =
+pub returns-in_default-next_item : goal.returns-in_default-next_item
+returns-in_default-next_item g c =
     let i = c.loop-count.invariant.taken in
     let n1 : c.loop-count.count + 1 ≡ length (items_of i.0) + 1 = (let n = items_count i.0 in omega (arith, i.3)) in
     let k = counted_after g.I.Iterator.next_gives c.args.len c.count_rest-count_of_items.result _ _ _ (items_of i.0) c.in-Some.item i.1 c.in-Some.ensures.steps (rw n1 at c.count_rest-count_of_items.ensures) in
@@ -91,6 +91,6 @@ returns-in-Some-next_item-3 g c =
     let n0 = hashes_count i.0 in
     let m = length_push (hashes_of i.0) c.in-Some-next_item-3.field-0 in
     inr (
-      (items_of i.0, omega (arith, n1, i.3, e), inl (omega arith, (_, (_, i.1, c.in-None-next_item-2.ensures.steps)))),
+      (items_of i.0, omega (arith, n1, i.3, e), inl (omega arith, (_, (_, i.1, c.in-None.ensures.steps)))),
       ((hashes_of i.0 ++ c.in-Some-next_item-3.field-0 ∷ [], omega (arith, m, n0, i.3, e), inr (refl, (_, yields_more g.J.Iterator.next_gives _ _ _ (hashes_of i.0) _ i.2 c.in-Some-next_item-3.ensures.steps))), λ z. omega (arith, z)),
     )
