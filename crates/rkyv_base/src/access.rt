@@ -5,8 +5,8 @@
 //! - `access_mut_with` validates them and calls a closure with the bytes and the root's position.
 //! - `access_unchecked` requires valid bytes and validates nothing.
 //!
-//! The functions whose names end in `_in` take the width of the archive.
-//! The others are for narrow archives.
+//! The functions whose names end in `_in` take the width of the archive. `access_unchecked` is
+//! for both widths, and the others are for narrow archives.
 
 ghost use Rattle.std.specs.Prelude.{◌-◌, length, IfOk, IsOk, MatchResult};
 ghost use Rattle.rkyv_base.specs.{AccessFails, AccessWrites, ArchiveAt, IsAt, IsValidArchive};

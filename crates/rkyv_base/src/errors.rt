@@ -61,7 +61,7 @@ pub enum WriteError<F> {
     /// The length of a text is the width's limit of texts, or more.
     #[error("text too long")]
     TextTooLong,
-    /// The writer failed. It may have written a front of the piece.
+    /// The writer failed. It may have written a prefix of the piece.
     #[error("writer fault")]
     Writer(F),
     /// Memory could not be allocated for the write.
@@ -130,7 +130,7 @@ pub enum VerifyError {
     /// The fixed bytes at this position, or its text, are not a valid value of their type.
     #[error("invalid value at {pos}")]
     InvalidValue { pos: u64 },
-    /// The element rejects every value, for a reason of its type.
+    /// The element rejects the value, for a reason of its type.
     ///
     /// The number of an entry that is too large is 0.
     #[error("refused {0}")]

@@ -8,7 +8,7 @@
 //!
 //! An `Element` is a type of archived values. `Archive` and `Serialize` are the traits of types
 //! that are archived as an element. The calls that write or open an archive and end in `_in`
-//! take the width of the archive, and the others are for `Narrow`.
+//! take the width of the archive, and the others, but for `access_unchecked`, are for `Narrow`.
 //!
 //! The root re-exports the names that callers need. The function `access` stays in its module.
 #![tactic(auto)]

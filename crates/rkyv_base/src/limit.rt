@@ -13,7 +13,7 @@ use crate::writer::Writer;
 /// The fault of a writer with a limit.
 #[derive(Debug, Drop)]
 pub enum LimitFault<F> {
-    /// The piece doesn't fit in the rest of the limit. The front that fits was written.
+    /// The piece doesn't fit in the rest of the limit. The prefix that fits was written.
     Full,
     /// The inner writer failed.
     Inner(F),
@@ -113,7 +113,7 @@ impl<W: Writer> Writer for LimitWriter<W> {
         self.failures
     }
 
-    /// Passes the front of the piece that fits in the rest of the limit to the inner writer.
+    /// Passes the prefix of the piece that fits in the rest of the limit to the inner writer.
     ///
     /// An empty piece always fits. The inner writer is not called if the piece is not empty
     /// and nothing is left of the limit.
@@ -124,7 +124,7 @@ impl<W: Writer> Writer for LimitWriter<W> {
     ///
     /// # Errors
     ///
-    /// - `Inner`: the inner writer failed on the front.
+    /// - `Inner`: the inner writer failed on the prefix.
     /// - `Full`: the piece doesn't fit.
     fn write(&mut self, bytes: &[u8]) -> Result<(), LimitFault<W::Fault>>
         requires { end_of (limited W.output self.old) + length bytes.now < 2 ^ 64 }

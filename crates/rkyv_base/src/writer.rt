@@ -27,7 +27,7 @@ pub trait Writer {
     fn pos(&self) -> u64
         ensures { result ≡ end_of (output self.now) };
 
-    /// Returns the number of failed writes, at most 18,446,744,073,709,551,615.
+    /// Returns the number of failed writes. The count stays at 2^64 - 1.
     fn failures(&self) -> u64
         ensures { result ≡ (output self.now).failures };
 
@@ -41,7 +41,7 @@ pub trait Writer {
     ///
     /// - The fault of the writer.
     ///
-    /// On an error it appended some front of the piece, maybe all of it. It counts one more
+    /// On an error it appended some prefix of the piece, maybe all of it. It counts one more
     /// failure.
     fn write(&mut self, bytes: &[u8]) -> Result<(), Self::Fault>
         requires { end_of (output self.old) + length bytes.now < 2 ^ 64 }
@@ -147,7 +147,7 @@ impl Writer for VecWriter {
 /// # Errors
 ///
 /// - `PositionTooLarge`: the piece would end after the width's limit. Nothing is written.
-/// - `Writer`: the writer failed. It may have written a front of the piece.
+/// - `Writer`: the writer failed. It may have written a prefix of the piece.
 #[inline]
 pub fn append_in<W: Width, S: Writer>(serializer: &mut S, bytes: &[u8]) -> WriteResult<(), S>
     ensures { AppendsPiece W.LIMIT bytes.now
