@@ -1,6 +1,5 @@
 -- Writes of the value of the first pair of a list with an accepted key.
 use Rattle.std.proofs.Common.{◌≡◌, ℕ, suc, ◌<◌, ◌∙◌, ap, arith, inl, inr, ◌⊎◌, Bool, true, false, List, [], ◌∷◌, length, slice_get, slice_index, Option, None, Some, refl, subst, sym}
-use Rattle.std.specs.Borrow.{MutBor}
 use Rattle.std.specs.Int.{Width}
 use Rattle.std.specs.List.{find}
 use Rattle.std.specs.Option.{is_some, option_map}
@@ -11,7 +10,7 @@ use Rattle.std.proofs.lemmas.Option.{same_Some, slice_get_within}
 use Rattle.rkyv_base.specs.{ElementSpec, IsElement, ModifiesOnly, RepresentsLocally, StaysValid, ValidAt, Viewable, entry_spec, value_pos}
 use Rattle.rkyv_keys.specs.Lemmas.OfEntries.{valid_key}
 use Rattle.rkyv_table.specs.{WritesValue, home_positions, item_at}
-use Rattle.rkyv_collections.specs.{AgreesOnKeys, MapRepresents, WritesFound, map_spec, with_first}
+use Rattle.rkyv_collections.specs.{AgreesOnKeys, MapRepresents, map_spec, with_first}
 use Rattle.rkyv_keys.specs.{HashLocal, first_pair}
 use Rattle.rkyv_collections.proofs.ValueWrites.{written_value_represents}
 use Rattle.rkyv_collections.proofs.WrittenPairs.{pair_valid, pos_of_pair}
@@ -124,12 +123,3 @@ module _ (w : Width) (k v : ElementSpec) (kl : IsElement k) (vl : IsElement v) {
       let t = some_pos (value_pos k v) (find accept positions) pos found in
       first_written kn vn local c t.0 t.1 (record { sealed = subst (λ n. ModifiesOnly b n v.size c) t.2 sealed; keeps = subst (λ n. StaysValid v b c n) t.2 keeps })
       (subst (λ n. value c n new) t.2 represents)
-
--- the result of a writer that is called with the position of the found value
-pub found_written : {F R : Type 0} (post : F → MutBor (List ℕ) → ℕ → R → MutBor (List ℕ) → Type 0) (write : F) (x y : MutBor (List ℕ)) (r : R) (pos : ℕ) (key_pos : Option ℕ)
-    → Some pos ≡ key_pos → post write x pos r y → WritesFound post write x.now (Some r) y.now key_pos
-found_written post write x y r pos key_pos e h = subst (WritesFound post write x.now (Some r) y.now) e (r, refl, (x, y, refl, refl, h))
-
-pub nothing_written : {F R : Type 0} (post : F → MutBor (List ℕ) → ℕ → R → MutBor (List ℕ) → Type 0) (write : F) (b : List ℕ) (key_pos : Option ℕ)
-    → None ≡ key_pos → WritesFound post write b None b key_pos
-nothing_written {R = R} post write b key_pos e = subst (WritesFound {R = R} post write b None b) e (refl, refl)

@@ -59,8 +59,7 @@ unfoldable pub use Map.ListedWalks.{SetWalksVisitEach, WalksVisitEach, WalksVisi
 unfoldable pub use Map.ListedWalks.{key_positions_at}
 pub use Map.ListedWalks.{HasEachOnce}
 unfoldable pub use Map.BothHashers.{ComparedAlike, QueriedAlike, WrittenAlike, fx_found, fx_hash_at}
-unfoldable pub use Map.InPlace.{MayWriteFound, SetsFirst, SetsFound, SetsValue, WritesFound}
-unfoldable pub use Map.InPlace.{with_first}
+unfoldable pub use Map.InPlace.{SetsFirst, SetsFound, SetsValue, with_first}
 unfoldable pub use Map.ListArchives.{FoundAreListed, IsTextMapUnder, OpensTextMap, TextMapFails}
 unfoldable pub use Map.ListArchives.{TextMapRepresents, TextMapResult, TextPairs, first_of_text}
 unfoldable pub use Map.ListArchives.{map_root, text_found, text_map_format, text_map_spec}

@@ -48,3 +48,4 @@ pub mod Listing
 pub mod Through
 pub mod UnitItems
 pub mod NewItems
+pub mod FoundWrites

@@ -96,6 +96,7 @@ unfoldable pub use Table.SealedItems.{MaySealIn, MaySealNext, MayWriteAt, MayWri
 unfoldable pub use Table.SealedItems.{YieldsPosition, cursor_buckets_left, cursor_bytes, cursor_len}
 pub use Table.SealedItems.{IsItemAt, IsSealIter, LendsArchive, SameArchive, SealedBy, StaysThere}
 pub use Table.SealedItems.{StepsAndWrites, YieldsBucket}
+unfoldable pub use Table.FoundWrites.{MayWriteIn, WritesIn}
 unfoldable pub use Table.MisplacedIn.{ComparesAs, ComparesItems, CountsAllStrides, CountsMisplaced}
 unfoldable pub use Table.MisplacedIn.{CountsUpTo, HashesAs, MayCompare, ReadsUpTo, ReturnsMisplaced}
 unfoldable pub use Table.MisplacedIn.{apply_to_table, bucket_misplaced, bucket_strides, table_len}

@@ -28,4 +28,5 @@ pub mod Passing
 pub mod OneWay
 pub mod Bare
 pub mod SealedItems
+pub mod FoundWrites
 pub mod MisplacedIn

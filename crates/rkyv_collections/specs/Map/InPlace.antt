@@ -1,28 +1,12 @@
 -- Calls that write the value of a key over the bytes of an archive.
-use Rattle.std.specs.Prelude.{◌≡◌, ℕ, ◌+◌, ◌≤◌, Bool, List, [], ◌∷◌, MatchOption, None, Option}
-use Rattle.std.specs.Prelude.{Some, cond, false, length, true}
-use Rattle.std.specs.Borrow.{MutBor}
+use Rattle.std.specs.Prelude.{◌≡◌, ℕ, Bool, List, [], ◌∷◌, MatchOption, Option, cond, false, true}
 use Rattle.std.specs.Int.{Width}
 use Rattle.std.specs.Option.{is_some}
 use Rattle.rkyv_base.specs.{ElementSpec, Encoding, ScalarRepresents, with_value}
 use Rattle.rkyv_keys.specs.{KeyLookup, first_pair}
-use Rattle.rkyv_table.specs.{WrittenBy}
 use Rattle.rkyv_collections.specs.Map.MapAt.{FoundValueHasAt, MapAt, ValueQuery}
 use Rattle.rkyv_collections.specs.Map.MapFormat.{MapRepresents}
 use Rattle.rkyv_collections.specs.Map.ValueWrites.{KeepsMap}
-
--- the writer can be called with the archive and each position at which a value fits
-abbrev pub MayWriteFound : {F : Type 0} → ElementSpec → (F → MutBor (List ℕ) → ℕ → Type 0) → List ℕ
-    → F → Type 0
-MayWriteFound v pre archive write =
-    (b : MutBor (List ℕ)) (q : ℕ) → b.now ≡ archive → q + v.size ≤ length b.now → pre write b q
-
--- No value is found, and the archive is unchanged. Or the writer is called with the archive
--- and the position of the value
-abbrev pub WritesFound : {F R : Type 0} → (F → MutBor (List ℕ) → ℕ → R → MutBor (List ℕ) → Type 0)
-    → F → List ℕ → Option R → List ℕ → Option ℕ → Type 0
-WritesFound {F} {R} post write b result c key_pos = MatchOption key_pos ((result ≡ None) × (c ≡ b))
-    (λ q. (r : R) × (result ≡ Some r) × WrittenBy post write r b q c)
 
 -- the list with `value` in the first pair with an accepted key
 abbrev pub with_first : {A B : Type 0} → (A → Bool) → B → List (A × B) → List (A × B)

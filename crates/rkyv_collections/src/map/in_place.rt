@@ -20,8 +20,9 @@
 //! If the map is a value of another map, `map::laws::nested` has the laws of the outer map.
 ghost use Rattle.std.specs.Prelude.{IfSome, length, ℕ, ◌+◌, ◌≡◌, ◌≤◌};
 ghost use Rattle.rkyv_base.specs.{Viewable, value_pos};
-ghost use Rattle.rkyv_collections.specs.{FoundValueHasAt, IsKeyPosAt, MayWriteFound, SetsFirst};
-ghost use Rattle.rkyv_collections.specs.{SetsValue, WritesAmongParts, WritesFound, map_at};
+ghost use Rattle.rkyv_table.specs.{MayWriteIn, WritesIn};
+ghost use Rattle.rkyv_collections.specs.{FoundValueHasAt, IsKeyPosAt, SetsFirst};
+ghost use Rattle.rkyv_collections.specs.{SetsValue, WritesAmongParts, map_at};
 ghost use Rattle.rkyv_collections.specs.{map_bytes, map_pos, map_spec, query_of_value};
 ghost use Rattle.rkyv_keys.specs.{query_of};
 
@@ -104,10 +105,10 @@ impl<'a, K: KeyElement, V: Element, H: KeyHasher, W: Width> ArchivedHashMap<'a, 
     ) -> Option<R>
         requires map { Viewable (map_spec W.word K.spec V.spec) archive.old root }
         requires query { Q.can_read key.now }
-        requires callable { MayWriteFound V.spec F.pre archive.old write }
+        requires callable { MayWriteIn F.pre V.spec write archive.old }
         ensures { FoundValueHasAt (map_at W.Word K.HasSpec V.HasSpec archive.old root)
             (query_of H.hasher K.key_calls K.same (Q.calls key.now) (Q.fits key.now))
-            (WritesFound F.post write archive.old result archive.new) }
+            (WritesIn F.post write archive.old result archive.new) }
     {
         let pos = Self::value_pos_in(&*archive, root, key)?;
         Some(write(archive, pos))

@@ -1,5 +1,5 @@
 use Rattle.std.proofs.Common.{refl, rules}
-use Rattle.rkyv_collections.proofs.FirstWrites.{found_written, nothing_written}
+use Rattle.rkyv_table.proofs.FoundWrites.{unwritten_if_none, written_at_found}
 use Rattle.rkyv_collections.proofs.SealedMap.{satisfies_implied}
 use Rattle.rkyv_collections.proofs.map.ArchivedHashMap.found_with.Goals as goal
 
@@ -9,8 +9,8 @@ write-requires g c = c.requires.callable _ c.in_ok-pos.pos refl c.in_ok-pos.ensu
 pub returns : goal.returns
 returns g c =
     let met = c.write.ensures in
-    satisfies_implied _ _ _ _ (λ key_pos at. search (rules, found_written)) c.in_ok-pos.ensures.finds
+    satisfies_implied _ _ _ _ (λ key_pos at. search (rules, written_at_found)) c.in_ok-pos.ensures.finds
 
 pub returns-in_err-pos : goal.returns-in_err-pos
 returns-in_err-pos g c =
-    satisfies_implied _ _ _ _ (λ key_pos at. rw c.from_residual.ensures (nothing_written (goal.F-post g) c.args.write c.args.archive.now _ at)) c.in_err-pos.ensures.finds
+    satisfies_implied _ _ _ _ (λ key_pos at. rw c.from_residual.ensures (unwritten_if_none (goal.F-post g) c.args.write c.args.archive.now _ at)) c.in_err-pos.ensures.finds
