@@ -8,7 +8,7 @@ use Rattle.rkyv_base.specs.declared.view.View.{View}
 use Rattle.rkyv_keys.specs.{IsFoundAt, KeyLookup}
 use Rattle.rkyv_index.specs.{FoundKeyHas, GetsBy, GetsKey, IsFullKeyIn, IsStored, IsStoredIndex}
 use Rattle.rkyv_index.specs.{MatchesAt, Part, full_index, full_key_index, full_key_part, full_part}
-use Rattle.rkyv_index.specs.{index_part, part_at}
+use Rattle.rkyv_index.specs.{index_of, index_part, part_at}
 use Rattle.rkyv_index.specs.declared.map.ArchivedIndexMap.{ArchivedIndexMap}
 
 -- `is_found` is `true` if and only if an index is found
@@ -59,7 +59,7 @@ module _ {K V H W : Type 0} {ks : Specs K} {vs : Specs V} {wt : Words W} where
       by_as_part got at = by_as (part_at Related) got (part_is_stored m found result got.walked at) at
 
   -- the clauses on a found index are clauses on `is_found`
-  pub contains_as_found : {m : ArchivedIndexMap K V H W ks vs wt} {a : KeyLookup} {found : Option ℕ} {is_found : Bool} → GetsKey index_part m a found → is_found ≡ is_some found → FoundKeyHas m a (IsFoundAt is_found)
+  pub contains_as_found : {m : ArchivedIndexMap K V H W ks vs wt} {a : KeyLookup} {found : Option ℕ} {is_found : Bool} → GetsKey index_part m a found → is_found ≡ is_some found → FoundKeyHas (index_of m) a (IsFoundAt is_found)
   contains_as_found {found = found} {is_found = is_found} got is = record {
     finds = some_at found _ is_found is got.finds;
     first = λ homes written. some_at found _ is_found is (got.first homes written);

@@ -20,3 +20,5 @@ pub mod SealedIndex
 pub mod Headers
 pub mod FirstListed
 pub mod ListArchives
+pub mod FoundValues
+pub mod UppercaseTexts

@@ -53,6 +53,8 @@ pub use Map.Complete.{FitsAlone}
 unfoldable pub use Map.Lookups.{full_key_part, full_part, index_part, key_part, pair_part, part_at}
 unfoldable pub use Map.Lookups.{value_part}
 pub use Map.Lookups.{FoundKeyHas, GetsBy, GetsKey, Part}
+unfoldable pub use Map.InPlace.{FoundValueHas, UppercasesListed, index_over, index_to_texts_spec}
+unfoldable pub use Map.InPlace.{value_pos_of}
 unfoldable pub use Map.ListArchives.{FoundAreListed, index_root}
 pub use Map.ListArchives.{FindsInRoot}
 unfoldable pub use Map.ListedLookups.{AgreesOnKeys, IsFirst, LookupsFindListed}

@@ -9,6 +9,7 @@ pub mod Walking
 pub mod Equality
 pub mod Complete
 pub mod Lookups
+pub mod InPlace
 pub mod ListArchives
 pub mod ListedLookups
 pub mod Reading

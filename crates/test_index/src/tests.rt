@@ -22,6 +22,7 @@ mod equality;
 mod examples;
 mod forms;
 mod headers;
+mod in_place;
 mod interning;
 mod lookups;
 mod reading_back;

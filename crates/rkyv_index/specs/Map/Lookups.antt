@@ -5,12 +5,20 @@ use Rattle.std.specs.Prelude.{◌≡◌, ℕ, Bool, IfSome, List, Option}
 use Rattle.rkyv_base.specs.declared.view.View.{View}
 use Rattle.rkyv_keys.specs.{KeyLookup}
 use Rattle.rkyv_index.specs.Map.Complete.{FindsOneKey}
-use Rattle.rkyv_index.specs.Map.{FindsBy, FindsFirstBy, FindsFirstKey, FindsKey, IsAccepted}
+use Rattle.rkyv_index.specs.Map.{FindsBy, FindsFirstBy, FindsFirstKey, FindsKey, Index, IsAccepted}
 use Rattle.rkyv_index.specs.Map.{IsFullKeyIn, IsFullResult, IsKeyOf, IsStored, IsStoredIndex}
 use Rattle.rkyv_index.specs.Map.{IsPairOf}
 use Rattle.rkyv_index.specs.Map.{IsIndex, IsValueOf, MatchesAt, full_index, full_key_index}
 use Rattle.rkyv_index.specs.Map.{index_of}
 use Rattle.rkyv_index.specs.declared.map.ArchivedIndexMap.{ArchivedIndexMap}
+
+-- `P` is a property of the index that a lookup finds: in any map, in a written map,
+-- and if no key is misplaced
+pub record FoundKeyHas {K : Type 0} (m : Index K) (a : KeyLookup) (P : Option ℕ → Type 0) : Type 0
+  where
+    pub finds : FindsKey m a.hash a.fits P
+    pub first : FindsFirstKey m a.key_hash a.fits P
+    pub complete : FindsOneKey m a.key_hash a.same a.fits P
 
 -- What a lookup in `M` returns of the pair that it finds. `In m x`: `x` is of a pair of `m`
 -- whose index a full bucket has, `At m result index`: the result is of the pair at the index,
@@ -54,14 +62,6 @@ module _ {K V H W : Type 0} {ks : Specs K} {vs : Specs V} {wt : Words W} where
   -- the value
   abbrev pub value_part : Part (ArchivedIndexMap K V H W ks vs wt) (View V)
   value_part = part_at IsValueOf
-
-  module _ (m : ArchivedIndexMap K V H W ks vs wt) where
-    -- `P` is a property of the index that a lookup finds: in any map, in a written map,
-    -- and if no key is misplaced
-    pub record FoundKeyHas (a : KeyLookup) (P : Option ℕ → Type 0) : Type 0 where
-      pub finds : FindsKey (index_of m) a.hash a.fits P
-      pub first : FindsFirstKey (index_of m) a.key_hash a.fits P
-      pub complete : FindsOneKey (index_of m) a.key_hash a.same a.fits P
 
   module _ {X : Type 0} (part : Part (ArchivedIndexMap K V H W ks vs wt) X)
       (m : ArchivedIndexMap K V H W ks vs wt) where

@@ -5,28 +5,36 @@
 //! | To write | Call | Takes |
 //! |---|---|---|
 //! | a scalar | `set_value_at` | bytes, an index and the scalar |
+//! | an inline text in upper case | `make_ascii_uppercase_at` | bytes and an index |
+//! | a value of any type | `ArchivedIndexMap::found_with` | bytes, a query and a closure |
 //! | a value by its seal | `ArchivedIndexMap::get_seal` | a seal of the map and a query |
 //! | a value while its key is read | `ArchivedIndexMap::get_key_value_seal` | the same |
 //! | the same, with the index | `ArchivedIndexMap::get_full_seal` | the same |
 //!
-//! `get_index_of` returns the index of a key. The sealed lookups that end in `_with` take
-//! a comparison. `map::laws` has the laws of the map afterwards.
-ghost use Rattle.std.specs.Prelude.{length, ◌+◌, ◌<◌, ◌≡◌, ◌≤◌};
+//! Take the first call that fits. The contracts of `set_value_at` and `make_ascii_uppercase_at`
+//! also have the list that the map represents afterwards. The contract of `found_with` covers all
+//! bytes of the archive afterwards.
+//!
+//! `get_index_of` returns the index of a key. `make_ascii_uppercase_at` is in
+//! `map::in_place::text`. The sealed lookups that end in `_with` take a comparison. `map::laws`
+//! has the laws of the map afterwards.
+ghost use Rattle.std.specs.Prelude.{IfSome, length, ◌+◌, ◌<◌, ◌≡◌, ◌≤◌};
 ghost use Rattle.rkyv_base.specs.{ScalarRepresents, Viewable, entry_spec, value_pos, with_value};
-ghost use Rattle.rkyv_keys.specs.{hash_at};
-ghost use Rattle.rkyv_table.specs.{len_at};
-ghost use Rattle.rkyv_index.specs.{IndexRepresents, KeepsIndexMap, SetsValue, index_kind};
-ghost use Rattle.rkyv_index.specs.{index_spec, pair_at};
+ghost use Rattle.rkyv_keys.specs.{hash_at, query_of};
+ghost use Rattle.rkyv_table.specs.{MayWriteIn, WritesIn, len_at};
+ghost use Rattle.rkyv_index.specs.{FoundValueHas, IndexRepresents, KeepsIndexMap, SetsValue};
+ghost use Rattle.rkyv_index.specs.{index_kind, index_over, index_spec, pair_at};
 
 mod sealed;
+pub mod text;
 
 use crate::map::ArchivedIndexMap;
 use rkyv_base::element::{Element, Represents};
 use rkyv_base::scalars::Scalar;
 use rkyv_base::seal::set_at;
-use rkyv_base::view::View;
+use rkyv_base::view::{View, found_pos};
 use rkyv_base::width::Width;
-use rkyv_keys::keys::KeyElement;
+use rkyv_keys::keys::{KeyElement, Query};
 use rkyv_scan::hash::KeyHasher;
 
 /// Returns the position of the value at `index`, in the map at `root` of an archive.
@@ -40,6 +48,64 @@ fn value_pos_at<K: Element, V: Element, H, W: Width>(archive: &[u8], root: u64, 
 {
     let map = ArchivedIndexMap::<K, V, H, W>::of(View::new(archive, root));
     map.entries().entry(index).value().pos()
+}
+
+impl<'a, K: KeyElement, V: Element, H: KeyHasher, W: Width> ArchivedIndexMap<'a, K, V, H, W> {
+    /// Returns the position of the value that a lookup finds, in the map at `root` of an archive.
+    #[inline]
+    fn value_pos_in<Q: Query<K>>(archive: &[u8], root: u64, key: &Q) -> Option<u64>
+        requires map { Viewable (index_spec W.word (entry_spec K.spec V.spec)) archive.now root }
+        requires query { Q.can_read key.now }
+        ensures inside { IfSome result (λ pos. pos + V.spec.size ≤ length archive.now) }
+        ensures finds { FoundValueHas (index_over W.Word K.HasSpec V.HasSpec archive.now root)
+            (query_of H.hasher K.key_calls K.same (Q.calls key.now) (Q.fits key.now))
+            (λ pos. result ≡ pos) }
+    {
+        let map = ArchivedIndexMap::<K, V, H, W>::of(View::new(archive, root));
+        found_pos(map.get(key))
+    }
+
+    /// Calls `write` with the archive and the position of the value that a lookup finds.
+    ///
+    /// The map is at `root` of the archive. The result is that of `write`. If no key is found,
+    /// the result is `None`, and nothing is written.
+    ///
+    /// In an untrusted archive, the lookup may read every group of control bytes once.
+    ///
+    /// # Requires
+    ///
+    /// - The archive has a valid index map at `root`.
+    /// - The query can be read.
+    /// - `write` can be called with the archive and each position at which a value fits.
+    ///
+    /// # Examples
+    ///
+    /// ```rust
+    /// let root = access_in::<W, IndexMapOf<K, N, H, W>>(&*bytes)?.pos();
+    /// Ok(ArchivedIndexMap::<K, N, H, W>::found_with(
+    ///     bytes,
+    ///     root,
+    ///     key,
+    ///     |archive: &mut [u8], pos: u64| change(archive, pos, byte),
+    /// ))
+    /// ```
+    #[inline]
+    pub fn found_with<Q: Query<K>, R, F: FnOnce(&mut [u8], u64) -> R>(
+        archive: &mut [u8],
+        root: u64,
+        key: &Q,
+        write: F,
+    ) -> Option<R>
+        requires map { Viewable (index_spec W.word (entry_spec K.spec V.spec)) archive.old root }
+        requires query { Q.can_read key.now }
+        requires callable { MayWriteIn F.pre V.spec write archive.old }
+        ensures { FoundValueHas (index_over W.Word K.HasSpec V.HasSpec archive.old root)
+            (query_of H.hasher K.key_calls K.same (Q.calls key.now) (Q.fits key.now))
+            (WritesIn F.post write archive.old result archive.new) }
+    {
+        let pos = Self::value_pos_in(&*archive, root, key)?;
+        Some(write(archive, pos))
+    }
 }
 
 /// Writes the value at `index` of the map at `root` of an archive.

@@ -11,7 +11,7 @@ ghost use Rattle.rkyv_base.specs.{IsAt, IsValidView, archive_of, entry_spec, pos
 ghost use Rattle.rkyv_table.specs.{AllValid};
 ghost use Rattle.rkyv_index.specs.{FoundKeyHas, GetsKey, IsKeyOf, IsMemberAt, IsStoredIndex};
 ghost use Rattle.rkyv_index.specs.{full_key_part, index_archive, index_cap, index_len, index_part};
-ghost use Rattle.rkyv_index.specs.{index_set_spec, key_part, key_positions, keys_of};
+ghost use Rattle.rkyv_index.specs.{index_of_set, index_set_spec, key_part, key_positions, keys_of};
 ghost use Rattle.rkyv_keys.specs.{IsFoundAt, query_of};
 
 use crate::map::read::iter::Keys;
@@ -232,7 +232,7 @@ impl<'a, K: KeyElement, H: KeyHasher, W: Width> ArchivedIndexSet<'a, K, H, W> {
     #[inline]
     pub fn contains<Q: Query<K>>(self, key: &Q) -> bool
         requires query { Q.can_read key.now }
-        ensures { FoundKeyHas (keys_of self.entry)
+        ensures { FoundKeyHas (index_of_set self.entry)
             (query_of H.hasher K.key_calls K.same (Q.calls key.now) (Q.fits key.now))
             (IsFoundAt result) }
     {

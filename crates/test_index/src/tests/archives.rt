@@ -77,3 +77,32 @@ pub(crate) fn map_in_a_map() -> [u8; 120] {
     bytes[108..117].copy_from_slice(&[1, 0, 0, 0, 2, 0, 0, 0, 0xe0]);
     bytes
 }
+
+// Returns the map of 1 to "hello", inline, and of 1 to "wonderful", out of line: indices from 0 on,
+// controls from 12 on, the text at 43, entries of 12 bytes from 52 on, the header at 76.
+pub(crate) fn two_texts() -> [u8; 92] {
+    let mut bytes = [0xff; 92];
+    bytes[..12].copy_from_slice(&[0, 0, 0, 0, 1, 0, 0, 0, 0, 0, 0, 0]);
+    bytes[12..18].copy_from_slice(&[0x28, 0x28, 0xff, 0x28, 0x28, 0xff]);
+    bytes[43..52].copy_from_slice(b"wonderful");
+    bytes[52..64].copy_from_slice(b"\x01\0\0\0hello\xff\xff\xff");
+    bytes[64..77].copy_from_slice(&[1, 0, 0, 0, 0x89, 0, 0, 0, 0xe7, 0xff, 0xff, 0xff, 0xc0]);
+    bytes[80..89].copy_from_slice(&[2, 0, 0, 0, 3, 0, 0, 0, 0xdc]);
+    bytes
+}
+
+// Returns the wide map of 1 to "hello", inline, and of 1 to "seventeen letters", out of line:
+// indices from 0 on, controls from 24 on, the text at 55, entries of 24 bytes from 72 on,
+// the header at 120.
+pub(crate) fn wide_texts() -> [u8; 152] {
+    let mut bytes = [0xff; 152];
+    bytes[..24].copy_from_slice(&[0; 24]);
+    bytes[8] = 1;
+    bytes[24..30].copy_from_slice(&[0x28, 0x28, 0xff, 0x28, 0x28, 0xff]);
+    bytes[55..72].copy_from_slice(b"seventeen letters");
+    bytes[72..85].copy_from_slice(b"\x01\0\0\0\0\0\0\0hello");
+    bytes[96..113].copy_from_slice(&[1, 0, 0, 0, 0, 0, 0, 0, 0x91, 0, 0, 0, 0, 0, 0, 0, 0xcf]);
+    bytes[120] = 0xa0;
+    bytes[128..145].copy_from_slice(&[2, 0, 0, 0, 0, 0, 0, 0, 3, 0, 0, 0, 0, 0, 0, 0, 0xb8]);
+    bytes
+}

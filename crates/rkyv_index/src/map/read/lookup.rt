@@ -377,7 +377,7 @@ impl<'a, K: KeyElement, V: Element, H: KeyHasher, W: Width> ArchivedIndexMap<'a,
     #[inline]
     pub fn contains_key<Q: Query<K>>(self, key: &Q) -> bool
         requires query { Q.can_read key.now }
-        ensures { FoundKeyHas self.entry
+        ensures { FoundKeyHas (index_of self.entry)
             (query_of H.hasher K.key_calls K.same (Q.calls key.now) (Q.fits key.now))
             (IsFoundAt result) }
     {

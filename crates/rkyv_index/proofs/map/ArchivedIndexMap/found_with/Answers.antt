@@ -1,0 +1,16 @@
+use Rattle.std.proofs.Common.{refl, rules}
+use Rattle.rkyv_table.proofs.FoundWrites.{unwritten_if_none, written_at_found}
+use Rattle.rkyv_index.proofs.FoundValues.{found_implied}
+use Rattle.rkyv_index.proofs.map.ArchivedIndexMap.found_with.Goals as goal
+
+pub write-requires : goal.write-requires
+write-requires g c = c.requires.callable _ c.in_ok-pos.pos refl c.in_ok-pos.ensures.inside
+
+pub returns : goal.returns
+returns g c =
+    let met = c.write.ensures in
+    found_implied _ _ _ _ (λ index at. search (rules, written_at_found)) c.in_ok-pos.ensures.finds
+
+pub returns-in_err-pos : goal.returns-in_err-pos
+returns-in_err-pos g c =
+    found_implied _ _ _ _ (λ index at. rw c.from_residual.ensures (unwritten_if_none (goal.F-post g) c.args.write c.args.archive.now _ at)) c.in_err-pos.ensures.finds

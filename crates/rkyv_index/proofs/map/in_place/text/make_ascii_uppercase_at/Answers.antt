@@ -1,0 +1,30 @@
+use Rattle.std.proofs.Common.{subst}
+use Rattle.rkyv_base.specs.{Uppercases, text_spec}
+use Rattle.rkyv_base.specs.Lemmas.Text.{text_element}
+use Rattle.rkyv_keys.specs.{hash_at}
+use Rattle.rkyv_keys.specs.Lemmas.QueryLaws.{hash_local}
+use Rattle.rkyv_index.proofs.UppercaseTexts.{text_written, uppercased_listed}
+use Rattle.rkyv_index.proofs.ValueWrites.{index_kept}
+use Rattle.rkyv_index.proofs.map.in_place.text.make_ascii_uppercase_at.Goals as goal
+
+pub returns-clause-uppercases : goal.returns-clause-uppercases
+returns-clause-uppercases g c =
+    subst (λ q. Uppercases g.W.Word.word c.args.archive.now q c.uppercase_at.new.bytes c.uppercase_at.result) c.value_pos_at-pos.ensures.at c.uppercase_at.ensures
+
+pub returns-clause-kept : goal.returns-clause-kept
+returns-clause-kept g c =
+    let w = g.W.Word.word in
+    let k = g.K.HasSpec.spec in
+    let kind = g.met.W.Width.layout.kind in
+    let at = c.value_pos_at-pos.ensures.at in
+    index_kept w kind k (text_spec w) g.K.HasSpec.laws (text_element w kind) c.args.archive.now c.args.root c.requires.map c.uppercase_at.new.bytes c.args.index c.requires.below
+    (text_written w k c.args.archive.now c.args.root c.uppercase_at.new.bytes c.args.index _ _ at c.value_pos_at-pos.ensures.inside c.uppercase_at.ensures)
+    (hash_at g.H.KeyHasher.hasher g.K.KeyElement.key_calls) (hash_local g.H.KeyHasher.hasher g.met.K.KeyElement.key)
+
+pub returns-clause-listed : goal.returns-clause-listed
+returns-clause-listed g c = λ factor pairs pair text st there upper.
+    let w = g.W.Word.word in
+    let kind = g.met.W.Width.layout.kind in
+    uppercased_listed w kind g.K.HasSpec.spec g.K.HasSpec.laws (text_element w kind) c.args.archive.now c.args.root c.requires.map c.uppercase_at.new.bytes c.args.index c.requires.below
+    g.K.Represents.represents (hash_at g.H.KeyHasher.hasher g.K.KeyElement.key_calls) (hash_local g.H.KeyHasher.hasher g.met.K.KeyElement.key) g.met.K.Represents.local factor pairs pair text
+    _ _ c.value_pos_at-pos.ensures.at c.value_pos_at-pos.ensures.inside c.uppercase_at.ensures st there upper

@@ -1,0 +1,69 @@
+//! Writing the inline text at an index in place.
+//!
+//! `map::in_place` has a table of all calls that write values.
+ghost use Rattle.std.specs.Prelude.{length, ◌+◌, ◌<◌, ◌≤◌};
+ghost use Rattle.rkyv_base.specs.{IsTextOf, Uppercases, Viewable, text_size, text_spec, value_pos};
+ghost use Rattle.rkyv_keys.specs.{hash_at};
+ghost use Rattle.rkyv_table.specs.{len_at};
+ghost use Rattle.rkyv_index.specs.{IndexRepresents, KeepsIndexMap, UppercasesListed, index_kind};
+ghost use Rattle.rkyv_index.specs.{index_to_texts_spec, pair_at};
+
+use crate::map::in_place::value_pos_at;
+use rkyv_base::element::Represents;
+use rkyv_base::seal::Seal;
+use rkyv_base::text::Text;
+use rkyv_base::width::Width;
+use rkyv_keys::keys::KeyElement;
+use rkyv_scan::hash::KeyHasher;
+
+/// Writes the inline text at a position in upper case, and returns `true` if it is inline.
+#[inline]
+fn uppercase_at<W: Width>(bytes: &mut [u8], pos: usize) -> bool
+    requires { pos + text_size W.word ≤ length bytes.old }
+    ensures { Uppercases W.word bytes.old pos bytes.new result }
+{
+    let mut seal = Seal::<Text<W>>::over(bytes, pos);
+    let is_inline = seal.make_ascii_uppercase();
+    drop(seal);
+    is_inline
+}
+
+/// Writes each letter from a to z of the text at `index` in upper case, if the text is inline.
+///
+/// The map is at `root` of the archive. Returns `true` if the text is inline. Otherwise nothing
+/// is written. All other bytes are unchanged. `get_index_of` returns the index of a key.
+///
+/// If the map represents a list of pairs with keys of type `A`, it then represents the list
+/// with the text at the index in upper case if the result is `true`.
+///
+/// # Requires
+///
+/// - The archive has a valid index map to texts at `root`.
+/// - `index` is below the length of the map.
+///
+/// # Examples
+///
+/// ```rust
+/// let is_inline = make_ascii_uppercase_at::<A, K, H, W>(bytes, root, index);
+/// Ok(Some(is_inline))
+/// ```
+pub fn make_ascii_uppercase_at<A, K: KeyElement + Represents<A>, H: KeyHasher, W: Width>(
+    archive: &mut [u8],
+    root: u64,
+    index: usize,
+) -> bool
+    requires map { Viewable (index_to_texts_spec W.word K.spec) archive.old root }
+    requires below { index < len_at W.word archive.old root }
+    ensures uppercases { Uppercases W.word archive.old (value_pos K.spec (text_spec W.word)
+        (pair_at W.word K.spec (text_spec W.word) archive.old root index)) archive.new result }
+    ensures kept { KeepsIndexMap
+        (index_kind W.word K.spec (text_spec W.word) (hash_at H.hasher K.key_calls))
+        archive.old archive.new root index }
+    ensures listed { UppercasesListed
+        (IndexRepresents W.word K.spec (text_spec W.word) K.represents
+        (IsTextOf W.word (λ text. text.now)) (hash_at H.hasher K.key_calls))
+        archive.old archive.new root index result }
+{
+    let pos = value_pos_at::<K, Text<W>, H, W>(&*archive, root, index);
+    uppercase_at::<W>(archive, pos as usize)
+}

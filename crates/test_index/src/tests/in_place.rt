@@ -1,0 +1,132 @@
+//! Tests of values of index maps that are written over the plain bytes: by a closure, and texts.
+ghost use Rattle.std.specs.Prelude.{◌≡◌};
+ghost use Rattle.rkyv_base.specs.{Viewable, entry_spec};
+ghost use Rattle.rkyv_table.specs.{len_at};
+ghost use Rattle.rkyv_index.specs.{index_spec};
+
+use crate::tests::archives::{two_texts, wide_pair, wide_texts};
+use rkyv_base::access::access_in;
+use rkyv_base::element::{Element, Represents};
+use rkyv_base::errors::VerifyError;
+use rkyv_base::scalars::Scalar;
+use rkyv_base::text::Text;
+use rkyv_base::view::View;
+use rkyv_base::width::{Narrow, Wide, Width};
+use rkyv_index::map::in_place::text::make_ascii_uppercase_at;
+use rkyv_index::{ArchivedIndexMap, IndexMapOf};
+use rkyv_keys::keys::{KeyElement, Query};
+use rkyv_scan::hash::{FxHasher64, KeyHasher};
+use test_support::archives::four_entries;
+
+// Writes `byte` at `pos`, if the archive has this position. Returns `pos`.
+fn change(archive: &mut [u8], pos: u64, byte: u8) -> u64 {
+    match archive.get_mut(pos as usize) {
+        Some(old) => *old = byte,
+        None => {}
+    }
+    pos
+}
+
+// Writes a byte over the value of a key. Returns the position of the value, if the key is found.
+fn change_found<K: KeyElement, N: Scalar, H: KeyHasher, W: Width, Q: Query<K>>(
+    bytes: &mut [u8],
+    key: &Q,
+    byte: u8,
+) -> Result<Option<u64>, VerifyError>
+    requires { Q.can_read key.now }
+{
+    let root = access_in::<W, IndexMapOf<K, N, H, W>>(&*bytes)?.pos();
+    Ok(ArchivedIndexMap::<K, N, H, W>::found_with(
+        bytes,
+        root,
+        key,
+        |archive: &mut [u8], pos: u64| change(archive, pos, byte),
+    ))
+}
+
+// Does the same in a map of `i8` to `i8`.
+fn change_small<W: Width>(bytes: &mut [u8], key: i8, byte: u8) -> Option<Option<u64>> {
+    change_found::<i8, i8, FxHasher64, W, i8>(bytes, &key, byte).ok()
+}
+
+#[test]
+fn a_found_value_is_written_over_the_bare_bytes(rt: HostRuntime) {
+    let mut bytes = four_entries();
+    let pos = change_small::<Narrow>(&mut bytes, 5, 60);
+    let mut expected = four_entries();
+    expected[56] = 60;
+    let mut wide = wide_pair();
+    let wide_pos = change_small::<Wide>(&mut wide, 1, 20);
+    let mut wide_expected = wide_pair();
+    wide_expected[48] = 20;
+    expect_eq!(rt;
+        (pos, bytes == expected, wide_pos, wide == wide_expected),
+        (Some(Some(56)), true, Some(Some(48)), true)
+    );
+}
+
+#[test]
+fn lookup_of_a_missing_key_changes_nothing(rt: HostRuntime) {
+    let mut bytes = four_entries();
+    let pos = change_small::<Narrow>(&mut bytes, 9, 60);
+    let mut wide = wide_pair();
+    let wide_pos = change_small::<Wide>(&mut wide, 9, 20);
+    expect_eq!(rt;
+        (pos, bytes == four_entries(), wide_pos, wide == wide_pair()),
+        (Some(None), true, Some(None), true)
+    );
+}
+
+// Returns the length of the map at `root`.
+fn len_of<K: Element, V: Element, H, W: Width>(bytes: &[u8], root: u64) -> usize
+    requires { Viewable (index_spec W.word (entry_spec K.spec V.spec)) bytes.now root }
+    ensures { result ≡ len_at W.word bytes.now root }
+{
+    ArchivedIndexMap::<K, V, H, W>::of(View::new(bytes, root)).len()
+}
+
+// Writes the text at an index in upper case. Returns the result of the call, or `None`
+// if the index is too large.
+fn uppercase<A, K: KeyElement + Represents<A>, H: KeyHasher, W: Width>(
+    bytes: &mut [u8],
+    index: usize,
+) -> Result<Option<bool>, VerifyError> {
+    let root = access_in::<W, IndexMapOf<K, Text<W>, H, W>>(&*bytes)?.pos();
+    if index < len_of::<K, Text<W>, H, W>(&*bytes, root) {
+        let is_inline = make_ascii_uppercase_at::<A, K, H, W>(bytes, root, index);
+        Ok(Some(is_inline))
+    } else {
+        Ok(None)
+    }
+}
+
+// Does the same in a map of `i8` to texts.
+fn uppercase_small<W: Width>(bytes: &mut [u8], index: usize) -> Option<Option<bool>> {
+    uppercase::<i8, i8, FxHasher64, W>(bytes, index).ok()
+}
+
+// Writes the texts at the first three indices in upper case. Returns the results.
+fn uppercase_three<W: Width>(bytes: &mut [u8]) -> [Option<Option<bool>>; 3] {
+    [
+        uppercase_small::<W>(bytes, 0),
+        uppercase_small::<W>(bytes, 1),
+        uppercase_small::<W>(bytes, 2),
+    ]
+}
+
+#[test]
+fn an_inline_text_is_uppercased_by_its_index(rt: HostRuntime) {
+    let mut bytes = two_texts();
+    let uppercased = uppercase_three::<Narrow>(&mut bytes);
+    let mut expected = two_texts();
+    expected[56..61].copy_from_slice(b"HELLO");
+    let mut wide = wide_texts();
+    let wide_uppercased = uppercase_three::<Wide>(&mut wide);
+    let mut wide_expected = wide_texts();
+    wide_expected[80..85].copy_from_slice(b"HELLO");
+    let results = [Some(Some(true)), Some(Some(false)), Some(None)];
+    expect_eq!(rt;
+        (uppercased, bytes == expected, wide_uppercased, wide == wide_expected),
+        (results, true, results, true)
+    );
+}
