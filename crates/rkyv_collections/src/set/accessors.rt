@@ -126,7 +126,11 @@ impl<'a, K: Element, H, W: Width> IntoIterator for ArchivedHashSet<'a, K, H, W> 
         × (keys.positions ≡ member_positions set) × (length keys.positions ≡ set_len set) };
 
     #[inline]
-    fn into_iter(self) -> Keys<'a, K, (), H, W> {
+    fn into_iter(self) -> Keys<'a, K, (), H, W>
+        ensures archive { result.archive ≡ set_archive self.entry }
+        ensures positions { result.positions ≡ member_positions self.entry }
+        ensures count { length result.positions ≡ set_len self.entry }
+    {
         self.iter()
     }
 }
@@ -141,7 +145,11 @@ impl<'a, K: Element, H, W: Width> IntoIterator for &ArchivedHashSet<'a, K, H, W>
         × (keys.positions ≡ member_positions set.now) × (length keys.positions ≡ set_len set.now) };
 
     #[inline]
-    fn into_iter(self) -> Keys<'a, K, (), H, W> {
+    fn into_iter(self) -> Keys<'a, K, (), H, W>
+        ensures archive { result.archive ≡ set_archive self.entry.now }
+        ensures positions { result.positions ≡ member_positions self.entry.now }
+        ensures count { length result.positions ≡ set_len self.entry.now }
+    {
         self.iter()
     }
 }

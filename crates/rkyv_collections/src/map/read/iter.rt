@@ -44,7 +44,9 @@ impl<'a, K: Element, V: Element, H, W> Iterator for Iter<'a, K, V, H, W> {
     ghost remaining = { λ left. at_most (length left.positions) };
 
     #[inline]
-    fn next(&mut self) -> Option<PairView<'a, K, V>> {
+    fn next(&mut self) -> Option<PairView<'a, K, V>>
+        ensures { YieldsPair K.spec V.spec self.old result self.new }
+    {
         let entry = self.entries.next_view()?;
         Some((entry.key(), entry.value()))
     }
@@ -59,7 +61,9 @@ impl<'a, K: Element, V: Element, H, W> Iterator for Iter<'a, K, V, H, W> {
 
 impl<'a, K: Element, V: Element, H, W> ExactSizeIterator for Iter<'a, K, V, H, W> {
     #[inline]
-    fn len(&self) -> usize {
+    fn len(&self) -> usize
+        ensures { result ≡ length self.now.positions }
+    {
         self.entries.len()
     }
 }
@@ -86,7 +90,9 @@ impl<'a, K: Element, V: Element, H, W> Iterator for Keys<'a, K, V, H, W> {
     ghost remaining = { λ left. at_most (length left.positions) };
 
     #[inline]
-    fn next(&mut self) -> Option<View<'a, K>> {
+    fn next(&mut self) -> Option<View<'a, K>>
+        ensures { YieldsKey K.spec self.old result self.new }
+    {
         let (key, _) = self.pairs.next()?;
         Some(key)
     }
@@ -101,7 +107,9 @@ impl<'a, K: Element, V: Element, H, W> Iterator for Keys<'a, K, V, H, W> {
 
 impl<'a, K: Element, V: Element, H, W> ExactSizeIterator for Keys<'a, K, V, H, W> {
     #[inline]
-    fn len(&self) -> usize {
+    fn len(&self) -> usize
+        ensures { result ≡ length self.now.positions }
+    {
         self.pairs.len()
     }
 }
@@ -128,7 +136,9 @@ impl<'a, K: Element, V: Element, H, W> Iterator for Values<'a, K, V, H, W> {
     ghost remaining = { λ left. at_most (length left.positions) };
 
     #[inline]
-    fn next(&mut self) -> Option<View<'a, V>> {
+    fn next(&mut self) -> Option<View<'a, V>>
+        ensures { YieldsValue K.spec V.spec self.old result self.new }
+    {
         let (_, value) = self.pairs.next()?;
         Some(value)
     }
@@ -143,7 +153,9 @@ impl<'a, K: Element, V: Element, H, W> Iterator for Values<'a, K, V, H, W> {
 
 impl<'a, K: Element, V: Element, H, W> ExactSizeIterator for Values<'a, K, V, H, W> {
     #[inline]
-    fn len(&self) -> usize {
+    fn len(&self) -> usize
+        ensures { result ≡ length self.now.positions }
+    {
         self.pairs.len()
     }
 }
@@ -210,7 +222,11 @@ impl<'a, K: Element, V: Element, H, W: Width> IntoIterator for ArchivedHashMap<'
         × (pairs.positions ≡ key_positions map) × (length pairs.positions ≡ map_len map) };
 
     #[inline]
-    fn into_iter(self) -> Iter<'a, K, V, H, W> {
+    fn into_iter(self) -> Iter<'a, K, V, H, W>
+        ensures archive { result.archive ≡ map_archive self.entry }
+        ensures positions { result.positions ≡ key_positions self.entry }
+        ensures count { length result.positions ≡ map_len self.entry }
+    {
         self.iter()
     }
 }
@@ -225,7 +241,11 @@ impl<'a, K: Element, V: Element, H, W: Width> IntoIterator for &ArchivedHashMap<
         × (pairs.positions ≡ key_positions map.now) × (length pairs.positions ≡ map_len map.now) };
 
     #[inline]
-    fn into_iter(self) -> Iter<'a, K, V, H, W> {
+    fn into_iter(self) -> Iter<'a, K, V, H, W>
+        ensures archive { result.archive ≡ map_archive self.entry.now }
+        ensures positions { result.positions ≡ key_positions self.entry.now }
+        ensures count { length result.positions ≡ map_len self.entry.now }
+    {
         self.iter()
     }
 }
