@@ -47,6 +47,10 @@ module _ (w : Width) (k v : ElementSpec) (kl : IsElement k) (vl : IsElement v) (
   value_inside None h = tt
   value_inside (Some q) h = subst (λ n. n + v.size ≤ length b) (sym h.2) (pair_pos h.0 h.1).value.inside
 
+  pub value_viewable : (pos : Option ℕ) → IfSome pos (λ q. (key : ℕ) × IsKeyPosAt w k v b p key × (q ≡ value_pos k v key)) → IfSome pos (λ q. Viewable v b q)
+  value_viewable None h = tt
+  value_viewable (Some q) h = subst (λ n. Viewable v b n) (sym h.2) (pair_pos h.0 h.1).value
+
 -- a property of a found value, by its position
 found_pos_satisfies : {E : Type 0} (P : View E → Type 0) (Q : ℕ → Type 0) → ((x : View E) → P x → Q (pos_of x)) → (result : Option (View E)) (pos : Option ℕ) → IsViewAt result pos → IfSome result P → IfSome pos Q
 found_pos_satisfies P Q implies None pos at h = subst (λ (o : Option ℕ). IfSome o Q) at tt

@@ -5,7 +5,7 @@ use Rattle.std.proofs.Common.{◌≡◌, ℕ, ◌+◌, ◌≤◌, ◌∙◌, Non
 use Rattle.std.specs.Borrow.{Bor}
 use Rattle.std.specs.Option.{option_map}
 use Rattle.std.specs.Prelude.{IfSome}
-use Rattle.rkyv_base.specs.{pos_of, pos_of_found, value_offset}
+use Rattle.rkyv_base.specs.{Viewable, pos_of, pos_of_found, value_offset}
 use Rattle.rkyv_base.specs.declared.view.View.{View}
 use Rattle.rkyv_keys.specs.{KeyLookup}
 use Rattle.rkyv_index.specs.{FindsOneKey, FoundKeyHas, FoundValueHas, GetsKey, Index, IsStored, IsValueOf, MatchesAt, index_at, index_bytes, index_over, index_pos, key_pos, pair_at, value_part, value_pos_of}
@@ -38,6 +38,14 @@ module _ {K V H W : Type 0} {ks : Specs K} {vs : Specs V} {wt : Words W} (m : Ar
       let is = walked.2 in
       let same : length x.archive.now ≡ length b = ap (λ (a : Bor (List ℕ)). length a.now) is.at.0 ∙ ap length bytes in
       subst (λ o. IfSome o (λ q. q + vs.spec.size ≤ length b)) (sym e) (subst (λ n. pos_of x + vs.spec.size ≤ n) same is.viewable.inside)
+
+  -- a found value is valid
+  pub value_viewable : (r : Option (View V)) (found : Option ℕ) → found ≡ pos_of_found r → IfSome r (λ x. (i : ℕ) × IsStored m i × IsValueOf m i x) → IfSome found (λ q. Viewable vs.spec b q)
+  value_viewable None found e walked = subst (λ o. IfSome o (λ q. Viewable vs.spec b q)) (sym e) tt
+  value_viewable (Some x) found e walked =
+      let is = walked.2 in
+      let same : x.archive.now ≡ b = ap (λ (a : Bor (List ℕ)). a.now) is.at.0 ∙ bytes in
+      subst (λ o. IfSome o (λ q. Viewable vs.spec b q)) (sym e) (subst (λ d. Viewable vs.spec d (pos_of x)) same is.viewable)
 
 -- a property that follows from another of each index
 pub found_implied : {K : Type 0} (m : Index K) (a : KeyLookup) (Fact Implied : Option ℕ → Type 0) → ((index : Option ℕ) → Fact index → Implied index) → FoundKeyHas m a Fact → FoundKeyHas m a Implied

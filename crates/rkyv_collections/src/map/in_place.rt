@@ -62,6 +62,7 @@ impl<'a, K: KeyElement, V: Element, H: KeyHasher, W: Width> ArchivedHashMap<'a, 
             × IsKeyPosAt W.word K.spec V.spec archive.now root key_pos
             × (pos ≡ value_pos K.spec V.spec key_pos)) }
         ensures inside { IfSome result (λ pos. pos + V.spec.size ≤ length archive.now) }
+        ensures viewable { IfSome result (λ pos. Viewable V.spec archive.now pos) }
         ensures finds { FoundValueHasAt (map_at W.Word K.HasSpec V.HasSpec archive.now root)
             (query_of H.hasher K.key_calls K.same (Q.calls key.now) (Q.fits key.now))
             (λ pos. result ≡ pos) }
@@ -80,7 +81,7 @@ impl<'a, K: KeyElement, V: Element, H: KeyHasher, W: Width> ArchivedHashMap<'a, 
     ///
     /// - The archive has a valid map at `root`.
     /// - The query can be read.
-    /// - `write` can be called with the archive and each position at which a value fits.
+    /// - `write` can be called with the archive and each position of a valid value.
     ///
     /// # Examples
     ///

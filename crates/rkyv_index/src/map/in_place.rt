@@ -57,6 +57,7 @@ impl<'a, K: KeyElement, V: Element, H: KeyHasher, W: Width> ArchivedIndexMap<'a,
         requires map { Viewable (index_spec W.word (entry_spec K.spec V.spec)) archive.now root }
         requires query { Q.can_read key.now }
         ensures inside { IfSome result (λ pos. pos + V.spec.size ≤ length archive.now) }
+        ensures viewable { IfSome result (λ pos. Viewable V.spec archive.now pos) }
         ensures finds { FoundValueHas (index_over W.Word K.HasSpec V.HasSpec archive.now root)
             (query_of H.hasher K.key_calls K.same (Q.calls key.now) (Q.fits key.now))
             (λ pos. result ≡ pos) }
@@ -76,7 +77,7 @@ impl<'a, K: KeyElement, V: Element, H: KeyHasher, W: Width> ArchivedIndexMap<'a,
     ///
     /// - The archive has a valid index map at `root`.
     /// - The query can be read.
-    /// - `write` can be called with the archive and each position at which a value fits.
+    /// - `write` can be called with the archive and each position of a valid value.
     ///
     /// # Examples
     ///
