@@ -203,8 +203,6 @@ impl<'a, K: KeyElement, V: Element, H: KeyHasher, W: Width> ArchivedHashMap<'a, 
     ///
     /// It looks up as `get_with` does.
     ///
-    /// The contract of `found_with` also covers the bytes of the archive afterwards.
-    ///
     /// # Requires
     ///
     /// - The archive has a valid map at the position of the seal.
