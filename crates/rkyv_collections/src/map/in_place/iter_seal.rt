@@ -7,7 +7,7 @@
 //! - `next_seal` returns a seal of the next value, and leaves the cursor afterwards unspecified.
 //!
 //! `map::in_place` has a table of all calls that write values.
-ghost use Rattle.std.specs.Prelude.{IfSome, IsSome, IsTrue, drop, length, take, ◌+◌, ◌↔◌, ◌≡◌, ◌≤◌};
+ghost use Rattle.std.specs.Prelude.{IfSome, IsSome, drop, length, take, ◌+◌, ◌≡◌, ◌≤◌};
 ghost use Rattle.rkyv_base.specs.{IsValidView, LiesIn, Viewable, archive_in, bytes_in, bytes_of};
 ghost use Rattle.rkyv_base.specs.{pos_in, pos_of, seal_pos, value_pos, with_value};
 ghost use Rattle.rkyv_table.specs.{CountsDown, LendsArchive, SameArchive, StaysThere, WrittenBy};
@@ -19,31 +19,17 @@ ghost use Rattle.rkyv_collections.specs.{YieldsKeyPos, YieldsValuePos, entries_i
 ghost use Rattle.rkyv_collections.specs.{map_spec};
 
 use crate::map::{ArchivedHashMap, HashMapOf};
-use rkyv_base::element::{Element, PartRange};
+use rkyv_base::element::Element;
 use rkyv_base::entry::{Entry, LARGEST, value_offset, whole_size};
 use rkyv_base::scalars::Scalar;
 use rkyv_base::seal::{ArchiveSeal, Seal};
 use rkyv_base::view::View;
 use rkyv_base::width::{Narrow, Width};
+use rkyv_keys::valid_at;
 use rkyv_scan::hash::FxHasher64;
 use rkyv_table::table::ArchivedHashTable;
 use rkyv_table::table::raw_iter_seal::RawIterSeal;
 use std::marker::PhantomData;
-
-/// Returns `true` if and only if the bytes have a valid value at `pos`.
-#[inline]
-fn is_valid_at<T: Element>(bytes: &[u8], pos: u64) -> bool
-    requires { pos + T.spec.size ≤ length bytes.now }
-    ensures { IsTrue result ↔ Viewable T.spec bytes.now pos }
-{
-    if pos % T::align() as u64 != 0 {
-        return false;
-    }
-    match T::check(bytes, pos, PartRange { lo: 0, hi: pos }) {
-        Ok(_) => true,
-        Err(_) => false,
-    }
-}
 
 /// Returns a view of the key at `pos` and a seal of the value behind it.
 ///
@@ -64,10 +50,8 @@ fn pair_at<K: Element, V: Element>(
 {
     let begin = pos as usize + value_offset::<K, V>();
     let (front, back) = archive.split_at_mut(begin);
-    if !is_valid_at::<K>(&*front, pos) {
-        return None;
-    }
-    Some((View::new(front, pos), Seal::over(back, 0)))
+    let key = valid_at::<K>(front, pos)?;
+    Some((key, Seal::over(back, 0)))
 }
 
 /// Returns the position of the value behind the key at `pos`.
