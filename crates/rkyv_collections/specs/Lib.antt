@@ -71,7 +71,8 @@ unfoldable pub use Map.InPlaceText.{UppercasesFirst, UppercasesFound, Uppercases
 unfoldable pub use Map.InPlaceText.{list_after_uppercase, map_to_texts_at, map_to_texts_spec}
 unfoldable pub use Map.InPlaceText.{uppercase_text, with_first_uppercase}
 unfoldable pub use Set.{FoundMemberHas, GetsMember, IsSetAt, member_positions, set_archive}
-unfoldable pub use Set.{set_bytes, set_equal, set_len, set_misplaced, set_pos, set_spec, set_view}
+unfoldable pub use Set.{set_bytes, set_cap, set_equal, set_len, set_misplaced, set_pos, set_spec}
+unfoldable pub use Set.{set_view}
 unfoldable pub use Set.ListArchives.{MembersFoundAreListed, set_root}
 unfoldable pub use Set.SetFormat.{SetRepresents, WrittenSetsRepresent, set_format}
 unfoldable pub use Listed.{map_list, map_list_format, pairs_under, set_list, set_list_format}

@@ -12,7 +12,7 @@ use Rattle.rkyv_keys.specs.{Comparison, KeyLookup, unit_same}
 use Rattle.rkyv_collections.specs.Map.Equality.{map_equal}
 use Rattle.rkyv_collections.specs.Map.Lookups.{FoundKeyHas, GetsKey, key_part}
 use Rattle.rkyv_collections.specs.Map.{key_positions, map_archive, map_bytes}
-use Rattle.rkyv_collections.specs.Map.{map_len, map_pos}
+use Rattle.rkyv_collections.specs.Map.{map_cap, map_len, map_pos}
 use Rattle.rkyv_collections.specs.Map.MapSpec.{map_spec}
 use Rattle.rkyv_collections.specs.Map.{map_view}
 use Rattle.rkyv_collections.specs.Map.Misplaced.{map_misplaced}
@@ -47,6 +47,10 @@ module _ {K H W : Type 0} {ks : Specs K} {wt : Words W} where
   -- the number of keys
   abbrev pub set_len : ArchivedHashSet K H W ks wt → ℕ
   set_len s = map_len s.map
+
+  -- the number of buckets
+  abbrev pub set_cap : ArchivedHashSet K H W ks wt → ℕ
+  set_cap s = map_cap s.map
 
   -- the positions of the keys, in bucket order
   abbrev pub member_positions : ArchivedHashSet K H W ks wt → List ℕ

@@ -10,7 +10,7 @@ ghost use Rattle.std.specs.Prelude.{IsTrue, length, ◌↔◌, ◌≡◌};
 ghost use Rattle.rkyv_base.specs.{IsValidView, archive_of, pos_of, unit_spec};
 ghost use Rattle.rkyv_base.specs.Lemmas.Empty.{unit_element};
 ghost use Rattle.rkyv_collections.specs.{FoundMemberHas, GetsMember, IsSetAt, member_positions};
-ghost use Rattle.rkyv_collections.specs.{set_archive, set_len, set_spec};
+ghost use Rattle.rkyv_collections.specs.{set_archive, set_cap, set_len, set_spec};
 ghost use Rattle.rkyv_keys.specs.{IsFoundAt, query_of};
 ghost use Rattle.rkyv_collections.specs.Lemmas.MapElement.{map_element};
 
@@ -87,6 +87,14 @@ impl<'a, K: Element, H, W: Width> ArchivedHashSet<'a, K, H, W> {
         ensures { result ≡ set_len self.entry }
     {
         self.map.len()
+    }
+
+    /// Returns the number of buckets.
+    #[inline]
+    pub fn capacity(self) -> usize
+        ensures { result ≡ set_cap self.entry }
+    {
+        self.map.capacity()
     }
 
     /// Returns an iterator over the keys, in bucket order.
