@@ -2,16 +2,21 @@
 //!
 //! They are about the written bytes, lookups in these archives, and values that are read back.
 
-ghost use Rattle.rkyv_base.specs.{SameFormat, unit_format, unit_spec};
+ghost use Rattle.rkyv_base.specs.{RepresentsAs, SameFormat, SameValues, unit_format, unit_spec};
 ghost use Rattle.rkyv_keys.specs.{hash_at, native_format, queried};
 ghost use Rattle.rkyv_table.specs.{with_units};
 ghost use Rattle.rkyv_collections.specs.{ArchivesRoundTrip, FindsInWrittenMap, FindsInWrittenSet};
-ghost use Rattle.rkyv_collections.specs.{WrittenMapsAreLists, WrittenSetsAreLists, std_map_format};
+ghost use Rattle.rkyv_collections.specs.{SameErrors, StdMapRepresents, StdSetRepresents};
+ghost use Rattle.rkyv_collections.specs.{WrittenMapsAreLists, WrittenSetsAreLists, inner};
+ghost use Rattle.rkyv_collections.specs.{std_map_fails, std_map_format, std_set_fails};
 
+use crate::map::HashMapOf;
+use crate::set::HashSetOf;
 use crate::std_maps::hashed::Hashed;
 use rkyv_base::archive::Archive;
 use rkyv_base::element::Represents;
 use rkyv_base::width::Width;
+use rkyv_keys::deserialize::Deserialize;
 use rkyv_keys::equality::{EqualsWritten, MatchesNative, RepresentsUniquely};
 use rkyv_keys::keys::{KeyElement, NativeKey, Query};
 use rkyv_scan::hash::KeyHasher;
@@ -61,6 +66,61 @@ where
     ensures { let format = ⟦<Hashed<HashSet<A, T>, H> as Archive<W>>⟧.format in
         FindsInWrittenSet W.word A.Archived.Represents (queried H.hasher Q.calls Q.fits) Q.can_read
         format }
+{}
+
+/// States that a map represents the map of std of its pairs, inserted in bucket order.
+pub fn std_maps_are_represented<K, V, A, B, T: BuildHasher, H, W: Width>()
+where
+    K: Represents<A>,
+    V: Represents<B>,
+    A: Eq + Hash,
+    ensures maps { SameValues ⟦<HashMapOf<K, V, H, W> as Represents<HashMap<A, B, T>>>⟧.represents
+        (StdMapRepresents K.spec V.spec K.represents V.represents W.word A.eq) }
+    ensures hashed { let m = ⟦<HashMapOf<K, V, H, W> as Represents<Hashed<HashMap<A, B, T>, H>>>⟧ in
+        SameValues m.represents (RepresentsAs inner
+        (StdMapRepresents K.spec V.spec K.represents V.represents W.word A.eq)) }
+{}
+
+/// States that a set represents the set of std of its keys, inserted in bucket order.
+pub fn std_sets_are_represented<K, A, T: BuildHasher, H, W: Width>()
+where
+    K: Represents<A>,
+    A: Eq + Hash,
+    ensures sets { SameValues ⟦<HashSetOf<K, H, W> as Represents<HashSet<A, T>>>⟧.represents
+        (StdSetRepresents K.spec K.represents W.word A.eq) }
+    ensures hashed { let s = ⟦<HashSetOf<K, H, W> as Represents<Hashed<HashSet<A, T>, H>>>⟧ in
+        SameValues s.represents (RepresentsAs inner
+        (StdSetRepresents K.spec K.represents W.word A.eq)) }
+{}
+
+/// States which errors deserializing a map of std can return.
+///
+/// Memory could not be allocated, or a key or a value of the map has the error.
+pub fn std_maps_fail_as_pairs<K, V, A, B, H, W: Width>()
+where
+    K: Deserialize<A>,
+    V: Deserialize<B>,
+    A: Eq + Hash + Drop,
+    B: Drop,
+    ensures maps { let m = ⟦<HashMapOf<K, V, H, W> as Deserialize<HashMap<A, B>>>⟧ in
+        SameErrors m.deserialize_fails
+        (std_map_fails W.word K.spec V.spec K.deserialize_fails V.deserialize_fails) }
+    ensures hashed { let m = ⟦<HashMapOf<K, V, H, W> as Deserialize<Hashed<HashMap<A, B>, H>>>⟧ in
+        SameErrors m.deserialize_fails
+        (std_map_fails W.word K.spec V.spec K.deserialize_fails V.deserialize_fails) }
+{}
+
+/// States which errors deserializing a set of std can return.
+///
+/// Memory could not be allocated, or a key of the set has the error.
+pub fn std_sets_fail_as_keys<K, A, H, W: Width>()
+where
+    K: Deserialize<A>,
+    A: Eq + Hash + Drop,
+    ensures sets { SameErrors ⟦<HashSetOf<K, H, W> as Deserialize<HashSet<A>>>⟧.deserialize_fails
+        (std_set_fails W.word K.spec K.deserialize_fails) }
+    ensures hashed { let s = ⟦<HashSetOf<K, H, W> as Deserialize<Hashed<HashSet<A>, H>>>⟧ in
+        SameErrors s.deserialize_fails (std_set_fails W.word K.spec K.deserialize_fails) }
 {}
 
 /// States that a map of std is written as the map of its entries, whose keys are distinct.
