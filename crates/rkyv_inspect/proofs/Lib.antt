@@ -3,3 +3,8 @@ pub mod Histograms
 pub mod KeyLookups
 pub mod TextParts
 pub mod Dispatch
+pub mod FieldLists
+pub mod PartsAhead
+pub mod PartsLeft
+pub mod TableFields
+pub mod EntryRows

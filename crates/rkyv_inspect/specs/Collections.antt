@@ -1,7 +1,8 @@
 -- The types, widths and kinds of archived collections.
-use Rattle.std.specs.Prelude.{ℕ, ◌==◌, Bool, [], ◌∷◌, true, false}
+use Rattle.std.specs.Prelude.{ℕ, ◌==◌, Bool, List, [], ◌∷◌, true, false}
 use Rattle.std.specs.Int.{Width, w32, w64}
-use Rattle.rkyv_scan.specs.{HasherCall, U32 as CallsU32, U64 as CallsU64, fx_hash, low_halves}
+use Rattle.rkyv_scan.specs.{HasherCall, U32 as CallsU32, U64 as CallsU64, fx_hash, fx_hasher}
+use Rattle.rkyv_scan.specs.{low_halves}
 use Rattle.rkyv_base.specs.{ElementSpec, entry_spec, number_at, scalar_spec, text_at, text_spec}
 use Rattle.rkyv_base.specs.{unit_spec, unsigned}
 use Rattle.rkyv_collections.specs.{map_spec}
@@ -14,7 +15,9 @@ use Rattle.rkyv_container.specs.declared.contents.Kind.TheVariants.{IndexSet}
 use Rattle.rkyv_container.specs.declared.contents.Width.{Width as ArchiveWidth}
 use Rattle.rkyv_container.specs.declared.contents.Width.TheVariants.{Narrow, Wide}
 use Rattle.rkyv_index.specs.{index_spec}
-use Rattle.rkyv_keys.specs.{same_bytes, text_calls, unit_calls, unit_same}
+use Rattle.rkyv_keys.specs.{Comparison, hash_at, same_bytes, text_calls, unit_calls, unit_same}
+use Rattle.rkyv_inspect.specs.Fields.{PairType, Parts, no_part, part_of_text}
+use Rattle.rkyv_inspect.specs.Regions.{Span, index_fields, map_fields}
 use Rattle.rkyv_inspect.specs.Summaries.{KeyType, key_type}
 
 -- the word of a count or a distance
@@ -56,6 +59,15 @@ value_spec w U64 = scalar_spec (unsigned w64)
 value_spec w Text = text_spec w
 value_spec w _ = unit_spec
 
+-- the type of keys whose hash is that of these hasher calls
+abbrev pub fx_keys : ElementSpec → Comparison → (List ℕ → ℕ → List HasherCall) → KeyType
+fx_keys spec same calls = key_type spec same (hash_at (fx_hasher low_halves) calls)
+
+-- the out-of-line bytes of keys or values of a supported type
+abbrev pub parts_of : Width → ItemType → Parts
+parts_of w Text = part_of_text w
+parts_of w _ = no_part
+
 -- keys of the type are supported
 abbrev pub is_key_type : ItemType → Bool
 is_key_type U32 = true
@@ -74,3 +86,10 @@ root_spec HashMap w k v = map_spec w k v
 root_spec HashSet w k v = map_spec w k v
 root_spec IndexMap w k v = index_spec w (entry_spec k v)
 root_spec IndexSet w k v = index_spec w (entry_spec k v)
+
+-- the fields of a collection of the kind, with keys and values of the types `t`
+abbrev pub collection_fields : Kind → PairType → Width → List ℕ → ℕ → List Span
+collection_fields HashMap t w b p = map_fields t w b p
+collection_fields HashSet t w b p = map_fields t w b p
+collection_fields IndexMap t w b p = index_fields t w b p
+collection_fields IndexSet t w b p = index_fields t w b p

@@ -7,9 +7,10 @@ use Rattle.rkyv_container.specs.declared.contents.Contents.{Contents}
 use Rattle.rkyv_container.specs.declared.contents.Kind.{Kind}
 use Rattle.rkyv_container.specs.declared.contents.Kind.TheVariants.{HashMap, HashSet, IndexMap}
 use Rattle.rkyv_container.specs.declared.contents.Kind.TheVariants.{IndexSet}
-use Rattle.rkyv_inspect.specs.Collections.{is_key_type, is_value_type, keys_of, limit_of}
-use Rattle.rkyv_inspect.specs.Collections.{root_spec, value_spec, word_of}
-use Rattle.rkyv_inspect.specs.Regions.{Covers}
+use Rattle.rkyv_inspect.specs.Collections.{collection_fields, is_key_type, is_value_type, keys_of}
+use Rattle.rkyv_inspect.specs.Collections.{limit_of, parts_of, root_spec, value_spec, word_of}
+use Rattle.rkyv_inspect.specs.Fields.{PairType, Parts, pair_type}
+use Rattle.rkyv_inspect.specs.Regions.{Covers, Span, fields_of}
 use Rattle.rkyv_inspect.specs.Summaries.{IsIndexSummary, IsMapSummary, KeyType, KeyedMap}
 use Rattle.rkyv_inspect.specs.Summaries.{keyed_map}
 use Rattle.rkyv_inspect.specs.declared.errors.InspectError.{InspectError}
@@ -53,26 +54,35 @@ module _ (t : Target) where
       IsSummaryOf kind (keyed_map t.word key v t.bytes p) t.limit summary
 
   -- `inspection`: that of a valid archive, whose root has the spec `root`. `P p`: property of
-  -- the summary of the root at `p`
-  pub record IsInspection (root : ElementSpec) (P : ℕ → Summary → Type 0) (inspection : Inspection)
-      : Type 0 where
+  -- the summary of the root at `p`, `fields p`: its fields
+  pub record IsInspection (root : ElementSpec) (P : ℕ → Summary → Type 0) (fields : ℕ → List Span)
+      (inspection : Inspection) : Type 0 where
     pub accepted : IsValidArchive t.most root t.bytes
     pub contents_are : inspection.contents ≡ t.contents
     pub summary_is : P (length t.bytes - root.size) inspection.summary
     pub regions_cover : Covers 0 inspection.regions.items (length t.bytes)
+    pub fields_are : fields_of inspection.regions.items ≡ fields (length t.bytes - root.size)
 
   -- `result`: inspection of the archive of a collection of the kind, with keys of the type `key`
-  -- and values of the spec `v`, or its error
-  abbrev pub Inspects : Kind → KeyType → ElementSpec → Result Inspection InspectError → Type 0
-  Inspects kind key v result = MatchResult result
-      (IsInspection (root_spec kind t.word key.spec v) (IsSummaryAt kind key v))
-      (IsFault t.most (root_spec kind t.word key.spec v) t.bytes)
+  -- and values of the spec `pair.value`, or its error
+  abbrev pub Inspects : Kind → KeyType → PairType → Result Inspection InspectError → Type 0
+  Inspects kind key pair result = MatchResult result
+      (IsInspection (root_spec kind t.word key.spec pair.value)
+      (IsSummaryAt kind key pair.value) (collection_fields kind pair t.word t.bytes))
+      (IsFault t.most (root_spec kind t.word key.spec pair.value) t.bytes)
 
-  -- the same with the kind and the values of the contents, or the error for the type of values
-  abbrev pub InspectsValues : KeyType → Result Inspection InspectError → Type 0
-  InspectsValues key result =
+  -- the types of keys of the type `key`, with these out-of-line bytes, and of the values
+  -- of the contents
+  abbrev pub pairs_with : KeyType → Parts → PairType
+  pairs_with key parts = pair_type key.spec (value_spec t.word t.contents.value) parts
+      (parts_of t.word t.contents.value)
+
+  -- `result`: inspection with the kind and the values of the contents, and keys of the type `key`
+  -- with these out-of-line bytes; or the error for the type of values
+  abbrev pub InspectsValues : KeyType → Parts → Result Inspection InspectError → Type 0
+  InspectsValues key parts result =
       ((is_value_type t.contents.value ≡ true)
-      × Inspects t.contents.kind key (value_spec t.word t.contents.value) result)
+      × Inspects t.contents.kind key (pairs_with key parts) result)
       ⊎ ((is_value_type t.contents.value ≡ false)
       × (result ≡ Err (Unsupported t.contents.value)))
 
@@ -80,7 +90,7 @@ module _ (t : Target) where
   abbrev pub InspectsKeys : Result Inspection InspectError → Type 0
   InspectsKeys result =
       ((is_key_type t.contents.key ≡ true)
-      × InspectsValues (keys_of t.word t.contents.key) result)
+      × InspectsValues (keys_of t.word t.contents.key) (parts_of t.word t.contents.key) result)
       ⊎ ((is_key_type t.contents.key ≡ false) × (result ≡ Err (Unsupported t.contents.key)))
 
 -- `result`: inspection of an archive with these contents, or its error

@@ -1,11 +1,10 @@
 //! The types of keys and values that are shown.
-ghost use Rattle.std.specs.Prelude.{Bool, List, MatchOption, None, Option, false, true, ℕ, ◌+◌};
-ghost use Rattle.std.specs.Prelude.{◌<◌, ◌≡◌, ◌⊎◌};
+ghost use Rattle.std.specs.Prelude.{Bool, MatchOption, None, false, true, ◌+◌, ◌<◌, ◌≡◌, ◌⊎◌};
 ghost use Rattle.std.specs.Int.{w32, w64};
 ghost use Rattle.rkyv_base.specs.{IsValidView, bytes_of, pos_of, scalar_spec, text_spec};
 ghost use Rattle.rkyv_base.specs.{unit_spec, unsigned};
-ghost use Rattle.rkyv_inspect.specs.{no_part, part_of_text};
-ghost use Rattle.rkyv_inspect.specs.declared.fields.Part.{Part};
+ghost use Rattle.rkyv_inspect.specs.{AreInRange, Parts, no_part, part_of_text};
+ghost use Rattle.rkyv_inspect.specs.Lemmas.Fields.{no_part_in_range, text_part_in_range};
 
 use rkyv_base::element::{Element, PartRange};
 use rkyv_base::entry::Entry;
@@ -30,7 +29,7 @@ pub trait Field: ElementDebug {
     ghost is_shown: { Bool };
 
     // The out-of-line bytes of the value at a position of some bytes.
-    ghost part_at: { List ℕ → ℕ → Option Part };
+    ghost part_at: { Parts };
 
     /// Returns `false` if the values have no text: those of the unit type.
     fn has_text() -> bool
@@ -44,12 +43,17 @@ pub trait Field: ElementDebug {
     fn part(view: View<'_, Self>) -> Option<Part>
         requires { IsValidView Self.spec view }
         ensures { result ≡ part_at (bytes_of view.entry) (pos_of view.entry) };
+
+    // The out-of-line bytes of each valid value are in its range.
+    ghost in_range: { AreInRange Self.spec part_at };
 }
 
 impl Field for u32 {
     ghost is_shown = { true };
 
     ghost part_at = { no_part };
+
+    ghost in_range = { no_part_in_range (scalar_spec (unsigned w32)) };
 
     fn has_text() -> bool {
         true
@@ -68,6 +72,8 @@ impl Field for u64 {
 
     ghost part_at = { no_part };
 
+    ghost in_range = { no_part_in_range (scalar_spec (unsigned w64)) };
+
     fn has_text() -> bool {
         true
     }
@@ -85,6 +91,8 @@ impl Field for () {
 
     ghost part_at = { no_part };
 
+    ghost in_range = { no_part_in_range unit_spec };
+
     fn has_text() -> bool {
         false
     }
@@ -101,6 +109,8 @@ impl<W: Width> Field for Text<W> {
     ghost is_shown = { true };
 
     ghost part_at = { part_of_text W.word };
+
+    ghost in_range = { text_part_in_range W.word };
 
     fn has_text() -> bool {
         true

@@ -1,11 +1,13 @@
 //! The regions of the archive of an index map.
-ghost use Rattle.std.specs.Prelude.{IfOk, OnOk, length, ◌≡◌, ◌≤◌};
-ghost use Rattle.rkyv_base.specs.{IsValidView, bytes_of, entry_spec};
-ghost use Rattle.rkyv_index.specs.{index_spec};
-ghost use Rattle.rkyv_inspect.specs.{Covers, IsRegionList};
+ghost use Rattle.std.specs.Prelude.{IfOk, OnOk, length, ◌<◌, ◌≡◌, ◌≤◌};
+ghost use Rattle.rkyv_base.specs.{IsValidView, bytes_of, entry_spec, pos_of};
+ghost use Rattle.rkyv_index.specs.{entries_pos, index_bytes, index_len, index_pos, index_spec};
+ghost use Rattle.rkyv_index.specs.{pair_pos};
+ghost use Rattle.rkyv_inspect.specs.{AddsEach, AreAhead, Covers, IsRegionList, entry_field};
+ghost use Rattle.rkyv_inspect.specs.{fields_of, index_fields, index_keys, pair_fields, pair_type};
 
 use crate::fields::{Field, pair_text};
-use crate::map_regions::{add_header, add_part};
+use crate::map_regions::{add_header, add_pair_parts};
 use crate::regions::{Region, RegionKind, RegionList};
 use crate::table_regions::{Buckets, IndexItem};
 use rkyv_base::element::Element;
@@ -20,6 +22,10 @@ use std::alloc::{AllocError, Global};
 /// # Errors
 ///
 /// - A text or the list fails to allocate.
+///
+/// # Requires
+///
+/// - The out-of-line bytes are after the end of the list.
 fn add_parts<K: Field, V: Field, H, W: Width>(
     alloc: Global,
     root: View<'_, IndexMapOf<K, V, H, W>>,
@@ -27,21 +33,48 @@ fn add_parts<K: Field, V: Field, H, W: Width>(
 ) -> Result<(), AllocError>
     requires root { IsValidView (index_spec W.word (entry_spec K.spec V.spec)) root }
     requires list { IsRegionList list.old }
+    requires ahead { let t = pair_type K.spec V.spec K.part_at V.part_at in
+        let b = bytes_of root in let p = pos_of root in
+        AreAhead t b (entries_pos W.word b p) (index_keys t W.word b p)
+        list.old.end list.old.len }
     ensures list { OnOk result (IsRegionList list.new) }
+    ensures fields { let t = pair_type K.spec V.spec K.part_at V.part_at in
+        let b = bytes_of root.entry in let p = pos_of root.entry in
+        OnOk result (AddsEach list.old list.new (pair_fields t b) (index_keys t W.word b p)) }
+    ensures end { OnOk result (list.new.end
+        ≤ entries_pos W.word (bytes_of root.entry) (pos_of root.entry)) }
     ensures len { list.new.len ≡ list.old.len }
 {
     for (key, value) in ArchivedIndexMap::of(root).iter() {
-        add_part(alloc, root.bytes(), K::part(key), list)?;
-        add_part(alloc, root.bytes(), V::part(value), list)?;
+        add_pair_parts(alloc, key, value, list)?;
     }
     Ok(())
 }
 
-/// Appends the regions of the entries, in order, and of the bytes before each.
+/// Returns the position of the entry at an index of the map.
+fn entry_pos<K: Field, V: Field, H, W: Width>(
+    map: ArchivedIndexMap<'_, K, V, H, W>,
+    index: usize,
+) -> usize
+    requires { index < index_len map }
+    ensures { result ≡ pair_pos W.word (entry_spec K.spec V.spec).size (index_bytes map.entry)
+        (index_pos map.entry) index }
+{
+    match map.get_index(index) {
+        Some((key, _)) => key.pos() as usize,
+        None => unreachable!(),
+    }
+}
+
+/// Appends the regions of the entries, in order, and of the bytes before the first.
 ///
 /// # Errors
 ///
 /// - A text or the list fails to allocate.
+///
+/// # Requires
+///
+/// - The list ends where the entries begin, or before.
 fn add_entries<K: Field, V: Field, H, W: Width>(
     alloc: Global,
     root: View<'_, IndexMapOf<K, V, H, W>>,
@@ -49,20 +82,29 @@ fn add_entries<K: Field, V: Field, H, W: Width>(
 ) -> Result<(), AllocError>
     requires root { IsValidView (index_spec W.word (entry_spec K.spec V.spec)) root }
     requires list { IsRegionList list.old }
+    requires begin { list.old.end ≤ entries_pos W.word (bytes_of root) (pos_of root) }
+    requires len { list.old.len ≡ length (bytes_of root) }
     ensures list { OnOk result (IsRegionList list.new) }
+    ensures fields { let t = pair_type K.spec V.spec K.part_at V.part_at in
+        let b = bytes_of root.entry in let p = pos_of root.entry in
+        OnOk result (AddsEach list.old list.new (entry_field t) (index_keys t W.word b p)) }
+    ensures end { OnOk result (list.new.end ≤ pos_of root.entry) }
     ensures len { list.new.len ≡ list.old.len }
 {
+    let map = ArchivedIndexMap::of(root);
     let size = Entry::<K, V>::size();
-    for (index, (key, _)) in ArchivedIndexMap::of(root).iter().enumerate() {
-        let pos = key.pos() as usize;
+    for index in 0..map.len() {
+        let pos = entry_pos(map, index);
         list.add_gap(alloc, root.bytes(), pos)?;
         let text = pair_text::<K, V>(alloc, "entry", index, root.bytes(), pos)?;
-        list.add(pos.saturating_add(size), RegionKind::Entry, text)?;
+        list.add(pos + size, RegionKind::Entry, text)?;
     }
     Ok(())
 }
 
 /// Returns the regions of the archive of an index map, from its first byte to its last.
+///
+/// The fields are those of the map by the format. Padding and unknown bytes are between them.
 ///
 /// # Errors
 ///
@@ -76,7 +118,11 @@ pub fn index_regions<K: Field, V: Field, H, W: Width>(
     root: View<'_, IndexMapOf<K, V, H, W>>,
 ) -> Result<Vec<Region>, AllocError>
     requires { IsValidView (index_spec W.word (entry_spec K.spec V.spec)) root }
-    ensures { IfOk result (λ regions. Covers 0 regions.items (length (bytes_of root.entry))) }
+    ensures covers { IfOk result (λ regions.
+        Covers 0 regions.items (length (bytes_of root.entry))) }
+    ensures fields { let t = pair_type K.spec V.spec K.part_at V.part_at in
+        IfOk result (λ regions. fields_of regions.items
+        ≡ index_fields t W.word (bytes_of root.entry) (pos_of root.entry)) }
 {
     let bytes = root.bytes();
     let header = ArchivedIndexMap::of(root).header();

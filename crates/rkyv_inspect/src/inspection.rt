@@ -1,8 +1,6 @@
 //! Inspections of archives of all kinds, types and widths.
-ghost use Rattle.rkyv_scan.specs.{fx_hasher, low_halves};
-ghost use Rattle.rkyv_keys.specs.{hash_at};
 ghost use Rattle.rkyv_inspect.specs.{Inspects, InspectsContents, InspectsKeys, InspectsValues};
-ghost use Rattle.rkyv_inspect.specs.{key_type, target};
+ghost use Rattle.rkyv_inspect.specs.{fx_keys, pair_type, target};
 
 use crate::errors::InspectError;
 use crate::fields::Field;
@@ -40,9 +38,9 @@ fn inspect_hash_map<K: KeyElement + Field, V: Field, W: ArchiveWidth>(
     contents: Contents,
     limit: u64,
 ) -> Result<Inspection, InspectError>
-    ensures { let keys = key_type K.spec K.same (hash_at (fx_hasher low_halves) K.key_calls) in
-        Inspects (target W.word W.LIMIT contents archive.now limit) Kind.HashMap keys V.spec
-        result }
+    ensures { let keys = fx_keys K.spec K.same K.key_calls in
+        Inspects (target W.word W.LIMIT contents archive.now limit) Kind.HashMap keys
+        (pair_type K.spec V.spec K.part_at V.part_at) result }
 {
     let root = match access_in::<W, HashMapOf<K, V, FxHasher64, W>>(archive) {
         Ok(root) => root,
@@ -64,9 +62,9 @@ fn inspect_index_map<K: KeyElement + Field, V: Field, W: ArchiveWidth>(
     contents: Contents,
     limit: u64,
 ) -> Result<Inspection, InspectError>
-    ensures { let keys = key_type K.spec K.same (hash_at (fx_hasher low_halves) K.key_calls) in
-        Inspects (target W.word W.LIMIT contents archive.now limit) Kind.IndexMap keys V.spec
-        result }
+    ensures { let keys = fx_keys K.spec K.same K.key_calls in
+        Inspects (target W.word W.LIMIT contents archive.now limit) Kind.IndexMap keys
+        (pair_type K.spec V.spec K.part_at V.part_at) result }
 {
     let root = match access_in::<W, IndexMapOf<K, V, FxHasher64, W>>(archive) {
         Ok(root) => root,
@@ -88,9 +86,9 @@ fn inspect_kind<K: KeyElement + Field, V: Field, W: ArchiveWidth>(
     contents: Contents,
     limit: u64,
 ) -> Result<Inspection, InspectError>
-    ensures { let keys = key_type K.spec K.same (hash_at (fx_hasher low_halves) K.key_calls) in
-        Inspects (target W.word W.LIMIT contents archive.now limit) contents.kind keys V.spec
-        result }
+    ensures { let keys = fx_keys K.spec K.same K.key_calls in
+        Inspects (target W.word W.LIMIT contents archive.now limit) contents.kind keys
+        (pair_type K.spec V.spec K.part_at V.part_at) result }
 {
     match contents.kind {
         Kind::HashMap => inspect_hash_map::<K, V, W>(alloc, archive, contents, limit),
@@ -107,8 +105,8 @@ fn inspect_keys<K: KeyElement + Field, W: ArchiveWidth>(
     contents: Contents,
     limit: u64,
 ) -> Result<Inspection, InspectError>
-    ensures { let keys = key_type K.spec K.same (hash_at (fx_hasher low_halves) K.key_calls) in
-        InspectsValues (target W.word W.LIMIT contents archive.now limit) keys result }
+    ensures { let keys = fx_keys K.spec K.same K.key_calls in
+        InspectsValues (target W.word W.LIMIT contents archive.now limit) keys K.part_at result }
 {
     match contents.value {
         ItemType::Unit => inspect_kind::<K, (), W>(alloc, archive, contents, limit),

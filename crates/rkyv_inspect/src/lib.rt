@@ -11,6 +11,7 @@ mod histogram;
 pub mod index_regions;
 pub mod index_summary;
 pub mod inspection;
+pub mod laws;
 pub mod map_regions;
 pub mod map_summary;
 pub mod printing;

@@ -1,6 +1,6 @@
 //! The regions of an archive: its bytes, field by field.
-ghost use Rattle.std.specs.Prelude.{IfOk, OnOk, length, max, min, ◌≡◌, ◌≤◌};
-ghost use Rattle.rkyv_inspect.specs.{Covers, IsRegionList};
+ghost use Rattle.std.specs.Prelude.{IfOk, OnOk, [], length, max, min, ◌≡◌, ◌≤◌};
+ghost use Rattle.rkyv_inspect.specs.{Covers, AddsFields, IsRegionList, field, fields_of};
 
 use std::alloc::{AllocError, Global};
 
@@ -54,6 +54,8 @@ impl RegionList {
     /// Returns a list without regions, of an archive of `len` bytes.
     pub(crate) fn new(alloc: Global, len: usize) -> RegionList
         ensures list { IsRegionList result }
+        ensures fields { fields_of result.regions.items ≡ [] }
+        ensures end { result.end ≡ 0 }
         ensures len { result.len ≡ len }
     {
         RegionList {
@@ -77,8 +79,9 @@ impl RegionList {
         text: String,
     ) -> Result<(), AllocError>
         requires { IsRegionList self.old }
-        ensures list { OnOk result (IsRegionList self.new) }
-        ensures end { OnOk result (self.new.end ≡ max self.old.end (min end self.old.len)) }
+        ensures adds { OnOk result (AddsFields self.old self.new
+            (field kind self.old.end (min end self.old.len))
+            (max self.old.end (min end self.old.len))) }
         ensures len { self.new.len ≡ self.old.len }
     {
         let begin = self.end;
@@ -109,8 +112,9 @@ impl RegionList {
         name: &str,
     ) -> Result<(), AllocError>
         requires { IsRegionList self.old }
-        ensures list { OnOk result (IsRegionList self.new) }
-        ensures end { OnOk result (self.new.end ≡ max self.old.end (min end self.old.len)) }
+        ensures adds { OnOk result (AddsFields self.old self.new
+            (field kind self.old.end (min end self.old.len))
+            (max self.old.end (min end self.old.len))) }
         ensures len { self.new.len ≡ self.old.len }
     {
         let text = String::from_str(alloc, name)?;
@@ -129,8 +133,8 @@ impl RegionList {
         end: usize,
     ) -> Result<(), AllocError>
         requires { IsRegionList self.old }
-        ensures list { OnOk result (IsRegionList self.new) }
-        ensures end { OnOk result (self.new.end ≡ max self.old.end (min end self.old.len)) }
+        ensures adds { OnOk result (AddsFields self.old self.new []
+            (max self.old.end (min end self.old.len))) }
         ensures len { self.new.len ≡ self.old.len }
     {
         if is_padding(bytes_in(bytes, self.end, end)) {
@@ -147,7 +151,9 @@ impl RegionList {
     /// - The text or the list fails to allocate.
     pub(crate) fn finish(self, alloc: Global) -> Result<Vec<Region>, AllocError>
         requires { IsRegionList self }
-        ensures { IfOk result (λ regions. Covers 0 regions.items self.len) }
+        ensures covers { IfOk result (λ regions. Covers 0 regions.items self.len) }
+        ensures fields { IfOk result (λ regions. fields_of regions.items
+            ≡ fields_of self.regions.items) }
     {
         let mut list = self;
         let end = list.len;

@@ -1,11 +1,16 @@
 //! The regions of the buckets and control bytes of a table.
-ghost use Rattle.std.specs.Prelude.{OnOk, ◌≡◌};
-ghost use Rattle.rkyv_inspect.specs.{IsRegionList};
+ghost use Rattle.std.specs.Prelude.{OnOk, length, nat_lt, ◌*◌, ◌+◌, ◌-◌, ◌<◌, ◌≡◌};
+ghost use Rattle.std.specs.Prelude.{◌≤◌};
+ghost use Rattle.rkyv_table.specs.{control_count};
+ghost use Rattle.rkyv_inspect.specs.{AddsFields, IsRegionList, at_table, bucket_field};
+ghost use Rattle.rkyv_inspect.specs.{buckets_below, control_at, control_fields, table_end};
+ghost use Rattle.rkyv_inspect.specs.{table_fields};
 
 use crate::fields::{Field, pair_text};
 use crate::regions::{RegionKind, RegionList, bytes_in};
 use rkyv_base::entry::Entry;
 use rkyv_base::width::Width;
+use rkyv_table::controls::numbers::control_count;
 use std::alloc::{AllocError, Global};
 use std::marker::PhantomData;
 
@@ -55,18 +60,16 @@ impl<W: Width> BucketItem for IndexItem<W> {
 }
 
 impl<'a> Buckets<'a> {
-    /// Returns the position at which the buckets begin.
-    fn begin(self) -> usize {
-        let size = self.capacity.saturating_mul(self.size);
-        self.controls_pos.saturating_sub(size)
-    }
-
     /// Returns `true` if and only if the control byte of a bucket is that of an item.
-    fn is_full(self, bucket: usize) -> bool {
-        match self.bytes.get(self.controls_pos.saturating_add(bucket)) {
-            Some(control) => *control < 128,
-            None => false,
-        }
+    ///
+    /// # Requires
+    ///
+    /// - The control byte is inside the bytes.
+    fn is_full(self, bucket: usize) -> bool
+        requires { self.controls_pos + bucket < length self.bytes.now }
+        ensures { result ≡ nat_lt (at_table control_at self.entry bucket) 128 }
+    {
+        self.bytes[self.controls_pos + bucket] < 128
     }
 
     /// Appends the region of a bucket.
@@ -74,18 +77,27 @@ impl<'a> Buckets<'a> {
     /// # Errors
     ///
     /// - A text or the list fails to allocate.
+    ///
+    /// # Requires
+    ///
+    /// - The list ends at the bucket, which is before the control bytes.
+    /// - Its control byte is inside the bytes.
     fn add_bucket<T: BucketItem>(
         self,
         alloc: Global,
         bucket: usize,
         list: &mut RegionList,
     ) -> Result<(), AllocError>
-        requires { IsRegionList list.old }
-        ensures list { OnOk result (IsRegionList list.new) }
+        requires list { IsRegionList list.old }
+        requires bucket { list.old.end + (bucket + 1) * self.size ≡ self.controls_pos }
+        requires controls { self.controls_pos ≤ list.old.len }
+        requires inside { self.controls_pos + bucket < length self.bytes.now }
+        ensures adds { OnOk result (AddsFields list.old list.new (at_table bucket_field self.entry
+            bucket) (self.entry.controls_pos - bucket * self.entry.size)) }
         ensures len { list.new.len ≡ list.old.len }
     {
         let begin = list.end;
-        let end = begin.saturating_add(self.size);
+        let end = begin + self.size;
         if self.is_full(bucket) {
             let text = T::text(alloc, self.bytes, bucket, begin)?;
             return list.add(end, RegionKind::FullBucket, text);
@@ -94,19 +106,56 @@ impl<'a> Buckets<'a> {
         list.add(end, RegionKind::EmptyBucket, text)
     }
 
+    /// Appends the regions of the buckets, from the highest to bucket 0.
+    ///
+    /// # Errors
+    ///
+    /// - A text or the list fails to allocate.
+    ///
+    /// # Requires
+    ///
+    /// - The list ends where the buckets begin.
+    /// - The control bytes are inside the bytes.
+    fn add_buckets<T: BucketItem>(
+        self,
+        alloc: Global,
+        list: &mut RegionList,
+    ) -> Result<(), AllocError>
+        requires list { IsRegionList list.old }
+        requires begin { list.old.end + self.capacity * self.size ≡ self.controls_pos }
+        requires controls { self.controls_pos ≤ list.old.len }
+        requires inside { self.controls_pos + self.capacity ≤ length self.bytes.now }
+        ensures adds { OnOk result (AddsFields list.old list.new (at_table buckets_below self.entry
+            self.entry.capacity) self.entry.controls_pos) }
+        ensures len { list.new.len ≡ list.old.len }
+    {
+        for bucket in (0..self.capacity).rev() {
+            self.add_bucket::<T>(alloc, bucket, list)?;
+        }
+        Ok(())
+    }
+
     /// Appends the regions of the control bytes.
     ///
     /// # Errors
     ///
     /// - A text or the list fails to allocate.
+    ///
+    /// # Requires
+    ///
+    /// - The list ends at the first control byte.
+    /// - The control bytes are inside the archive.
     fn add_controls(self, alloc: Global, list: &mut RegionList) -> Result<(), AllocError>
-        requires { IsRegionList list.old }
-        ensures list { OnOk result (IsRegionList list.new) }
+        requires list { IsRegionList list.old }
+        requires begin { list.old.end ≡ self.controls_pos }
+        requires inside { self.controls_pos + control_count self.capacity ≤ list.old.len }
+        ensures adds { OnOk result (AddsFields list.old list.new (control_fields
+            self.entry.controls_pos self.entry.capacity)
+            (self.entry.controls_pos + control_count self.entry.capacity)) }
         ensures len { list.new.len ≡ list.old.len }
     {
-        let count = self.capacity.div_ceil(16).saturating_mul(16);
-        let own = self.controls_pos.saturating_add(self.capacity);
-        let end = self.controls_pos.saturating_add(count).saturating_add(15);
+        let own = self.controls_pos + self.capacity;
+        let end = self.controls_pos + control_count(self.capacity);
         list.add_named(alloc, own, RegionKind::Controls, "control bytes")?;
         list.add_named(
             alloc,
@@ -123,22 +172,33 @@ impl<'a> Buckets<'a> {
     /// # Errors
     ///
     /// - A text or the list fails to allocate.
+    ///
+    /// # Requires
+    ///
+    /// - The list ends where the buckets begin, or before.
+    /// - The control bytes are inside the archive.
     pub(crate) fn add<T: BucketItem>(
         self,
         alloc: Global,
         list: &mut RegionList,
     ) -> Result<(), AllocError>
-        requires { IsRegionList list.old }
-        ensures list { OnOk result (IsRegionList list.new) }
+        requires list { IsRegionList list.old }
+        requires len { list.old.len ≡ length self.bytes.now }
+        requires begin { 0 < self.capacity
+            → list.old.end + self.capacity * self.size ≤ self.controls_pos }
+        requires inside { 0 < self.capacity
+            → self.controls_pos + control_count self.capacity ≤ list.old.len }
+        ensures adds { OnOk result (AddsFields list.old list.new
+            (at_table table_fields self.entry self.entry.capacity)
+            (table_end list.old.end self.entry.controls_pos self.entry.capacity)) }
         ensures len { list.new.len ≡ list.old.len }
     {
         if self.capacity == 0 {
             return Ok(());
         }
-        list.add_gap(alloc, self.bytes, self.begin())?;
-        for bucket in (0..self.capacity).rev() {
-            self.add_bucket::<T>(alloc, bucket, list)?;
-        }
+        let begin = self.controls_pos - self.capacity * self.size;
+        list.add_gap(alloc, self.bytes, begin)?;
+        self.add_buckets::<T>(alloc, list)?;
         self.add_controls(alloc, list)
     }
 }

@@ -1,8 +1,17 @@
 use Rattle.std.proofs.Common.{◌≡◌}
-use Rattle.rkyv_inspect.specs.{IsRegionList}
+use Rattle.rkyv_base.specs.{archive_of, bytes_of, pos_of}
+use Rattle.rkyv_table.specs.{item_positions}
+use Rattle.rkyv_inspect.specs.{buckets_begin, entry_size, pair_type}
+use Rattle.rkyv_inspect.proofs.PartsLeft.{PartsLeft}
 use Rattle.rkyv_inspect.proofs.map_regions.add_parts.Given as goal
 
 abbrev pub invariant-loop-key : goal.invariant-loop-key
 invariant-loop-key g l =
-    (goal.iterator-loop-key g).can_next l.key-iterator × (goal.iterator-loop-key g).is_finite l.key-iterator
-    × IsRegionList l.list × (l.list.len ≡ l.initial.list.len)
+    let t = pair_type g.K.HasSpec.spec g.V.HasSpec.spec g.K.Field.part_at g.V.Field.part_at in
+    let w = g.W.Word.word in
+    let b = bytes_of l.root in
+    let p = pos_of l.root in
+    record {
+      archive : l.key-iterator.archive ≡ archive_of l.root;
+      left : PartsLeft t b (buckets_begin t w b p) (item_positions w (entry_size t) b p) l.key-iterator.positions l.initial.list l.list;
+    }

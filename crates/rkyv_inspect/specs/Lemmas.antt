@@ -1,0 +1,2 @@
+-- Lemmas that the fields need.
+pub mod Fields

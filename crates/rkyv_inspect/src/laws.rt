@@ -1,0 +1,27 @@
+//! Laws of the types of keys and values that are shown.
+//!
+//! An implementation names these in its own ghost members. The laws say them of each type,
+//! by the definitions in `specs/`.
+
+ghost use Rattle.std.specs.Prelude.{false, true, ◌≡◌};
+ghost use Rattle.rkyv_inspect.specs.{SameParts, no_part, part_of_text};
+
+use crate::fields::Field;
+use rkyv_base::text::Text;
+use rkyv_base::width::Width;
+
+/// States which types have a text: numbers and texts, but not the unit type.
+pub fn numbers_and_texts_are_shown<W: Width>()
+    ensures u32 { ⟦<u32 as Field>⟧.is_shown ≡ true }
+    ensures u64 { ⟦<u64 as Field>⟧.is_shown ≡ true }
+    ensures text { ⟦<Text<W> as Field>⟧.is_shown ≡ true }
+    ensures unit { ⟦<() as Field>⟧.is_shown ≡ false }
+{}
+
+/// States which out-of-line bytes the types have: those of texts that are out of line, else none.
+pub fn only_texts_have_parts<W: Width>()
+    ensures u32 { SameParts ⟦<u32 as Field>⟧.part_at no_part }
+    ensures u64 { SameParts ⟦<u64 as Field>⟧.part_at no_part }
+    ensures text { SameParts ⟦<Text<W> as Field>⟧.part_at (part_of_text W.word) }
+    ensures unit { SameParts ⟦<() as Field>⟧.part_at no_part }
+{}
