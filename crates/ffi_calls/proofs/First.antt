@@ -6,7 +6,7 @@ use Rattle.std.specs.Option.{is_some}
 use Rattle.std.specs.Borrow.{Bor}
 use Rattle.std.specs.Prelude.{IfSome, MatchOption}
 use Rattle.std.proofs.lemmas.Option.{same_Some}
-use Rattle.rkyv_base.specs.{ElementSpec, Viewable, pos_of_found}
+use Rattle.rkyv_base.specs.{Viewable, pos_of_found}
 use Rattle.rkyv_base.specs.declared.view.View.{View}
 use Rattle.rkyv_collections.specs.{IsValueIn, map_bytes}
 use Rattle.rkyv_collections.specs.declared.map.ArchivedHashMap.{ArchivedHashMap}
@@ -15,10 +15,6 @@ use Rattle.rkyv_keys.specs.{IsFoundValue}
 -- the value is at the position `target`
 abbrev RepresentsIn : {B : Type 0} → (List ℕ → ℕ → B → Type 0) → List ℕ → Option ℕ → B → Type 0
 RepresentsIn represents b target x = (q : ℕ) × (target ≡ Some q) × represents b q x
-
--- a valid element at a position is one at the position of a view of it
-pub viewable_at_view : {T : Type 0} (s : ElementSpec) (view : View T) (a : Bor (List ℕ)) (p : ℕ) → view.archive ≡ a → view.pos ≡ p → Viewable s a.now p → Viewable s view.archive.now view.pos
-viewable_at_view s view a p e f h = subst (Viewable s view.archive.now) (sym f) (subst (λ (d : Bor (List ℕ)). Viewable s d.now p) (sym e) h)
 
 -- the position of a value that is found in a map over the bytes `b`, and its validity
 module _ {K V H W : Type 0} {ks : Specs K} {vs : Specs V} {wt : Words W} (m : ArchivedHashMap K V H W ks vs wt) (b : List ℕ) (same : map_bytes m ≡ b) where

@@ -3,6 +3,7 @@ pub mod Forms
 pub mod Collected
 pub mod First
 pub mod Members
+pub mod Results
 pub mod AtViews
 pub mod Statuses
 pub mod Codes

@@ -1,6 +1,6 @@
 //! The archive of a map: its validation, and its header, which is decoded once.
 
-ghost use Rattle.std.specs.Prelude.{◌≡◌};
+ghost use Rattle.std.specs.Prelude.{length, ◌-◌, ◌≡◌};
 ghost use Rattle.rkyv_base.specs.{IsValidArchive, Viewable};
 ghost use Rattle.rkyv_collections.specs.{map_bytes, map_pos, map_root, map_spec};
 ghost use Rattle.ffi_calls.specs.{IsHeaderOf, IsMapArchive, Opens, map_in};
@@ -8,7 +8,6 @@ ghost use Rattle.ffi_calls.specs.{IsHeaderOf, IsMapArchive, Opens, map_in};
 use crate::status::{DONE, verify_status};
 use rkyv_base::access::{access_in, access_unchecked};
 use rkyv_base::element::Element;
-use rkyv_base::view::View;
 use rkyv_base::width::Width;
 use rkyv_collections::FxHasher64;
 use rkyv_collections::map::{ArchivedHashMap, HashMapOf};
@@ -26,14 +25,14 @@ pub(crate) fn open_map<K: Element, V: Element, W: Width>(archive: &[u8]) -> u32
     }
 }
 
-/// Returns the position of the map's header in a valid archive.
+/// Returns the position of the root of a valid archive.
 #[inline]
-pub(crate) fn root_of<K: Element, V: Element, W: Width>(archive: &[u8]) -> u64
-    requires { IsValidArchive W.LIMIT (map_spec W.word K.spec V.spec) archive.now }
-    ensures at { result ≡ map_root W.word K.spec V.spec archive.now }
-    ensures viewable { Viewable (map_spec W.word K.spec V.spec) archive.now result }
+pub(crate) fn root_of<T: Element, W: Width>(archive: &[u8]) -> u64
+    requires { IsValidArchive W.LIMIT T.spec archive.now }
+    ensures at { result ≡ length archive.now - T.spec.size }
+    ensures viewable { Viewable T.spec archive.now result }
 {
-    access_unchecked::<HashMapOf<K, V, FxHasher64, W>>(archive).pos()
+    access_unchecked::<T>(archive).pos()
 }
 
 /// Returns the decoded header of the map in a valid archive.
@@ -42,8 +41,7 @@ pub(crate) fn header_of<K: Element, V: Element, W: Width>(archive: &[u8]) -> Dec
     requires { IsMapArchive W.word W.LIMIT K.spec V.spec archive.now }
     ensures { IsHeaderOf (map_in W.word K.spec V.spec archive.now) result }
 {
-    let root = root_of::<K, V, W>(archive);
-    ArchivedHashMap::<K, V, FxHasher64, W>::of(View::new(archive, root)).header()
+    ArchivedHashMap::of(access_unchecked::<HashMapOf<K, V, FxHasher64, W>>(archive)).header()
 }
 
 /// Returns the header of a map of these types, as it is.
@@ -73,6 +71,6 @@ pub(crate) fn map_of<'a, K: Element, V: Element, W: Width>(
     ensures bytes { map_bytes result ≡ archive.now }
     ensures pos { map_pos result ≡ map_root W.word K.spec V.spec archive.now }
 {
-    let root = root_of::<K, V, W>(archive);
-    ArchivedHashMap::with_header(View::new(archive, root), *header)
+    let root = access_unchecked::<HashMapOf<K, V, FxHasher64, W>>(archive);
+    ArchivedHashMap::with_header(root, *header)
 }

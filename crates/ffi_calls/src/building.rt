@@ -1,10 +1,11 @@
 //! Archives of lists of pairs.
 
-ghost use Rattle.std.specs.Prelude.{IfErr, IfOk, MatchResult, ◌≡◌};
+ghost use Rattle.std.specs.Prelude.{IfErr, IfOk, MatchResult, [], vec_capacity, vec_len};
+ghost use Rattle.std.specs.Prelude.{◌≡◌, ◌≤◌};
 ghost use Rattle.rkyv_keys.specs.{fx_format};
 ghost use Rattle.ffi_calls.specs.{ArchiveFails, IsWritten, archive_width, fx_pairs};
 
-use crate::status::DONE;
+use crate::status::{DONE, NO_MEMORY};
 use rkyv_base::archive::Serialize;
 use rkyv_base::errors::WriteError;
 use rkyv_base::root::to_bytes_in;
@@ -12,6 +13,14 @@ use rkyv_base::width::Width;
 use rkyv_base::writer::{NoMemory, VecWriter};
 use rkyv_collections::{KeyElement, MapPairs, NativeKey};
 use std::alloc::Global;
+
+/// Returns an empty vector with room for `len` items, or `NO_MEMORY` if the allocation fails.
+pub(crate) fn reserved<T>(alloc: Global, len: usize) -> Result<Vec<T>, u32>
+    ensures { MatchResult result
+        (λ v. (v.items ≡ []) × (vec_len v ≡ 0) × (len ≤ vec_capacity v)) (λ status. status ≡ 12) }
+{
+    Vec::with_capacity(alloc, len).map_err(|_| NO_MEMORY)
+}
 
 /// Writes the archive of the pairs, in insertion order, under the load factor 7 / 8.
 pub(crate) fn archive_of<
@@ -28,11 +37,7 @@ where
     ensures err { IfErr result (ArchiveFails (archive_width W.Width)
         (fx_format A.Archived.spec B.Archived.spec A.format B.format A.calls) list.now) }
 {
-    let pairs: MapPairs<'_, A, B> = MapPairs::new(list);
-    match to_bytes_in::<W, MapPairs<'_, A, B>>(alloc, &pairs) {
-        Ok(archive) => Ok(archive),
-        Err(error) => Err(error),
-    }
+    to_bytes_in::<W, MapPairs<'_, A, B>>(alloc, &MapPairs::new(list))
 }
 
 /// The bytes of an archive, leaked to the caller: this crate neither reads nor frees them again.

@@ -42,15 +42,11 @@ pub struct Codes {
 fn contents_of(codes: Codes) -> Option<Contents>
     ensures { MatchOption result (AreUnknown codes) (HasCodes codes) }
 {
-    let kind = Kind::from_code(codes.kind)?;
-    let key = ItemType::from_code(codes.key)?;
-    let value = ItemType::from_code(codes.value)?;
-    let width = Width::from_code(codes.width)?;
     Some(Contents {
-        kind,
-        key,
-        value,
-        width,
+        kind: Kind::from_code(codes.kind)?,
+        key: ItemType::from_code(codes.key)?,
+        value: ItemType::from_code(codes.value)?,
+        width: Width::from_code(codes.width)?,
     })
 }
 
@@ -58,10 +54,7 @@ fn contents_of(codes: Codes) -> Option<Contents>
 fn is_wide(width: Width) -> bool
     ensures { width ≡ container_width_by result }
 {
-    match width {
-        Width::Narrow => false,
-        Width::Wide => true,
-    }
+    matches!(width, Width::Wide)
 }
 
 /// Opens the container with these contents, and stores its archive in `opened`.
@@ -107,13 +100,11 @@ pub fn write_header(archive: &[u8], codes: Codes, checked: bool, header: &mut [u
     requires { length header.old ≡ 32 }
     ensures { WritesContainerHeader codes checked archive.now header.old result header.new }
 {
-    match contents_of(codes) {
-        Some(contents) => {
-            Header::new(contents, archive, checked).write(header);
-            DONE
-        }
-        None => UNKNOWN_CODES,
-    }
+    let Some(contents) = contents_of(codes) else {
+        return UNKNOWN_CODES;
+    };
+    Header::new(contents, archive, checked).write(header);
+    DONE
 }
 
 /// Reads the width of a container of any contents, and stores in `wide` whether it is wide.

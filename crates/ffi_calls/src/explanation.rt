@@ -35,13 +35,7 @@ pub struct Explanation {
 fn nearest(pos: i128) -> i64
     ensures { result ≡ nearest pos }
 {
-    if pos < i128::from(i64::MIN) {
-        i64::MIN
-    } else if pos > i128::from(i64::MAX) {
-        i64::MAX
-    } else {
-        pos as i64
-    }
+    pos.clamp(i128::from(i64::MIN), i128::from(i64::MAX)) as i64
 }
 
 // Returns an explanation with these numbers.

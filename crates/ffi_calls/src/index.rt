@@ -48,8 +48,7 @@ pub(crate) fn index_header_of<K: Element, V: Element, W: Width>(archive: &[u8]) 
     requires { IsIndexArchive W.word W.LIMIT K.spec V.spec archive.now }
     ensures { IsHeaderOf (index_in W.word K.spec V.spec archive.now) result }
 {
-    let root = access_unchecked::<IndexMapOf<K, V, FxHasher64, W>>(archive);
-    ArchivedIndexMap::of(root).header()
+    ArchivedIndexMap::of(access_unchecked::<IndexMapOf<K, V, FxHasher64, W>>(archive)).header()
 }
 
 /// Returns the header of an index map of these types, as it is.
@@ -160,10 +159,7 @@ pub(crate) fn pairs_in<
     let map = index_of::<K, V, W>(archive, header);
     let number = pairs.len().min(map.len().saturating_sub(from));
     for count in 0..number {
-        match pair_of::<X, Y, K, V, W>(map, from + count) {
-            Some(pair) => pairs[count] = P::of_pair(pair),
-            None => unreachable!(),
-        }
+        pairs[count] = P::of_pair(pair_of::<X, Y, K, V, W>(map, from + count).unwrap());
     }
     number
 }

@@ -1,32 +1,21 @@
 //! Overwrites of values in index maps.
 
 ghost use Rattle.std.specs.Prelude.{IfSome, ◌<◌, ◌≡◌};
-ghost use Rattle.rkyv_base.specs.{Viewable};
 ghost use Rattle.ffi_calls.specs.{FindsFirstIndex, IsIndexArchive, KeepsHeader, Overwrites};
-ghost use Rattle.ffi_calls.specs.{SetsFirstIndexed, found_index, index_in, index_map, index_root};
-ghost use Rattle.ffi_calls.specs.{pair_count, query_of_key, value_found_in};
+ghost use Rattle.ffi_calls.specs.{SetsFirstIndexed, found_index, index_in, pair_count};
+ghost use Rattle.ffi_calls.specs.{query_of_key, value_found_in};
 
+use crate::archives::root_of;
+use crate::index::{index_header_of, index_of};
 use crate::status::{DONE, NOT_FOUND, VALUE_TOO_LARGE};
 use crate::value::Value;
-use rkyv_base::access::access_unchecked;
-use rkyv_base::element::{Element, Represents};
-use rkyv_base::view::View;
+use rkyv_base::element::Represents;
 use rkyv_base::width::Width;
+use rkyv_index::IndexMapOf;
 use rkyv_index::map::in_place::set_value_at;
 use rkyv_index::map::laws::lookups_find_listed;
-use rkyv_index::{ArchivedIndexMap, IndexMapOf};
 use rkyv_keys::keys::{KeyElement, NativeKey};
 use rkyv_scan::hash::FxHasher64;
-
-/// Returns the position of the header of the index map in a valid archive.
-#[inline]
-fn index_root_of<K: Element, V: Element, W: Width>(archive: &[u8]) -> u64
-    requires { IsIndexArchive W.word W.LIMIT K.spec V.spec archive.now }
-    ensures at { result ≡ index_root W.word K.spec V.spec archive.now }
-    ensures viewable { Viewable (index_map W.word K.spec V.spec) archive.now result }
-{
-    access_unchecked::<IndexMapOf<K, V, FxHasher64, W>>(archive).pos()
-}
 
 /// Returns the index that a lookup of the key finds in a valid archive.
 fn index_found_in<A: NativeKey<K>, B, K: KeyElement + Represents<A>, V: Represents<B>, W: Width>(
@@ -43,11 +32,8 @@ fn index_found_in<A: NativeKey<K>, B, K: KeyElement + Represents<A>, V: Represen
         (query_of_key K.represents K.key_calls (A.eq key.now)) V.represents result }
 {
     lookups_find_listed::<A, B, K, V, FxHasher64, W>();
-    let root = index_root_of::<K, V, W>(archive);
-    let map: ArchivedIndexMap<'_, K, V, FxHasher64, W> = ArchivedIndexMap::of(View::new(
-        archive, root,
-    ));
-    let (index, _, _) = map.get_full(key)?;
+    let header = index_header_of::<K, V, W>(archive);
+    let (index, _, _) = index_of::<K, V, W>(archive, &header).get_full(key)?;
     Some(index)
 }
 
@@ -83,7 +69,7 @@ pub(crate) fn set_indexed_in<A: NativeKey<K>, K: KeyElement + Represents<A>, V: 
         Some(index) => index,
         None => return NOT_FOUND,
     };
-    let root = index_root_of::<K, V, W>(&*archive);
+    let root = root_of::<IndexMapOf<K, V, FxHasher64, W>, W>(&*archive);
     set_value_at::<A, K, V, FxHasher64, W>(archive, root, index, number);
     DONE
 }

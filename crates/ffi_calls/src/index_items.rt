@@ -9,7 +9,7 @@ use crate::building::{Built, leak_into};
 use crate::form::Form;
 use crate::pairs::PairOf;
 use crate::reading::NumberKey;
-use crate::status::write_status;
+use crate::status::or_status;
 use crate::value::Value;
 use crate::{number_items, text_items};
 use rkyv_base::root::to_bytes_in;
@@ -27,10 +27,7 @@ fn numbers_in<K: NumberKey, V: Value, W: IndexMapWidth, P: PairOf<K, u64>>(
         WritesNumberIndex K.NumberKey w V.spec V.encoding (map P.pair_of items.now) result }
 {
     let pairs = number_items::pairs_of::<K, V, P>(alloc, items)?;
-    match to_bytes_in::<W, OrderedPairs<K, V>>(alloc, &OrderedPairs(pairs)) {
-        Ok(archive) => Ok(archive),
-        Err(error) => Err(write_status(&error)),
-    }
+    or_status(to_bytes_in::<W, _>(alloc, &OrderedPairs(pairs)))
 }
 
 /// Writes the archive of the items in the form.
@@ -83,10 +80,7 @@ fn texts_in<'a, V: Value, W: IndexMapWidth, P: PairOf<&'a [u8], u64>>(
         WritesTextIndex w V.spec V.encoding (map P.pair_of items.now) result }
 {
     let pairs = text_items::pairs_of::<V, P>(alloc, items)?;
-    match to_bytes_in::<W, OrderedPairs<&str, V>>(alloc, &OrderedPairs(pairs)) {
-        Ok(archive) => Ok(archive),
-        Err(error) => Err(write_status(&error)),
-    }
+    or_status(to_bytes_in::<W, _>(alloc, &OrderedPairs(pairs)))
 }
 
 /// Writes the archive of the items in the form.

@@ -9,7 +9,7 @@ ghost use Rattle.ffi_calls.specs.{WritesNumberTextIndex, index_width};
 use crate::building::{Built, leak_into};
 use crate::pairs::PairOf;
 use crate::reading::NumberKey;
-use crate::status::write_status;
+use crate::status::or_status;
 use crate::{numbers_to_texts_items, texts_to_texts_items};
 use rkyv_base::root::to_bytes_in;
 use rkyv_base::width::{Narrow, Wide};
@@ -26,10 +26,7 @@ fn number_texts_in<'a, K: NumberKey, W: IndexMapWidth, P: PairOf<K, &'a [u8]>>(
         WritesNumberTextIndex K.NumberKey w (map P.pair_of items.now) result }
 {
     let pairs = numbers_to_texts_items::pairs_of::<K, P>(alloc, items)?;
-    match to_bytes_in::<W, OrderedPairs<K, &str>>(alloc, &OrderedPairs(pairs)) {
-        Ok(archive) => Ok(archive),
-        Err(error) => Err(write_status(&error)),
-    }
+    or_status(to_bytes_in::<W, _>(alloc, &OrderedPairs(pairs)))
 }
 
 /// Writes the archive of the items, narrow or wide.
@@ -82,10 +79,7 @@ fn text_texts_in<'a, W: IndexMapWidth, P: PairOf<&'a [u8], &'a [u8]>>(
         (TextTextIndexWriteFails w (map P.pair_of items.now)) }
 {
     let pairs = texts_to_texts_items::pairs_of::<P>(alloc, items)?;
-    match to_bytes_in::<W, OrderedPairs<&str, &str>>(alloc, &OrderedPairs(pairs)) {
-        Ok(archive) => Ok(archive),
-        Err(error) => Err(write_status(&error)),
-    }
+    or_status(to_bytes_in::<W, _>(alloc, &OrderedPairs(pairs)))
 }
 
 /// Writes the archive of the items, narrow or wide.

@@ -13,6 +13,7 @@ use crate::value::Value;
 use rkyv_base::element::Represents;
 use rkyv_base::view::{View, found_pos};
 use rkyv_base::width::Width;
+use rkyv_collections::map::HashMapOf;
 use rkyv_collections::map::in_place::set_value_of;
 use rkyv_collections::map::laws::lookups_find_listed;
 use rkyv_collections::{FxHasher64, KeyElement, NativeKey};
@@ -110,7 +111,7 @@ pub(crate) fn set_in<A: NativeKey<K>, K: KeyElement + Represents<A>, V: Value, W
         Some(number) => number,
         None => return VALUE_TOO_LARGE,
     };
-    let root = root_of::<K, V, W>(&*archive);
+    let root = root_of::<HashMapOf<K, V, FxHasher64, W>, W>(&*archive);
     let found = set_value_of::<A, K, V, FxHasher64, W>(archive, root, key, number);
     status_of(found)
 }

@@ -4,11 +4,11 @@ ghost use Rattle.std.specs.Prelude.{MatchResult, map};
 ghost use Rattle.ffi_calls.specs.{ArchiveOfNumbersFails, ArePairsOfNumbers, IsArchiveOfNumbers};
 ghost use Rattle.ffi_calls.specs.{Outputs, PairsOfNumbersFail, WritesNumbers, archive_width};
 
-use crate::building::{Built, archive_of, leak_into};
+use crate::building::{Built, archive_of, leak_into, reserved};
 use crate::form::Form;
 use crate::pairs::PairOf;
 use crate::reading::NumberKey;
-use crate::status::{NO_MEMORY, VALUE_TOO_LARGE, write_status};
+use crate::status::{VALUE_TOO_LARGE, or_status};
 use crate::value::Value;
 use rkyv_base::width::{Narrow, Wide, Width};
 use std::alloc::Global;
@@ -21,20 +21,11 @@ pub(crate) fn pairs_of<K: Copy, V: Value, P: PairOf<K, u64>>(
     ensures { MatchResult result (λ pairs. ArePairsOfNumbers V.encoding (map P.pair_of items.now)
         pairs.items) (PairsOfNumbersFail V.encoding (map P.pair_of items.now)) }
 {
-    let mut pairs = match Vec::with_capacity(alloc, items.len()) {
-        Ok(pairs) => pairs,
-        Err(_) => return Err(NO_MEMORY),
-    };
+    let mut pairs = reserved(alloc, items.len())?;
     for item in items {
         let item = item.pair();
-        let value = match V::of_number(item.value) {
-            Some(value) => value,
-            None => return Err(VALUE_TOO_LARGE),
-        };
-        match pairs.push((item.key, value)) {
-            Ok(()) => {}
-            Err(_) => return Err(NO_MEMORY),
-        }
+        let value = V::of_number(item.value).ok_or(VALUE_TOO_LARGE)?;
+        pairs.push_reserved((item.key, value));
     }
     Ok(pairs)
 }
@@ -48,10 +39,7 @@ fn archive_in<K: NumberKey, V: Value, W: Width, P: PairOf<K, u64>>(
         (map P.pair_of items.now) result }
 {
     let pairs = pairs_of::<K, V, P>(alloc, items)?;
-    match archive_of::<K, V, W>(alloc, pairs.as_slice()) {
-        Ok(archive) => Ok(archive),
-        Err(error) => Err(write_status(&error)),
-    }
+    or_status(archive_of::<K, V, W>(alloc, pairs.as_slice()))
 }
 
 /// Writes the archive of the items in the form.

@@ -16,7 +16,7 @@ use crate::explanation::{Explanation, explain_map};
 use crate::pairs::StepOf;
 use crate::reading::NumberKey;
 use crate::sets::{contains_in, set_archive_of};
-use crate::status::write_status;
+use crate::status::or_status;
 use crate::walk::next_pairs_in;
 use rkyv_base::width::{Narrow, Wide, Width};
 use rkyv_table::table::decoded::Decoded;
@@ -132,10 +132,7 @@ fn archive_in<K: NumberKey, W: Width>(alloc: Global, items: &[K]) -> Result<Vec<
         (λ v. NumberSetWriteOk K.NumberKey (archive_width W.Width) items.now
         v.items) (NumberSetWriteFails K.NumberKey (archive_width W.Width) items.now) }
 {
-    match set_archive_of::<K, W>(alloc, items) {
-        Ok(archive) => Ok(archive),
-        Err(error) => Err(write_status(&error)),
-    }
+    or_status(set_archive_of::<K, W>(alloc, items))
 }
 
 /// Writes the archive of the items, narrow or wide.

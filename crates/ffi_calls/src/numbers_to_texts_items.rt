@@ -5,10 +5,10 @@ ghost use Rattle.ffi_calls.specs.{ArchiveOfNumberTextsFails, AreNumberTexts};
 ghost use Rattle.ffi_calls.specs.{IsArchiveOfNumberTexts, NumberTextsFail, NumberTextsWriteFails};
 ghost use Rattle.ffi_calls.specs.{NumberTextsWriteOk, Outputs, archive_width};
 
-use crate::building::{Built, archive_of, leak_into};
+use crate::building::{Built, archive_of, leak_into, reserved};
 use crate::pairs::PairOf;
 use crate::reading::NumberKey;
-use crate::status::{NO_MEMORY, NOT_TEXT, write_status};
+use crate::status::{NOT_TEXT, or_status};
 use crate::texts::text_of;
 use rkyv_base::width::{Narrow, Wide, Width};
 use std::alloc::Global;
@@ -21,20 +21,11 @@ pub(crate) fn pairs_of<'a, K: Copy, P: PairOf<K, &'a [u8]>>(
     ensures { MatchResult result (λ pairs. AreNumberTexts (map P.pair_of items.now) pairs.items)
         (NumberTextsFail (map P.pair_of items.now)) }
 {
-    let mut pairs = match Vec::with_capacity(alloc, items.len()) {
-        Ok(pairs) => pairs,
-        Err(_) => return Err(NO_MEMORY),
-    };
+    let mut pairs = reserved(alloc, items.len())?;
     for item in items {
         let item = item.pair();
-        let value = match text_of(item.value) {
-            Some(value) => value,
-            None => return Err(NOT_TEXT),
-        };
-        match pairs.push((item.key, value)) {
-            Ok(()) => {}
-            Err(_) => return Err(NO_MEMORY),
-        }
+        let value = text_of(item.value).ok_or(NOT_TEXT)?;
+        pairs.push_reserved((item.key, value));
     }
     Ok(pairs)
 }
@@ -50,10 +41,7 @@ fn archive_in<'a, K: NumberKey, W: Width, P: PairOf<K, &'a [u8]>>(
         (NumberTextsWriteFails K.NumberKey w (map P.pair_of items.now)) }
 {
     let pairs = pairs_of::<K, P>(alloc, items)?;
-    match archive_of::<K, &str, W>(alloc, pairs.as_slice()) {
-        Ok(archive) => Ok(archive),
-        Err(error) => Err(write_status(&error)),
-    }
+    or_status(archive_of::<K, &str, W>(alloc, pairs.as_slice()))
 }
 
 /// Writes the archive of the items, narrow or wide.

@@ -57,9 +57,5 @@ where
     ensures err { IfErr result (SetArchiveFails (archive_width W.Width)
         (fx_key_format A.Archived.spec A.format A.calls) items.now) }
 {
-    let set: SetItems<'_, A> = SetItems::new(items);
-    match to_bytes_in::<W, SetItems<'_, A>>(alloc, &set) {
-        Ok(archive) => Ok(archive),
-        Err(error) => Err(error),
-    }
+    to_bytes_in::<W, SetItems<'_, A>>(alloc, &SetItems::new(items))
 }

@@ -1,6 +1,6 @@
 //! The statuses that calls return.
 
-ghost use Rattle.std.specs.Prelude.{◌≡◌};
+ghost use Rattle.std.specs.Prelude.{Err, MatchResult, Ok, ◌≡◌};
 ghost use Rattle.ffi_calls.specs.{container_status, verify_status, write_status};
 
 use rkyv_base::errors::{VerifyError, WriteError};
@@ -47,7 +47,7 @@ pub(crate) fn verify_status(error: &VerifyError) -> u32
 
 /// Returns the status of a write error: `NO_MEMORY`, or 23 to 29.
 #[tactic(auto, unfolding(crate::specs::Status::write_status))]
-pub(crate) fn write_status(error: &WriteError<NoMemory>) -> u32
+fn write_status(error: &WriteError<NoMemory>) -> u32
     ensures { result ≡ write_status error.now }
 {
     match error {
@@ -61,6 +61,13 @@ pub(crate) fn write_status(error: &WriteError<NoMemory>) -> u32
         WriteError::InvalidLoadFactor { .. } => 28,
         WriteError::IteratorLengthMismatch(_) => 29,
     }
+}
+
+/// Returns the archive that was written, or the status of the write error.
+pub(crate) fn or_status(archive: Result<Vec<u8>, WriteError<NoMemory>>) -> Result<Vec<u8>, u32>
+    ensures { MatchResult archive (λ v. result ≡ Ok v) (λ e. result ≡ Err (write_status e)) }
+{
+    archive.map_err(|error| write_status(&error))
 }
 
 /// Returns the status of a container's error: 32 to 47.

@@ -4,10 +4,10 @@ ghost use Rattle.std.specs.Prelude.{MatchResult, map};
 ghost use Rattle.ffi_calls.specs.{ArchiveOfTextsFails, ArePairsOfTexts, IsArchiveOfTexts, Outputs};
 ghost use Rattle.ffi_calls.specs.{PairsOfTextsFail, TextsWriteFails, TextsWriteOk, archive_width};
 
-use crate::building::{Built, archive_of, leak_into};
+use crate::building::{Built, archive_of, leak_into, reserved};
 use crate::form::Form;
 use crate::pairs::PairOf;
-use crate::status::{NO_MEMORY, NOT_TEXT, VALUE_TOO_LARGE, write_status};
+use crate::status::{NOT_TEXT, VALUE_TOO_LARGE, or_status};
 use crate::texts::text_of;
 use crate::value::Value;
 use rkyv_base::width::{Narrow, Wide, Width};
@@ -21,24 +21,12 @@ pub(crate) fn pairs_of<'a, V: Value, P: PairOf<&'a [u8], u64>>(
     ensures { MatchResult result (λ pairs. ArePairsOfTexts V.encoding (map P.pair_of items.now)
         pairs.items) (PairsOfTextsFail V.encoding (map P.pair_of items.now)) }
 {
-    let mut pairs = match Vec::with_capacity(alloc, items.len()) {
-        Ok(pairs) => pairs,
-        Err(_) => return Err(NO_MEMORY),
-    };
+    let mut pairs = reserved(alloc, items.len())?;
     for item in items {
         let item = item.pair();
-        let key = match text_of(item.key) {
-            Some(key) => key,
-            None => return Err(NOT_TEXT),
-        };
-        let value = match V::of_number(item.value) {
-            Some(value) => value,
-            None => return Err(VALUE_TOO_LARGE),
-        };
-        match pairs.push((key, value)) {
-            Ok(()) => {}
-            Err(_) => return Err(NO_MEMORY),
-        }
+        let key = text_of(item.key).ok_or(NOT_TEXT)?;
+        let value = V::of_number(item.value).ok_or(VALUE_TOO_LARGE)?;
+        pairs.push_reserved((key, value));
     }
     Ok(pairs)
 }
@@ -53,10 +41,7 @@ fn archive_in<'a, V: Value, W: Width, P: PairOf<&'a [u8], u64>>(
         (TextsWriteFails w V.spec V.encoding (map P.pair_of items.now)) }
 {
     let pairs = pairs_of::<V, P>(alloc, items)?;
-    match archive_of::<&str, V, W>(alloc, pairs.as_slice()) {
-        Ok(archive) => Ok(archive),
-        Err(error) => Err(write_status(&error)),
-    }
+    or_status(archive_of::<&str, V, W>(alloc, pairs.as_slice()))
 }
 
 /// Writes the archive of the items in the form.

@@ -4,9 +4,9 @@ ghost use Rattle.std.specs.Prelude.{MatchResult};
 ghost use Rattle.ffi_calls.specs.{ArchiveOfTextSetFails, AreSetTexts, IsArchiveOfTextSet, Outputs};
 ghost use Rattle.ffi_calls.specs.{SetTextsFail, TextSetWriteFails, TextSetWriteOk, archive_width};
 
-use crate::building::{Built, leak_into};
+use crate::building::{Built, leak_into, reserved};
 use crate::sets::set_archive_of;
-use crate::status::{NO_MEMORY, NOT_TEXT, write_status};
+use crate::status::{NOT_TEXT, or_status};
 use crate::texts::text_of;
 use rkyv_base::width::{Narrow, Wide, Width};
 use std::alloc::Global;
@@ -24,19 +24,10 @@ fn texts_of<'a>(alloc: Global, items: &[SetText<'a>]) -> Result<Vec<&'a str>, u3
     ensures { MatchResult result (λ texts. AreSetTexts items.now texts.items)
         (SetTextsFail items.now) }
 {
-    let mut texts = match Vec::with_capacity(alloc, items.len()) {
-        Ok(texts) => texts,
-        Err(_) => return Err(NO_MEMORY),
-    };
+    let mut texts = reserved(alloc, items.len())?;
     for item in items {
-        let text = match text_of(item.text) {
-            Some(text) => text,
-            None => return Err(NOT_TEXT),
-        };
-        match texts.push(text) {
-            Ok(()) => {}
-            Err(_) => return Err(NO_MEMORY),
-        }
+        let text = text_of(item.text).ok_or(NOT_TEXT)?;
+        texts.push_reserved(text);
     }
     Ok(texts)
 }
@@ -47,10 +38,7 @@ fn archive_in<W: Width>(alloc: Global, items: &[SetText<'_>]) -> Result<Vec<u8>,
         (TextSetWriteFails (archive_width W.Width) items.now) }
 {
     let texts = texts_of(alloc, items)?;
-    match set_archive_of::<&str, W>(alloc, texts.as_slice()) {
-        Ok(archive) => Ok(archive),
-        Err(error) => Err(write_status(&error)),
-    }
+    or_status(set_archive_of::<&str, W>(alloc, texts.as_slice()))
 }
 
 /// Writes the archive of the items, narrow or wide.

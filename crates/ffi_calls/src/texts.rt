@@ -26,20 +26,14 @@ pub(crate) fn text_of(bytes: &[u8]) -> Option<&str>
     ensures { MatchOption result (IsUtf8 bytes.now → ⊥)
         (λ text. IsUtf8 bytes.now × (text.now ≡ bytes.now)) }
 {
-    match str::from_utf8(bytes) {
-        Ok(text) => Some(text),
-        Err(_) => None,
-    }
+    str::from_utf8(bytes).ok()
 }
 
 /// Returns whether the bytes are a text: UTF-8.
 pub fn is_text(bytes: &[u8]) -> bool
     ensures { IsTrue result ↔ IsUtf8 bytes.now }
 {
-    match text_of(bytes) {
-        Some(_) => true,
-        None => false,
-    }
+    text_of(bytes).is_some()
 }
 
 /// Validates the archive of a map of texts.

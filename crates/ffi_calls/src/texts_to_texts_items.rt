@@ -5,9 +5,9 @@ ghost use Rattle.ffi_calls.specs.{ArchiveOfTextTextsFails, AreTextTexts, IsArchi
 ghost use Rattle.ffi_calls.specs.{Outputs, TextTextsFail, TextTextsWriteFails, TextTextsWriteOk};
 ghost use Rattle.ffi_calls.specs.{archive_width};
 
-use crate::building::{Built, archive_of, leak_into};
+use crate::building::{Built, archive_of, leak_into, reserved};
 use crate::pairs::PairOf;
-use crate::status::{NO_MEMORY, NOT_TEXT, write_status};
+use crate::status::{NOT_TEXT, or_status};
 use crate::texts::text_of;
 use rkyv_base::width::{Narrow, Wide, Width};
 use std::alloc::Global;
@@ -20,24 +20,12 @@ pub(crate) fn pairs_of<'a, P: PairOf<&'a [u8], &'a [u8]>>(
     ensures { MatchResult result (λ pairs. AreTextTexts (map P.pair_of items.now) pairs.items)
         (TextTextsFail (map P.pair_of items.now)) }
 {
-    let mut pairs = match Vec::with_capacity(alloc, items.len()) {
-        Ok(pairs) => pairs,
-        Err(_) => return Err(NO_MEMORY),
-    };
+    let mut pairs = reserved(alloc, items.len())?;
     for item in items {
         let item = item.pair();
-        let key = match text_of(item.key) {
-            Some(key) => key,
-            None => return Err(NOT_TEXT),
-        };
-        let value = match text_of(item.value) {
-            Some(value) => value,
-            None => return Err(NOT_TEXT),
-        };
-        match pairs.push((key, value)) {
-            Ok(()) => {}
-            Err(_) => return Err(NO_MEMORY),
-        }
+        let key = text_of(item.key).ok_or(NOT_TEXT)?;
+        let value = text_of(item.value).ok_or(NOT_TEXT)?;
+        pairs.push_reserved((key, value));
     }
     Ok(pairs)
 }
@@ -52,10 +40,7 @@ fn archive_in<'a, W: Width, P: PairOf<&'a [u8], &'a [u8]>>(
         (TextTextsWriteFails w (map P.pair_of items.now)) }
 {
     let pairs = pairs_of::<P>(alloc, items)?;
-    match archive_of::<&str, &str, W>(alloc, pairs.as_slice()) {
-        Ok(archive) => Ok(archive),
-        Err(error) => Err(write_status(&error)),
-    }
+    or_status(archive_of::<&str, &str, W>(alloc, pairs.as_slice()))
 }
 
 /// Writes the archive of the items, narrow or wide.

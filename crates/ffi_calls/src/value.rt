@@ -18,10 +18,7 @@ pub(crate) trait Value: Scalar {
 impl Value for u32 {
     #[inline]
     fn of_number(number: u64) -> Option<u32> {
-        if number < 0x1_0000_0000 {
-            return Some(number as u32);
-        }
-        None
+        u32::try_from(number).ok()
     }
 }
 

@@ -1,10 +1,11 @@
+use Rattle.std.proofs.lemmas.Result.{MatchResult-weaker}
 use Rattle.ffi_calls.specs.{ArchiveFails, IsArchiveOf}
 use Rattle.ffi_calls.proofs.building.archive_of.Goals as goal
 
-pub returns-in-Ok-clause-ok : goal.returns-in-Ok-clause-ok
+pub returns-clause-ok : goal.returns-clause-ok
 unfolding IsArchiveOf
-returns-in-Ok-clause-ok g c = rw c.new-pairs.ensures.load_factor at (rw c.new-pairs.ensures.pairs at c.in-Ok.ensures)
+returns-clause-ok g c = MatchResult-weaker c.to_bytes_in.result (rw c.new.ensures.load_factor at (rw c.new.ensures.pairs at c.to_bytes_in.ensures)) (λ v written. written) (λ e fails. tt)
 
-pub returns-in-Err-clause-err : goal.returns-in-Err-clause-err
+pub returns-clause-err : goal.returns-clause-err
 unfolding ArchiveFails
-returns-in-Err-clause-err g c = rw c.new-pairs.ensures.load_factor at (rw c.new-pairs.ensures.pairs at c.in-Err.ensures)
+returns-clause-err g c = MatchResult-weaker c.to_bytes_in.result (rw c.new.ensures.load_factor at (rw c.new.ensures.pairs at c.to_bytes_in.ensures)) (λ v written. tt) (λ e fails. fails)

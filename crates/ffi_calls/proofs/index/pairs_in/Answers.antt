@@ -15,13 +15,13 @@ loop-count-preserved g c =
     let key = g.K.StoredAs.reads in
     let value = g.V.StoredAs.reads in
     let m = index_in g.W.Word.word g.K.HasSpec.spec g.V.HasSpec.spec c.args.archive.now in
-    let there = of_same_map (λ n. IsIndexPair n key value (c.args.from + c.loop-count.count) c.in-Some.pair) g.W.Word.word g.K.HasSpec.spec g.V.HasSpec.spec _ _ _ _ c.index_of-map.ensures.bytes c.index_of-map.ensures.pos c.in-Some.ensures.1 in
+    let there = of_same_map (λ n. IsIndexPair n key value (c.args.from + c.loop-count.count) c.unwrap.result) g.W.Word.word g.K.HasSpec.spec g.V.HasSpec.spec _ _ _ _ c.index_of-map.ensures.bytes c.index_of-map.ensures.pos (rw c.unwrap.ensures at c.pair_of.ensures).1 in
     let of = g.P.PairOf.pair_of in
     let n = c.loop-count.count in
     let room = length-map c.args.pairs.now of in
     let small : n < length (map of c.args.pairs.now) = omega (arith, room, c.loop-count-test.true, c.min-number.ensures) in
-    let stored : map of (slice_set c.loop-count.pairs n c.of_pair.result) ≡ slice_set (map of c.loop-count.pairs) n c.in-Some.pair = map-set of c.loop-count.pairs n c.of_pair.result ∙ ap (slice_set (map of c.loop-count.pairs) n) c.of_pair.ensures in
-    subst (Stored (IsIndexPair m key value) c.args.from (map of c.args.pairs.now) (n + 1)) (sym stored) (one_stored (IsIndexPair m key value) c.args.from (map of c.args.pairs.now) n (map of c.loop-count.pairs) c.in-Some.pair small c.loop-count.invariant there)
+    let stored : map of (slice_set c.loop-count.pairs n c.of_pair.result) ≡ slice_set (map of c.loop-count.pairs) n c.unwrap.result = map-set of c.loop-count.pairs n c.of_pair.result ∙ ap (slice_set (map of c.loop-count.pairs) n) c.of_pair.ensures in
+    subst (Stored (IsIndexPair m key value) c.args.from (map of c.args.pairs.now) (n + 1)) (sym stored) (one_stored (IsIndexPair m key value) c.args.from (map of c.args.pairs.now) n (map of c.loop-count.pairs) c.unwrap.result small c.loop-count.invariant there)
 
 pub returns-clause-stores : goal.returns-clause-stores
 returns-clause-stores g c =

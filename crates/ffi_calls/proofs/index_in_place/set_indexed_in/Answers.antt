@@ -16,15 +16,15 @@ pub returns-clause-kept : goal.returns-clause-kept
 returns-clause-kept g c =
     let set = c.set_value_at in
     let same : length set.new.archive ≡ length c.args.archive.now = omega (arith, set.auto.archive) in
-    accepted_again g.W.Width.LIMIT (index_map g.W.Word.word g.K.HasSpec.spec g.V.HasSpec.spec) c.args.archive.now set.new.archive c.index_root_of-root.result c.requires.archive c.index_root_of-root.ensures.at same set.ensures.kept.valid
+    accepted_again g.W.Width.LIMIT (index_map g.W.Word.word g.K.HasSpec.spec g.V.HasSpec.spec) c.args.archive.now set.new.archive c.root_of-root.result c.requires.archive c.root_of-root.ensures.at same set.ensures.kept.valid
 
 pub returns-clause-header : goal.returns-clause-header
 returns-clause-header g c = λ header is.
     let w = g.W.Word.word in
     let b = c.args.archive.now in
     let set = c.set_value_at in
-    let p = c.index_root_of-root.result in
-    let at = c.index_root_of-root.ensures.at in
+    let p = c.root_of-root.result in
+    let at = c.root_of-root.ensures.at in
     let same : length set.new.archive ≡ length b = omega (arith, set.auto.archive) in
     let agree = agree_on_part b set.new.archive p (p + 4 * byte_len w) p (p + 3 * byte_len w) (omega arith) (omega arith) (omega arith) set.ensures.kept.entries.header in
     let here = subst (λ q. IsDecoded w b q header) (sym at) is in
@@ -39,7 +39,7 @@ returns-clause-sets g c =
     let b = c.args.archive.now in
     let set = c.set_value_at in
     let m = index_in w k v b in
-    let written = subst (λ (q : ℕ). set.new.archive ≡ with_value e b (value_pos k v (pair_pos w (entry_spec k v).size b q c.in-Some-index_found_in.index)) c.in-Some.number) c.index_root_of-root.ensures.at set.ensures.written in
+    let written = subst (λ (q : ℕ). set.new.archive ≡ with_value e b (value_pos k v (pair_pos w (entry_spec k v).size b q c.in-Some-index_found_in.index)) c.in-Some.number) c.root_of-root.ensures.at set.ensures.written in
     let done : ℕ = 0 in
     let OverwritesAt : Option ℕ → Type 0 = λ at. MatchOption (option_map (value_pos_at m) at) ((done ≡ 1) × (set.new.archive ≡ b)) (λ q. (done ≡ 0) × (set.new.archive ≡ with_value e b q c.in-Some.number)) in
     let overwrites = subst OverwritesAt c.in-Some-index_found_in.ensures.found (refl, written) in
@@ -54,7 +54,7 @@ returns-clause-listed g c = λ factor pairs represents.
     let set = c.set_value_at in
     let i = c.in-Some-index_found_in.index in
     let Represents : List ℕ → ℕ → List (g.row.A.Denot × g.row.V.Denot) → Type 0 = λ d r ps. IndexRepresents w k v g.K.Represents.represents (ScalarRepresents g.V.Scalar.encoding) (hash_at (fx_hasher low_halves) g.K.KeyElement.key_calls) factor d r ps in
-    let at = c.index_root_of-root.ensures.at in
+    let at = c.root_of-root.ensures.at in
     let same : length set.new.archive ≡ length b = omega (arith, set.auto.archive) in
     let first = c.in-Some-index_found_in.ensures.first factor pairs represents in
     let after = set.ensures.listed factor pairs first.0.0 (subst (λ p. Represents b p pairs) (sym at) represents) first.0.1 in

@@ -1,11 +1,8 @@
-use Rattle.std.proofs.Common.{inl, inr}
+use Rattle.std.proofs.Common.{inl, inr, refl}
 use Rattle.std.proofs.lemmas.Result.{err_from_is_err_and}
 use Rattle.ffi_calls.specs.{IndexFails, IsIndexOf}
+use Rattle.ffi_calls.proofs.Results.{status_of}
 use Rattle.ffi_calls.proofs.index_items.numbers_in.Goals as goal
-
-pub returns-in-Ok : goal.returns-in-Ok
-unfolding IsIndexOf
-returns-in-Ok g c = (c.in_ok-pairs.pairs.items, c.in_ok-pairs.ensures, c.in-Ok.ensures)
 
 pub returns-in_err-pairs : goal.returns-in_err-pairs
 unfolding IndexFails
@@ -14,5 +11,7 @@ returns-in_err-pairs g c =
     rw (p.1, p.2) (inl c.in_err-pairs.ensures)
 
 pub returns : goal.returns
-unfolding IndexFails
-returns g c = inr (c.in_ok-pairs.pairs.items, c.in-Err.error, c.in_ok-pairs.ensures, c.in-Err.ensures, c.write_status.ensures)
+unfolding IndexFails IsIndexOf
+returns g c =
+    let pairs = c.in_ok-pairs in
+    status_of c.to_bytes_in.result c.or_status.result _ c.or_status.ensures c.to_bytes_in.ensures (λ v is. (pairs.pairs.items, pairs.ensures, is)) (λ e fails. inr (pairs.pairs.items, e, pairs.ensures, fails, refl))

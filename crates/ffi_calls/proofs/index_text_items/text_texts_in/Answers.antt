@@ -1,11 +1,10 @@
-use Rattle.std.proofs.Common.{inr}
+use Rattle.std.proofs.Common.{inr, refl}
 use Rattle.ffi_calls.specs.{IndexFails, IsIndexOf}
+use Rattle.ffi_calls.proofs.Results.{status_of}
 use Rattle.ffi_calls.proofs.index_text_items.text_texts_in.Goals as goal
 
-pub returns-in-Ok : goal.returns-in-Ok
-unfolding IsIndexOf
-returns-in-Ok g c = (c.in_ok-pairs.pairs.items, c.in_ok-pairs.ensures, c.in-Ok.ensures)
-
 pub returns : goal.returns
-unfolding IndexFails
-returns g c = inr (c.in_ok-pairs.pairs.items, c.in-Err.error, c.in_ok-pairs.ensures, c.in-Err.ensures, c.write_status.ensures)
+unfolding IndexFails IsIndexOf
+returns g c =
+    let pairs = c.in_ok-pairs in
+    status_of c.to_bytes_in.result c.or_status.result _ c.or_status.ensures c.to_bytes_in.ensures (λ v is. (pairs.pairs.items, pairs.ensures, is)) (λ e fails. inr (pairs.pairs.items, e, pairs.ensures, fails, refl))
