@@ -19,6 +19,7 @@ pub mod contents;
 pub mod errors;
 mod fields;
 pub mod header;
+pub mod laws;
 
 pub use checksum::adler32;
 pub use container::{open, open_as, seal};
