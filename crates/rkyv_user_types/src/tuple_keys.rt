@@ -5,18 +5,20 @@ ghost use Rattle.std.specs.Cmp.{and_equiv, and_per, on_equiv, on_per};
 ghost use Rattle.rkyv_base.specs.{AtView, IsValidView, entry_spec};
 ghost use Rattle.rkyv_keys.specs.{BothRead, Deserializes, at_view, entry_deserialize_fails};
 ghost use Rattle.rkyv_keys.specs.{entry_fits, pair_calls};
-ghost use Rattle.rkyv_keys.specs.Lemmas.OfEntries.{entry_query};
-ghost use Rattle.rkyv_keys.specs.Lemmas.OfEntries.{entry_fits_its_equal};
+ghost use Rattle.rkyv_keys.specs.Lemmas.OfEntries.{entry_equals_once, entry_fits_its_equal};
+ghost use Rattle.rkyv_keys.specs.Lemmas.OfEntries.{entry_once, entry_query};
 ghost use Rattle.rkyv_user_types.specs.{RepresentsAsPair, equals_as};
-ghost use Rattle.rkyv_user_types.specs.Lemmas.Wrapped.{query_as};
+ghost use Rattle.rkyv_user_types.specs.Lemmas.Wrapped.{pair_as_format, query_as};
 
 use crate::tuple::{AsTuple, FromTuple, TupleEntry};
+use rkyv_base::archive::Archive;
 use rkyv_base::element::Represents;
 use rkyv_base::entry::Entry;
 use rkyv_base::errors::ReadError;
 use rkyv_base::view::View;
+use rkyv_base::width::Width;
 use rkyv_keys::deserialize::Deserialize;
-use rkyv_keys::equality::MatchesNative;
+use rkyv_keys::equality::{EqualsUniquely, EqualsWritten, MatchesNative, RepresentsUniquely};
 use rkyv_keys::hash::KeyHash;
 use rkyv_keys::keys::{KeyElement, NativeKey, Query};
 use rkyv_scan::hash::KeyHasher;
@@ -106,6 +108,42 @@ impl<
     {
         Entry::<K, V>::eq_native(view, &value.0.tuple())
     }
+}
+
+impl<
+    W: Width,
+    A: EqualsWritten<W> + Drop,
+    B: EqualsWritten<W> + Drop,
+    T: AsTuple<First = A, Second = B>,
+> EqualsWritten<W> for TupleEntry<T>
+where
+    A::Archived: MatchesNative<A>,
+    B::Archived: MatchesNative<B>,
+{
+    ghost equal = { pair_as_format (λ x. T.tuple x.0) A.Archived.laws B.Archived.laws A.equal
+        B.equal };
+}
+
+impl<
+    A: PartialEq + Drop,
+    B: PartialEq + Drop,
+    T: AsTuple<First = A, Second = B>,
+    K: EqualsUniquely<A>,
+    V: EqualsUniquely<B>,
+> EqualsUniquely<TupleEntry<T>> for Entry<K, V> {
+    ghost once = { λ x y. entry_equals_once K.laws V.laws K.represents V.represents K.equals
+        V.equals A.eq B.eq K.once V.once (T.tuple x.0) (T.tuple y.0) };
+}
+
+impl<
+    A: PartialEq + Drop,
+    B: PartialEq + Drop,
+    T: AsTuple<First = A, Second = B>,
+    K: RepresentsUniquely<A>,
+    V: RepresentsUniquely<B>,
+> RepresentsUniquely<TupleEntry<T>> for Entry<K, V> {
+    ghost once = { λ x y. entry_once K.laws V.laws K.represents V.represents A.eq B.eq K.once
+        V.once (T.tuple x.0) (T.tuple y.0) };
 }
 
 impl<
