@@ -5,6 +5,7 @@
 //! - `FromPair` and `FromTuple` are for deserialization.
 #![tactic(auto)]
 
+pub mod laws;
 pub mod pair;
 pub mod pair_keys;
 pub mod tuple;

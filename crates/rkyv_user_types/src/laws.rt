@@ -1,0 +1,93 @@
+//! Laws of `PairEntry` and `TupleEntry`.
+//!
+//! They say by which parts a value is archived, represented and hashed, and with which errors
+//! it fails to deserialize.
+
+ghost use Rattle.rkyv_base.specs.{SameFormat, SameValues, pair_format, written_as};
+ghost use Rattle.rkyv_keys.specs.{entry_deserialize_fails};
+ghost use Rattle.rkyv_user_types.specs.{RepresentsAsPair};
+ghost use Rattle.std.specs.Prelude.{List, ℕ, ◌++◌, ◌↔◌, ◌≡◌};
+
+use crate::pair::{AsPair, FromPair, PairEntry};
+use crate::tuple::{AsTuple, FromTuple, TupleEntry};
+use rkyv_base::archive::Archive;
+use rkyv_base::element::Represents;
+use rkyv_base::entry::Entry;
+use rkyv_base::errors::ReadError;
+use rkyv_base::width::Width;
+use rkyv_keys::deserialize::Deserialize;
+use rkyv_keys::hash::KeyHash;
+
+/// States that a `PairEntry` is archived and represented as the pair of its parts.
+pub fn pairs_are_archived_as_their_parts<
+    W: Width,
+    A: Archive<W>,
+    B: Archive<W>,
+    T: AsPair<First = A, Second = B>,
+>()
+    ensures values { SameValues
+        ⟦<Entry<A::Archived, B::Archived> as Represents<PairEntry<T>>>⟧.represents
+        (RepresentsAsPair A.Archived.spec B.Archived.spec A.Archived.represents
+        B.Archived.represents (λ x. T.pair x.0)) }
+    ensures bytes { SameFormat ⟦<PairEntry<T> as Archive<W>>⟧.format
+        (written_as (λ x. T.pair x.0)
+        (pair_format A.Archived.spec B.Archived.spec A.format B.format)) }
+{}
+
+/// States that a `PairEntry` is hashed by the calls of its first part, and then of its second.
+pub fn pairs_hash_as_their_parts<A: KeyHash, B: KeyHash, T: AsPair<First = A, Second = B>>()
+    ensures { (x : _) → ⟦<PairEntry<T> as KeyHash>⟧.calls x
+        ≡ A.calls (T.pair x.0).0 ++ B.calls (T.pair x.0).1 }
+{}
+
+/// States that a `PairEntry` fails to deserialize only with the errors of its parts.
+pub fn pairs_fail_as_their_parts<
+    A: Drop,
+    B,
+    T: FromPair<First = A, Second = B>,
+    K: Deserialize<A>,
+    V: Deserialize<B>,
+>()
+    ensures { (b : List ℕ) (p : ℕ) (e : ReadError)
+        → ⟦<Entry<K, V> as Deserialize<PairEntry<T>>>⟧.deserialize_fails b p e
+        ↔ entry_deserialize_fails K.spec V.spec K.deserialize_fails V.deserialize_fails b p e }
+{}
+
+/// States that a `TupleEntry` is archived and represented as the pair of its parts.
+pub fn tuples_are_archived_as_their_parts<
+    W: Width,
+    A: Archive<W> + Drop,
+    B: Archive<W> + Drop,
+    T: AsTuple<First = A, Second = B>,
+>()
+    ensures values { SameValues
+        ⟦<Entry<A::Archived, B::Archived> as Represents<TupleEntry<T>>>⟧.represents
+        (RepresentsAsPair A.Archived.spec B.Archived.spec A.Archived.represents
+        B.Archived.represents (λ x. T.tuple x.0)) }
+    ensures bytes { SameFormat ⟦<TupleEntry<T> as Archive<W>>⟧.format
+        (written_as (λ x. T.tuple x.0)
+        (pair_format A.Archived.spec B.Archived.spec A.format B.format)) }
+{}
+
+/// States that a `TupleEntry` is hashed by the calls of its first part, and then of its second.
+pub fn tuples_hash_as_their_parts<
+    A: KeyHash + Drop,
+    B: KeyHash + Drop,
+    T: AsTuple<First = A, Second = B>,
+>()
+    ensures { (x : _) → ⟦<TupleEntry<T> as KeyHash>⟧.calls x
+        ≡ A.calls (T.tuple x.0).0 ++ B.calls (T.tuple x.0).1 }
+{}
+
+/// States that a `TupleEntry` fails to deserialize only with the errors of its parts.
+pub fn tuples_fail_as_their_parts<
+    A: Drop,
+    B,
+    T: FromTuple<First = A, Second = B>,
+    K: Deserialize<A>,
+    V: Deserialize<B>,
+>()
+    ensures { (b : List ℕ) (p : ℕ) (e : ReadError)
+        → ⟦<Entry<K, V> as Deserialize<TupleEntry<T>>>⟧.deserialize_fails b p e
+        ↔ entry_deserialize_fails K.spec V.spec K.deserialize_fails V.deserialize_fails b p e }
+{}
