@@ -9,7 +9,7 @@ use Rattle.std.proofs.lemmas.Option.{slice_get-map, slice_get_cases}
 use Rattle.rkyv_base.specs.{ElementSpec}
 use Rattle.rkyv_table.specs.{AgreesAt, AreUnder, IsFirstOf, IsUnderHash, IsWrittenOf, LookupFindsFirst, hashes_of, home_positions, items_of}
 use Rattle.rkyv_table.proofs.FirstFound.{first_found}
-use Rattle.rkyv_table.proofs.WrittenTables.{home_count, table_written}
+use Rattle.rkyv_table.proofs.WrittenTables.{home_count}
 
 -- the first accepted position is that of the first accepted item
 first_along : {X : Type 0} (represents : List ℕ → ℕ → X → Type 0) (c : List ℕ) (accept : X → Bool) (accept_at : ℕ → Bool) (items : List X) (qs : List ℕ)
@@ -53,9 +53,8 @@ module _ {X : Type 0} (w : Width) (size : ℕ) (represents : List ℕ → ℕ �
   first_at_home = first_along represents c accept accept_at (items_of pairs) positions positions_count written.at agrees
 
 -- a lookup in a written table finds the first accepted item of the list
-pub lookup_finds_first : {X : Type 0} (w : Width) (s : ElementSpec) (represents : List ℕ → ℕ → X → Type 0) (factor : ℕ × ℕ) → LookupFindsFirst w s represents factor
-lookup_finds_first w s represents factor kind c p hash pairs accept accept_at law fits t under agrees =
-    let written = table_written w s represents factor c p pairs t in
+pub lookup_finds_first : {X : Type 0} (w : Width) (s : ElementSpec) (represents : List ℕ → ℕ → X → Type 0) → LookupFindsFirst w s represents
+lookup_finds_first w s represents kind c p hash pairs accept accept_at law fits written under agrees =
     let at : AgreesAt (home_positions w s.size c p written.homes) (items_of pairs) accept accept_at =
     λ i x e. agrees i (slice_index (home_positions w s.size c p written.homes) i) x e (written.at i x e) in
     subst (IsFirstOf represents c accept (items_of pairs))

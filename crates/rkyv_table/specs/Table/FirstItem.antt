@@ -6,7 +6,7 @@ use Rattle.std.specs.List.{All, find}
 use Rattle.rkyv_base.specs.{ElementSpec}
 use Rattle.rkyv_scan.specs.{IsKind, Kind}
 use Rattle.rkyv_table.specs.Table.Positions.{pos_found}
-use Rattle.rkyv_table.specs.Table.TableFormat.{TableRepresents}
+use Rattle.rkyv_table.specs.Table.WrittenTables.{IsWrittenOf}
 use Rattle.rkyv_table.specs.Table.PlacedItems.{items_of}
 
 -- the first accepted item
@@ -35,13 +35,13 @@ IsFirstOf {X} represents c accept items result =
     MatchOption result (first_of accept items ≡ None)
     (λ q. (x : X) × (first_of accept items ≡ Some x) × represents c q x)
 
--- a lookup in a table that represents the pairs finds the first accepted item,
+-- a lookup in a table that was written from the pairs finds the first accepted item,
 -- if each accepted item is under `hash`
-abbrev pub LookupFindsFirst : {X : Type 0} → Width → ElementSpec → (List ℕ → ℕ → X → Type 0) → ℕ × ℕ
+abbrev pub LookupFindsFirst : {X : Type 0} → Width → ElementSpec → (List ℕ → ℕ → X → Type 0)
     → Type 0
-LookupFindsFirst {X} w s represents load_factor =
+LookupFindsFirst {X} w s represents =
     (kind : Kind) (c : List ℕ) (p hash : ℕ) (pairs : List (ℕ × X)) (accept : X → Bool)
     (accept_at : ℕ → Bool) → IsKind kind → hash < 2 ^ 64
-    → TableRepresents w s represents load_factor c p pairs
+    → IsWrittenOf w s.size represents c p pairs
     → AreUnder hash accept pairs → TestsAgree represents c accept (items_of pairs) accept_at
     → IsFirstOf represents c accept (items_of pairs) (pos_found kind w s.size c p hash accept_at)

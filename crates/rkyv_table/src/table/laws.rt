@@ -26,14 +26,12 @@ pub fn walk_visits_homes()
     ensures { WalkVisitsHomes }
 {}
 
-/// States that a lookup in a written table finds the first accepted item of the input pairs.
+/// States that a lookup in a written table finds the first accepted item of its list.
 ///
 /// It returns `None` if and only if no item is accepted. Each accepted item must be under the hash
-/// of the lookup.
+/// of the lookup. After a write in place, the list is that of `items_written_represent`.
 pub fn lookups_find_the_first<W: Width, U: Archive<W>, X: Lend<U>>()
-    ensures { (load_factor : ℕ × ℕ) →
-        LookupFindsFirst W.word U.Archived.spec (RepresentsAs X.lent
-        U.Archived.represents) load_factor }
+    ensures { LookupFindsFirst W.word U.Archived.spec (RepresentsAs X.lent U.Archived.represents) }
 {}
 
 /// States that if items are written in one way, so is a table of them.
