@@ -48,11 +48,10 @@ where
 {
     pairs_read_back_are_listed::<A, B, A::Archived, B::Archived, FxHasher64, W>();
     let bytes = to_bytes_in::<W, OrderedPairs<A, B>>(alloc, pairs)?;
-    let root = match access_in::<W, IndexMapOf<A::Archived, B::Archived, FxHasher64, W>>(
+    let Ok(root) = access_in::<W, IndexMapOf<A::Archived, B::Archived, FxHasher64, W>>(
         bytes.as_slice(),
-    ) {
-        Ok(root) => root,
-        Err(_) => return Ok(false),
+    ) else {
+        return Ok(false);
     };
     let back = ArchivedIndexMap::of(root).deserialize_pairs::<A, B>(alloc)?;
     Ok(pairs.0 == back)
@@ -82,9 +81,8 @@ where
 {
     items_read_back_are_listed::<A, A::Archived, FxHasher64, W>();
     let bytes = to_bytes_in::<W, OrderedItems<A>>(alloc, items)?;
-    let root = match access_in::<W, IndexSetOf<A::Archived, FxHasher64, W>>(bytes.as_slice()) {
-        Ok(root) => root,
-        Err(_) => return Ok(false),
+    let Ok(root) = access_in::<W, IndexSetOf<A::Archived, FxHasher64, W>>(bytes.as_slice()) else {
+        return Ok(false);
     };
     let back = ArchivedIndexSet::of(root).deserialize_items::<A>(alloc)?;
     Ok(items.0 == back)

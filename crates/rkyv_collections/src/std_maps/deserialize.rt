@@ -37,10 +37,8 @@ fn insert_read<K: Deserialize<A>, V: Deserialize<B>, A: Eq + Hash + Drop, B: Dro
 {
     let read = K::deserialize(alloc, key)?;
     let mapped = V::deserialize(alloc, value)?;
-    match map.insert(read, mapped) {
-        Ok(_) => Ok(()),
-        Err(_) => Err(ReadError::Memory),
-    }
+    map.insert(read, mapped)?;
+    Ok(())
 }
 
 impl<'a, K: Element, V: Element, H, W: Width> ArchivedHashMap<'a, K, V, H, W> {

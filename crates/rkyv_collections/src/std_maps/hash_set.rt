@@ -118,10 +118,8 @@ fn insert_read<K: Deserialize<A>, A: Eq + Hash + Drop, T: BuildHasher>(
         (AtView (insert_key_fails K.deserialize_fails) key.entry) }
 {
     let read = K::deserialize(alloc, key)?;
-    match set.insert(read) {
-        Ok(_) => Ok(()),
-        Err(_) => Err(ReadError::Memory),
-    }
+    set.insert(read)?;
+    Ok(())
 }
 
 impl<'a, K: Element, H, W: Width> ArchivedHashSet<'a, K, H, W> {

@@ -46,9 +46,8 @@ where
         M.Archived.deserialize_fails) value.now) }
 {
     let bytes = to_bytes_in::<W, M>(alloc, value)?;
-    let root = match access_in::<W, M::Archived>(bytes.as_slice()) {
-        Ok(root) => root,
-        Err(_) => return Ok(false),
+    let Ok(root) = access_in::<W, M::Archived>(bytes.as_slice()) else {
+        return Ok(false);
     };
     if !M::Archived::eq_native(root, value) {
         return Ok(false);
@@ -85,9 +84,9 @@ where
         ⟦<Hashed<HashMap<A, B, T>, H> as Archive<W>>⟧.format nothing_fails) map.now) }
 {
     let bytes = to_bytes_in::<W, Hashed<HashMap<A, B, T>, H>>(alloc, map)?;
-    let root = match access_in::<W, HashMapOf<A::Archived, B::Archived, H, W>>(bytes.as_slice()) {
-        Ok(root) => root,
-        Err(_) => return Ok(false),
+    let Ok(root) = access_in::<W, HashMapOf<A::Archived, B::Archived, H, W>>(bytes.as_slice())
+    else {
+        return Ok(false);
     };
     Ok(ArchivedHashMap::of(root).agrees_on(&map.map, key))
 }

@@ -39,7 +39,7 @@ fn buckets_begin<W: Width>(header: Decoded) -> usize
 fn and_below(below: bool, index: u64, len: usize) -> bool
     ensures { result ≡ true → (below ≡ true) × (index < len) }
 {
-    if index < len as u64 { below } else { false }
+    below & (index < len as u64)
 }
 
 /// Returns `true` only if each of the `count` indices from `begin` on is below `len`.

@@ -43,11 +43,7 @@ pub(crate) fn write_row<W: Width, S: Writer, U: Archive<W>>(
 {
     let mut rest = resolvers.into_iter();
     for value in values {
-        let resolver = match rest.next() {
-            Some(resolver) => resolver,
-            None => unreachable!(),
-        };
-        value.resolve(resolver, serializer.pos(), scratch)?;
+        value.resolve(rest.next().unwrap(), serializer.pos(), scratch)?;
         append_in::<W, S>(serializer, scratch)?;
     }
     Ok(())

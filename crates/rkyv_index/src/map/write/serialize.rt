@@ -122,10 +122,11 @@ impl<'a, K: KeyElement, V: Element, H: KeyHasher, W: IndexMapWidth> ArchivedInde
             (S.output serializer.old) (S.output serializer.new) result }
     {
         capacity(len, load_factor, W::MAX_CAPACITY)?;
-        let room = Room::new(alloc, len, Entry::<K, V>::size())?;
-        let mut entries = room.entries;
-        let mut scratch = room.scratch;
-        let resolvers = room.resolvers;
+        let Room {
+            mut entries,
+            mut scratch,
+            resolvers,
+        } = Room::new(alloc, len, Entry::<K, V>::size())?;
         take_entries(iter, len, &mut entries).map_err(|actual| IteratorLengthMismatch {
             expected: len,
             actual,

@@ -30,10 +30,10 @@ returns-clause-same g c =
     c.agrees_on.ensures.1 (subst (λ view. finds_at (bytes_of view) (pos_of view)) (sym c.of.ensures.view) at_root)
 
 -- the written archive is accepted
-pub returns-in-Err-clause-same : goal.returns-in-Err-clause-same
-returns-in-Err-clause-same g c =
+pub returns-in_default-clause-same : goal.returns-in_default-clause-same
+returns-in_default-clause-same g c =
     let s = map_spec g.W.Word.word g.A.Archived.HasSpec.spec g.B.Archived.HasSpec.spec in
-    c.in-Err.ensures.accepts (subst (IsValidArchive g.W.Width.LIMIT s) (sym c.as_slice.ensures.value) c.in_ok-bytes.ensures.0)
+    c.in_default.ensures.accepts (subst (IsValidArchive g.W.Width.LIMIT s) (sym c.as_slice.ensures.value) c.in_ok-bytes.ensures.0)
 
 pub returns-in_err-bytes-clause-error : goal.returns-in_err-bytes-clause-error
 returns-in_err-bytes-clause-error g c =
