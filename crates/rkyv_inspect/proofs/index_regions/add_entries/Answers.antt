@@ -77,6 +77,29 @@ loop-index-preserved g c =
       fields = fields_step (entry_field t) _ _ _ at _ _ (row_step begin size index len below) adds.fields_are c.loop-index.invariant.fields;
     }
 
+pub overflow_add-pos : goal.overflow_add-pos
+overflow_add-pos g c =
+    let k = g.K.HasSpec.spec in
+    let v = g.V.HasSpec.spec in
+    let kl = g.K.HasSpec.laws in
+    let vl = g.V.HasSpec.laws in
+    let t = pair_type k v g.K.Field.part_at g.V.Field.part_at in
+    let w = g.W.Word.word in
+    let root = c.args.root in
+    let b : List ℕ = bytes_of root in
+    let p : ℕ = pos_of root in
+    let begin : ℕ = entries_pos w b p in
+    let size : ℕ = entry_size t in
+    let index : ℕ = c.loop-index.index in
+    let len : ℕ = len_at w b p in
+    let end : c.len-index-end.result ≡ len = c.len-index-end.ensures ∙ ap (λ v. len_at w (bytes_of v) (pos_of v)) c.of-map.ensures.view in
+    let test = c.loop-index-test.true in
+    let below : index < len = omega (arith, end, test) in
+    let pos : c.entry_pos-pos.result ≡ entry_at size begin index = c.entry_pos-pos.ensures ∙ ap (λ v. pair_pos w size (bytes_of v) (pos_of v) index) c.of-map.ensures.view in
+    let room = entry_room begin size index len p below (entries_inside w g.met.W.Width.layout.kind (entry_spec k v) (entry_element k v kl vl) b p c.requires.root) in
+    let size_is = c.size-size.ensures in
+    omega (arith, room, pos, size_is)
+
 pub returns : goal.returns
 returns g c =
     let k = g.K.HasSpec.spec in

@@ -1,4 +1,4 @@
-use Rattle.std.proofs.Common.{◌≡◌, ◌∙◌, ◌+◌, ◌*◌, ◌<◌, ◌≤◌, ◌++◌, ap, arith, IfOk, List, length, refl, subst, sym, ℕ}
+use Rattle.std.proofs.Common.{◌≡◌, ◌∙◌, ◌+◌, ◌*◌, ◌<◌, ◌≤◌, ◌++◌, ap, arith, IfOk, List, length, refl, subst, sym, zero-add, ℕ}
 use Rattle.std.specs.Borrow.{Bor}
 use Rattle.std.specs.Int.{byte_len}
 use Rattle.std.proofs.lemmas.Result.{IfOk-weaker}
@@ -34,7 +34,7 @@ add-requires-clause-begin g c =
     let empty = c.new-list.ensures.end in
     λ some.
     let room = (table_room w (stored_index_spec w) (stored_index_element w kind) b p there (omega (arith, some, cap))).begin in
-    rw (cap, c.ALIGN.ensures ∙ g.met.W.Width.layout.align_is, z some, empty) room
+    rw (cap, c.ALIGN.ensures ∙ g.met.W.Width.layout.align_is, z some, empty) (subst (λ n. n ≤ controls_pos w b p) (sym (zero-add (cap_at w b p * byte_len w))) room)
 
 pub add-requires-clause-inside : goal.add-requires-clause-inside
 add-requires-clause-inside g c =
