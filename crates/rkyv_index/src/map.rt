@@ -4,7 +4,7 @@
 //! - `read` has lookups, iterators and comparisons, and returns lists of pairs.
 //! - `in_place` writes values over the bytes of an archive.
 //! - `laws` has laws that a proof cites.
-ghost use Rattle.std.specs.Prelude.{◌≡◌, ⊤};
+ghost use Rattle.std.specs.Prelude.{MatchResult, Ok, ◌≡◌, ⊤};
 ghost use Rattle.rkyv_base.specs.{IsValidView, entry_spec};
 ghost use Rattle.rkyv_base.specs.Lemmas.Entry.{entry_element};
 ghost use Rattle.rkyv_base.specs.Lemmas.ElementSpec.{viewable_prop};
@@ -52,7 +52,10 @@ pub struct ArchivedIndexMap<'a, K: HasSpec, V: HasSpec, H = FxHasher64, W: Word 
 
 impl<'a, K: HasSpec, V: HasSpec, H, W: Word> Clone for ArchivedIndexMap<'a, K, V, H, W> {
     #[inline]
-    fn clone(&self) -> Result<ArchivedIndexMap<'a, K, V, H, W>, AllocError> {
+    fn clone(&self) -> Result<ArchivedIndexMap<'a, K, V, H, W>, AllocError>
+        ensures cases { MatchResult result (λ clone. clone ≡ self.now) (λ _. ¬ ⊤) }
+        ensures same { result ≡ Ok self.now }
+    {
         Ok(*self)
     }
 

@@ -3,7 +3,7 @@
 //! A set is the index map of its keys to the unit value. `write` writes sets from iterators,
 //! and `deserialize` returns a list of the keys. `laws` has laws of that list, of lookups
 //! and of the layout.
-ghost use Rattle.std.specs.Prelude.{◌≡◌, ⊤};
+ghost use Rattle.std.specs.Prelude.{MatchResult, Ok, ◌≡◌, ⊤};
 
 mod accessors;
 mod debug;
@@ -35,7 +35,10 @@ pub struct ArchivedIndexSet<'a, K: HasSpec, H = FxHasher64, W: Word = Narrow> {
 
 impl<'a, K: HasSpec, H, W: Word> Clone for ArchivedIndexSet<'a, K, H, W> {
     #[inline]
-    fn clone(&self) -> Result<ArchivedIndexSet<'a, K, H, W>, AllocError> {
+    fn clone(&self) -> Result<ArchivedIndexSet<'a, K, H, W>, AllocError>
+        ensures cases { MatchResult result (λ clone. clone ≡ self.now) (λ _. ¬ ⊤) }
+        ensures same { result ≡ Ok self.now }
+    {
         Ok(*self)
     }
 
