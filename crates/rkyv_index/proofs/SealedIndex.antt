@@ -6,9 +6,10 @@ use Rattle.std.specs.Borrow.{Bor}
 use Rattle.std.specs.Int.{Width}
 use Rattle.rkyv_base.specs.{ElementSpec, pos_of}
 use Rattle.rkyv_base.specs.declared.view.View.{View}
+use Rattle.rkyv_keys.specs.{Comparison}
 use Rattle.rkyv_table.specs.{len_at}
 use Rattle.rkyv_table.proofs.Moved.{moved}
-use Rattle.rkyv_index.specs.{AreUnderHash, ComparesKeysBy, FindsFirstIndex, FindsFirstKey, FindsIndex, FindsKey, IsKeyAt, IsKeyOf, index_at, index_bytes, index_of, index_pos, pair_at}
+use Rattle.rkyv_index.specs.{AreUnderHash, ComparesKeysBy, FindsFirstIndex, FindsFirstKey, FindsIndex, FindsKey, FindsOneKey, IsKeyAt, IsKeyOf, index_at, index_bytes, index_of, index_pos, pair_at}
 use Rattle.rkyv_index.specs.declared.map.ArchivedIndexMap.{ArchivedIndexMap}
 
 -- the index map that is read has the bytes `b` and the position `p`
@@ -55,3 +56,7 @@ module _ {K V H W : Type 0} {ks : Specs K} {vs : Specs V} {wt : Words W} (m : Ar
     pub finds_first_key_read : (key_hash : List ℕ → ℕ → ℕ) → FindsFirstKey (index_of m) key_hash fits P
         → FindsFirstKey (index_at {K = K} w k v b p) key_hash fits P
     finds_first_key_read key_hash = as_read (λ d r. FindsFirstKey (index_at {K = K} w k v d r) key_hash fits P)
+
+    pub finds_one_key_read : (key_hash : List ℕ → ℕ → ℕ) (same : Comparison) → FindsOneKey (index_of m) key_hash same fits P
+        → FindsOneKey (index_at {K = K} w k v b p) key_hash same fits P
+    finds_one_key_read key_hash same = as_read (λ d r. FindsOneKey (index_at {K = K} w k v d r) key_hash same fits P)

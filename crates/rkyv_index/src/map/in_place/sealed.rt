@@ -14,10 +14,10 @@ ghost use Rattle.rkyv_base.specs.{entry_spec, pos_in, seal_pos, value_pos};
 ghost use Rattle.rkyv_keys.specs.{hash_at, hash_of};
 ghost use Rattle.rkyv_table.specs.{LendsPair, LendsValue, len_at};
 ghost use Rattle.rkyv_index.specs.{AcceptsIn, CanCompareKeysOf, FindsBy, FindsFirstBy};
-ghost use Rattle.rkyv_index.specs.{FindsFirstKey, FindsKey, IsAcceptedIn, IsFullSeal, IsFullSealAt};
-ghost use Rattle.rkyv_index.specs.{IsIndex, IsIndexSeal, IsPairPosIn, IsPairSeal, IsStoredAt};
-ghost use Rattle.rkyv_index.specs.{IsValueSeal, SealsPair, SealsValue, index_bytes, index_in};
-ghost use Rattle.rkyv_index.specs.{index_pos};
+ghost use Rattle.rkyv_index.specs.{FindsFirstKey, FindsKey, FindsOneKey, IsAcceptedIn};
+ghost use Rattle.rkyv_index.specs.{IsFullSeal, IsFullSealAt, IsIndex, IsIndexSeal, IsPairPosIn};
+ghost use Rattle.rkyv_index.specs.{IsPairSeal, IsStoredAt, IsValueSeal, SealsPair, SealsValue};
+ghost use Rattle.rkyv_index.specs.{index_bytes, index_in, index_pos};
 
 use crate::map::{ArchivedIndexMap, IndexMapOf};
 use rkyv_base::element::Element;
@@ -98,6 +98,8 @@ impl<'a, K: KeyElement, V: Element, H: KeyHasher, W: Width> ArchivedIndexMap<'a,
             (hash_of H.hasher Q.calls key.now) (Q.fits key.now) (IsIndex result) }
         ensures first { FindsFirstKey (index_in W.word K.spec V.spec this.now)
             (hash_at H.hasher K.key_calls) (Q.fits key.now) (IsIndex result) }
+        ensures complete { FindsOneKey (index_in W.word K.spec V.spec this.now)
+            (hash_at H.hasher K.key_calls) K.same (Q.fits key.now) (IsIndex result) }
     {
         Self::read(this).find_key(key)
     }
@@ -284,6 +286,8 @@ impl<'a, K: KeyElement, V: Element, H: KeyHasher, W: Width> ArchivedIndexMap<'a,
             (hash_of H.hasher Q.calls key.now) (Q.fits key.now) (IsFullSealAt result) }
         ensures first { FindsFirstKey (index_in W.word K.spec V.spec this.entry)
             (hash_at H.hasher K.key_calls) (Q.fits key.now) (IsFullSealAt result) }
+        ensures complete { FindsOneKey (index_in W.word K.spec V.spec this.entry)
+            (hash_at H.hasher K.key_calls) K.same (Q.fits key.now) (IsFullSealAt result) }
     {
         let index = Self::find_key_in(&this, key);
         Self::full_seal_of(this, index)
@@ -358,6 +362,9 @@ impl<'a, K: KeyElement, V: Element, H: KeyHasher, W: Width> ArchivedIndexMap<'a,
             (SealsPair W.word K.spec V.spec this.entry result) }
         ensures first { FindsFirstKey (index_in W.word K.spec V.spec this.entry)
             (hash_at H.hasher K.key_calls) (Q.fits key.now)
+            (SealsPair W.word K.spec V.spec this.entry result) }
+        ensures complete { FindsOneKey (index_in W.word K.spec V.spec this.entry)
+            (hash_at H.hasher K.key_calls) K.same (Q.fits key.now)
             (SealsPair W.word K.spec V.spec this.entry result) }
     {
         let index = Self::find_key_in(&this, key);
@@ -445,6 +452,9 @@ impl<'a, K: KeyElement, V: Element, H: KeyHasher, W: Width> ArchivedIndexMap<'a,
             (SealsValue W.word K.spec V.spec this.entry result) }
         ensures first { FindsFirstKey (index_in W.word K.spec V.spec this.entry)
             (hash_at H.hasher K.key_calls) (Q.fits key.now)
+            (SealsValue W.word K.spec V.spec this.entry result) }
+        ensures complete { FindsOneKey (index_in W.word K.spec V.spec this.entry)
+            (hash_at H.hasher K.key_calls) K.same (Q.fits key.now)
             (SealsValue W.word K.spec V.spec this.entry result) }
     {
         let index = Self::find_key_in(&this, key);

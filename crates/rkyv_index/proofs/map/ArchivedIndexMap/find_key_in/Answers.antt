@@ -4,7 +4,7 @@ use Rattle.std.proofs.lemmas.Option.{IfSome_then}
 use Rattle.rkyv_keys.specs.{hash_at, hash_of}
 use Rattle.rkyv_table.specs.{len_at}
 use Rattle.rkyv_index.specs.{IsIndex, IsStoredAt}
-use Rattle.rkyv_index.proofs.SealedIndex.{as_read, finds_first_key_read, finds_key_read}
+use Rattle.rkyv_index.proofs.SealedIndex.{as_read, finds_first_key_read, finds_key_read, finds_one_key_read}
 use Rattle.rkyv_index.proofs.map.ArchivedIndexMap.find_key_in.Goals as goal
 
 pub returns-clause-stored : goal.returns-clause-stored
@@ -22,3 +22,8 @@ pub returns-clause-first : goal.returns-clause-first
 returns-clause-first g c =
     finds_first_key_read c.read.result _ _ c.read.ensures.bytes c.read.ensures.pos
     (g.Q.Query.fits c.args.key.now) (IsIndex c.find_key.result) (hash_at g.H.KeyHasher.hasher g.K.KeyElement.key_calls) c.find_key.ensures.first
+
+pub returns-clause-complete : goal.returns-clause-complete
+returns-clause-complete g c =
+    finds_one_key_read c.read.result _ _ c.read.ensures.bytes c.read.ensures.pos
+    (g.Q.Query.fits c.args.key.now) (IsIndex c.find_key.result) (hash_at g.H.KeyHasher.hasher g.K.KeyElement.key_calls) g.K.ElementEq.same c.find_key.ensures.complete

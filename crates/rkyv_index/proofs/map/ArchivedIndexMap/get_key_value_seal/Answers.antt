@@ -7,3 +7,7 @@ returns-clause-finds g c = subst (SealsPair g.W.Word.word g.K.HasSpec.spec g.V.H
 
 pub returns-clause-first : goal.returns-clause-first
 returns-clause-first g c homes written = subst (SealsPair g.W.Word.word g.K.HasSpec.spec g.V.HasSpec.spec c.args.this c.pair_seal_of.result) (c.find_key_in-index.ensures.first homes written) c.pair_seal_of.ensures.at
+
+pub returns-clause-complete : goal.returns-clause-complete
+returns-clause-complete g c none = let found = c.find_key_in-index.ensures.complete none in
+    (found.0, found.1, subst (SealsPair g.W.Word.word g.K.HasSpec.spec g.V.HasSpec.spec c.args.this c.pair_seal_of.result) found.2 c.pair_seal_of.ensures.at)
