@@ -19,6 +19,7 @@ pub mod ValueWrites
 pub mod SealedIndex
 pub mod Headers
 pub mod FirstListed
+pub mod ListedWalks
 pub mod ListArchives
 pub mod FoundValues
 pub mod UppercaseTexts

@@ -12,6 +12,7 @@ pub mod Lookups
 pub mod InPlace
 pub mod ListArchives
 pub mod ListedLookups
+pub mod ListedWalks
 pub mod Reading
 pub mod Writing
 use Rattle.rkyv_base.specs.declared.element.HasSpec.{Ghosts as Specs}

@@ -1,9 +1,10 @@
 //! Laws of index maps, over their definitions alone.
 //!
-//! They are about writes of one value in place, deserialized lists, lookups and the layout.
+//! They are about writes of one value in place, deserialized lists, lookups, walks and the
+//! layout.
 //! `written` is about the bytes of written index maps, and `list_archives` about root index maps.
 ghost use Rattle.rkyv_keys.specs.{hash_at, hash_of, native_pairs};
-ghost use Rattle.rkyv_index.specs.{LookupsFindListed, PairsReadBackAreListed};
+ghost use Rattle.rkyv_index.specs.{LookupsFindListed, PairsReadBackAreListed, WalksVisitInOrder};
 ghost use Rattle.rkyv_index.specs.{ValueWritesKeepIndexMaps, ValueWritesKeepLookups};
 ghost use Rattle.rkyv_index.specs.{ValuesWrittenRepresent, index_spec, ordered_pairs, reads_as};
 ghost use Rattle.rkyv_base.specs.{SameSpec, SameValues, entry_spec};
@@ -85,5 +86,20 @@ pub fn lookups_find_listed<
     W: Width,
 >()
     ensures { LookupsFindListed H W.Word K.HasSpec V.HasSpec
+        (native_pairs K.represents V.represents H.hasher K.key_calls) }
+{}
+
+/// States that `iter`, `keys` and `values` return the pairs of the represented list, in order.
+///
+/// The n-th position of a walk has the n-th pair of the list, and there are no others.
+pub fn walks_visit_in_order<
+    A,
+    B,
+    K: KeyElement + Represents<A>,
+    V: Represents<B>,
+    H: KeyHasher,
+    W: Width,
+>()
+    ensures { WalksVisitInOrder W.word K.spec V.spec
         (native_pairs K.represents V.represents H.hasher K.key_calls) }
 {}

@@ -1,10 +1,10 @@
 //! Laws of index sets, over their definitions alone.
 //!
-//! They are about deserialized lists, lookups, the layout and the written bytes.
+//! They are about deserialized lists, lookups, walks, the layout and the written bytes.
 ghost use Rattle.rkyv_keys.specs.{fx_key_format, hash_at, native_key_format, native_keys};
 ghost use Rattle.rkyv_index.specs.{ItemsReadBackAreListed, MembersFoundAreListed, SameFormats};
-ghost use Rattle.rkyv_index.specs.{index_keys_format, index_set_spec, indices, ordered_items};
-ghost use Rattle.rkyv_index.specs.{ordered_items_format};
+ghost use Rattle.rkyv_index.specs.{SetWalksVisitInOrder, index_keys_format, index_set_spec};
+ghost use Rattle.rkyv_index.specs.{indices, ordered_items, ordered_items_format};
 ghost use Rattle.rkyv_base.specs.{SameFormat, SameSpec, SameValues};
 
 use crate::lists::OrderedItems;
@@ -46,6 +46,13 @@ pub fn members_found_are_listed<
 >()
     ensures { MembersFoundAreListed H W.Word K.HasSpec
         (native_keys K.represents (hash_at H.hasher K.key_calls) Q.fits Q.equals) }
+{}
+
+/// States that `iter` returns the keys of the list that an index set represents, in order.
+///
+/// The n-th position of a walk has the n-th key of the list, and there are no others.
+pub fn walks_visit_in_order<A, K: KeyElement + Represents<A>, H: KeyHasher, W: Width>()
+    ensures { SetWalksVisitInOrder W.word K.spec K.represents (hash_at H.hasher K.key_calls) }
 {}
 
 /// States the layout of an index set, and that it represents the keys of a list in order.
