@@ -4,7 +4,9 @@
 //! layout.
 //! `written` is about the bytes of written index maps, and `list_archives` about root index maps.
 ghost use Rattle.rkyv_keys.specs.{hash_at, hash_of, native_pairs};
-ghost use Rattle.rkyv_index.specs.{LookupsFindListed, PairsReadBackAreListed, WalksVisitInOrder};
+ghost use Rattle.rkyv_index.specs.{CountsPositions, LookupsFindListed, PairsReadBackAreListed};
+ghost use Rattle.rkyv_index.specs.{StepsAs, WalksVisitInOrder};
+ghost use Rattle.rkyv_table.specs.{YieldsKey, YieldsPair, YieldsValue};
 ghost use Rattle.rkyv_index.specs.{ValueWritesKeepIndexMaps, ValueWritesKeepLookups};
 ghost use Rattle.rkyv_index.specs.{ValuesWrittenRepresent, index_spec, ordered_pairs, reads_as};
 ghost use Rattle.rkyv_base.specs.{SameSpec, SameValues, entry_spec};
@@ -14,6 +16,7 @@ pub mod written;
 
 use crate::lists::OrderedPairs;
 use crate::map::IndexMapOf;
+use crate::map::read::iter::{Iter, Keys, Values};
 use rkyv_base::element::{Element, HasSpec, Represents};
 use rkyv_base::width::Width;
 use rkyv_keys::equality::RepresentsUniquely;
@@ -102,4 +105,18 @@ pub fn walks_visit_in_order<
 >()
     ensures { WalksVisitInOrder W.word K.spec V.spec
         (native_pairs K.represents V.represents H.hasher K.key_calls) }
+{}
+
+/// States that `next` of the iterators returns a view at the first position, or `None` at the end.
+///
+/// - `pairs`, `keys`, `values`: a step of `iter`, `keys` and `values`.
+/// - `pairs_left`, `keys_left`, `values_left`: the number of positions that remain.
+pub fn iterators_yield_the_first<'a, K: Element, V: Element>()
+    ensures pairs { StepsAs ⟦<Iter<'a, K, V> as Iterator>⟧.next_gives (YieldsPair K.spec V.spec) }
+    ensures keys { StepsAs ⟦<Keys<'a, K, V> as Iterator>⟧.next_gives (YieldsKey K.spec) }
+    ensures values { StepsAs ⟦<Values<'a, K, V> as Iterator>⟧.next_gives
+        (YieldsValue K.spec V.spec) }
+    ensures pairs_left { CountsPositions ⟦<Iter<'a, K, V> as Iterator>⟧.remaining }
+    ensures keys_left { CountsPositions ⟦<Keys<'a, K, V> as Iterator>⟧.remaining }
+    ensures values_left { CountsPositions ⟦<Values<'a, K, V> as Iterator>⟧.remaining }
 {}

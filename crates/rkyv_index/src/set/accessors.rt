@@ -111,7 +111,11 @@ impl<'a, K: Element, H, W: Width> IntoIterator for ArchivedIndexSet<'a, K, H, W>
         × (length keys.positions ≡ index_len (keys_of set)) };
 
     #[inline]
-    fn into_iter(self) -> Keys<'a, K, ()> {
+    fn into_iter(self) -> Keys<'a, K, ()>
+        ensures into_iter_gives { (result.archive ≡ index_archive (keys_of self.entry))
+            × (result.positions ≡ key_positions (keys_of self.entry))
+            × (length result.positions ≡ index_len (keys_of self.entry)) }
+    {
         self.iter()
     }
 }
@@ -127,7 +131,11 @@ impl<'a, K: Element, H, W: Width> IntoIterator for &ArchivedIndexSet<'a, K, H, W
         × (length keys.positions ≡ index_len (keys_of set.now)) };
 
     #[inline]
-    fn into_iter(self) -> Keys<'a, K, ()> {
+    fn into_iter(self) -> Keys<'a, K, ()>
+        ensures into_iter_gives { (result.archive ≡ index_archive (keys_of self.entry.now))
+            × (result.positions ≡ key_positions (keys_of self.entry.now))
+            × (length result.positions ≡ index_len (keys_of self.entry.now)) }
+    {
         self.iter()
     }
 }

@@ -69,7 +69,9 @@ impl<'a, K: Element, V: Element> Iterator for Iter<'a, K, V> {
 
 impl<'a, K: Element, V: Element> ExactSizeIterator for Iter<'a, K, V> {
     #[inline]
-    fn len(&self) -> usize {
+    fn len(&self) -> usize
+        ensures value { result ≡ length self.now.positions }
+    {
         self.left
     }
 }
@@ -111,7 +113,9 @@ impl<'a, K: Element, V: Element> Iterator for Keys<'a, K, V> {
 
 impl<'a, K: Element, V: Element> ExactSizeIterator for Keys<'a, K, V> {
     #[inline]
-    fn len(&self) -> usize {
+    fn len(&self) -> usize
+        ensures value { result ≡ length self.now.positions }
+    {
         self.pairs.len()
     }
 }
@@ -153,7 +157,9 @@ impl<'a, K: Element, V: Element> Iterator for Values<'a, K, V> {
 
 impl<'a, K: Element, V: Element> ExactSizeIterator for Values<'a, K, V> {
     #[inline]
-    fn len(&self) -> usize {
+    fn len(&self) -> usize
+        ensures value { result ≡ length self.now.positions }
+    {
         self.pairs.len()
     }
 }
@@ -226,7 +232,11 @@ impl<'a, K: Element, V: Element, H, W: Width> IntoIterator for ArchivedIndexMap<
         × (pairs.positions ≡ key_positions map) × (length pairs.positions ≡ index_len map) };
 
     #[inline]
-    fn into_iter(self) -> Iter<'a, K, V> {
+    fn into_iter(self) -> Iter<'a, K, V>
+        ensures into_iter_gives { (result.archive ≡ index_archive self.entry)
+            × (result.positions ≡ key_positions self.entry)
+            × (length result.positions ≡ index_len self.entry) }
+    {
         self.iter()
     }
 }
@@ -242,7 +252,11 @@ impl<'a, K: Element, V: Element, H, W: Width> IntoIterator for &ArchivedIndexMap
         × (length pairs.positions ≡ index_len map.now) };
 
     #[inline]
-    fn into_iter(self) -> Iter<'a, K, V> {
+    fn into_iter(self) -> Iter<'a, K, V>
+        ensures into_iter_gives { (result.archive ≡ index_archive self.entry.now)
+            × (result.positions ≡ key_positions self.entry.now)
+            × (length result.positions ≡ index_len self.entry.now) }
+    {
         self.iter()
     }
 }
