@@ -4,7 +4,7 @@
 //! - `read` has lookups, iterators and comparisons.
 //! - `in_place` writes values over the bytes of an archive.
 //! - `laws` has laws that a proof cites.
-ghost use Rattle.std.specs.Prelude.{Ok, ◌≡◌, ⊤};
+ghost use Rattle.std.specs.Prelude.{MatchResult, Ok, ◌≡◌, ⊤};
 ghost use Rattle.rkyv_base.specs.Lemmas.ElementSpec.{viewable_prop};
 ghost use Rattle.rkyv_base.specs.{IsValidView};
 ghost use Rattle.rkyv_table.specs.{IsDecoded};
@@ -48,7 +48,8 @@ pub struct ArchivedHashMap<'a, K: HasSpec, V: HasSpec, H = FxHasher64, W: Word =
 impl<'a, K: HasSpec, V: HasSpec, H, W: Word> Clone for ArchivedHashMap<'a, K, V, H, W> {
     #[inline]
     fn clone(&self) -> Result<ArchivedHashMap<'a, K, V, H, W>, AllocError>
-        ensures { result ≡ Ok self.now }
+        ensures value { result ≡ Ok self.now }
+        ensures cases { MatchResult result (λ clone. clone ≡ self.now) (λ _. ¬ ⊤) }
     {
         Ok(*self)
     }

@@ -2,7 +2,7 @@
 //!
 //! A set is the map of its keys to the unit value. `write` writes sets from iterators,
 //! and `laws` has laws of their bytes, their layout, lookups and walks.
-ghost use Rattle.std.specs.Prelude.{Ok, ◌≡◌, ⊤};
+ghost use Rattle.std.specs.Prelude.{MatchResult, Ok, ◌≡◌, ⊤};
 
 mod accessors;
 mod debug;
@@ -34,7 +34,8 @@ pub struct ArchivedHashSet<'a, K: HasSpec, H = FxHasher64, W: Word = Narrow> {
 impl<'a, K: HasSpec, H, W: Word> Clone for ArchivedHashSet<'a, K, H, W> {
     #[inline]
     fn clone(&self) -> Result<ArchivedHashSet<'a, K, H, W>, AllocError>
-        ensures { result ≡ Ok self.now }
+        ensures value { result ≡ Ok self.now }
+        ensures cases { MatchResult result (λ clone. clone ≡ self.now) (λ _. ¬ ⊤) }
     {
         Ok(*self)
     }

@@ -135,9 +135,9 @@ impl<'a, K: Element, H, W: Width> IntoIterator for ArchivedHashSet<'a, K, H, W> 
 
     #[inline]
     fn into_iter(self) -> Keys<'a, K, (), H, W>
-        ensures archive { result.archive ≡ set_archive self.entry }
-        ensures positions { result.positions ≡ member_positions self.entry }
-        ensures count { length result.positions ≡ set_len self.entry }
+        ensures into_iter_gives { (result.archive ≡ set_archive self.entry)
+            × (result.positions ≡ member_positions self.entry)
+            × (length result.positions ≡ set_len self.entry) }
     {
         self.iter()
     }
@@ -154,9 +154,9 @@ impl<'a, K: Element, H, W: Width> IntoIterator for &ArchivedHashSet<'a, K, H, W>
 
     #[inline]
     fn into_iter(self) -> Keys<'a, K, (), H, W>
-        ensures archive { result.archive ≡ set_archive self.entry.now }
-        ensures positions { result.positions ≡ member_positions self.entry.now }
-        ensures count { length result.positions ≡ set_len self.entry.now }
+        ensures into_iter_gives { (result.archive ≡ set_archive self.entry.now)
+            × (result.positions ≡ member_positions self.entry.now)
+            × (length result.positions ≡ set_len self.entry.now) }
     {
         self.iter()
     }

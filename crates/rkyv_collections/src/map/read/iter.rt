@@ -44,9 +44,7 @@ impl<'a, K: Element, V: Element, H, W> Iterator for Iter<'a, K, V, H, W> {
     ghost remaining = { λ left. at_most (length left.positions) };
 
     #[inline]
-    fn next(&mut self) -> Option<PairView<'a, K, V>>
-        ensures { YieldsPair K.spec V.spec self.old result self.new }
-    {
+    fn next(&mut self) -> Option<PairView<'a, K, V>> {
         let entry = self.entries.next_view()?;
         Some((entry.key(), entry.value()))
     }
@@ -90,9 +88,7 @@ impl<'a, K: Element, V: Element, H, W> Iterator for Keys<'a, K, V, H, W> {
     ghost remaining = { λ left. at_most (length left.positions) };
 
     #[inline]
-    fn next(&mut self) -> Option<View<'a, K>>
-        ensures { YieldsKey K.spec self.old result self.new }
-    {
+    fn next(&mut self) -> Option<View<'a, K>> {
         let (key, _) = self.pairs.next()?;
         Some(key)
     }
@@ -136,9 +132,7 @@ impl<'a, K: Element, V: Element, H, W> Iterator for Values<'a, K, V, H, W> {
     ghost remaining = { λ left. at_most (length left.positions) };
 
     #[inline]
-    fn next(&mut self) -> Option<View<'a, V>>
-        ensures { YieldsValue K.spec V.spec self.old result self.new }
-    {
+    fn next(&mut self) -> Option<View<'a, V>> {
         let (_, value) = self.pairs.next()?;
         Some(value)
     }
@@ -223,9 +217,9 @@ impl<'a, K: Element, V: Element, H, W: Width> IntoIterator for ArchivedHashMap<'
 
     #[inline]
     fn into_iter(self) -> Iter<'a, K, V, H, W>
-        ensures archive { result.archive ≡ map_archive self.entry }
-        ensures positions { result.positions ≡ key_positions self.entry }
-        ensures count { length result.positions ≡ map_len self.entry }
+        ensures into_iter_gives { (result.archive ≡ map_archive self.entry)
+            × (result.positions ≡ key_positions self.entry)
+            × (length result.positions ≡ map_len self.entry) }
     {
         self.iter()
     }
@@ -242,9 +236,9 @@ impl<'a, K: Element, V: Element, H, W: Width> IntoIterator for &ArchivedHashMap<
 
     #[inline]
     fn into_iter(self) -> Iter<'a, K, V, H, W>
-        ensures archive { result.archive ≡ map_archive self.entry.now }
-        ensures positions { result.positions ≡ key_positions self.entry.now }
-        ensures count { length result.positions ≡ map_len self.entry.now }
+        ensures into_iter_gives { (result.archive ≡ map_archive self.entry.now)
+            × (result.positions ≡ key_positions self.entry.now)
+            × (length result.positions ≡ map_len self.entry.now) }
     {
         self.iter()
     }
