@@ -2,24 +2,23 @@
 use Rattle.std.proofs.Common.{◌≡◌, ℕ, ◌+◌, ◌-◌, ◌*◌, ◌%◌, ◌≤◌, ◌∙◌, inl, inr, refl, sym, ap, subst, arith, append_assoc, length-append, length-take, Bool, List, ◌++◌, length, take}
 use Rattle.std.specs.Int.{Width, byte_len}
 use Rattle.std.proofs.lemmas.List.{length-map, length-replicate, take_all}
-use Rattle.rkyv_base.specs.{Appends, ElementMembers, ElementSpec, Fails, Format, IsArchiveWord, IsElement, IsFormat, OccursAt, Output, RootNext, WidthMembers, end_of, padding, round_up, zeros}
+use Rattle.rkyv_base.specs.{Appends, ElementMembers, ElementSpec, Fails, Format, IsArchiveWord, IsElement, IsFormat, OccursAt, Output, WidthMembers, end_of, padding, round_up, zeros}
 use Rattle.rkyv_base.specs.Lemmas.Bytes.{occurs_back, occurs_front}
 use Rattle.rkyv_base.specs.Lemmas.Entry.{round_up-multiple}
 use Rattle.rkyv_base.specs.Lemmas.Text.{by_archive_word}
 use Rattle.rkyv_base.specs.declared.element.PartRange.{PartRange}
 use Rattle.rkyv_base.specs.declared.errors.VerifyError.{VerifyError}
-use Rattle.rkyv_base.specs.declared.errors.WriteError.{WriteError}
 use Rattle.rkyv_base.specs.declared.element.HasSpec.{Ghosts as Specs}
 use Rattle.rkyv_base.specs.declared.element.Represents.{Ghosts as Related}
 use Rattle.rkyv_base.specs.declared.view.View.{View}
 use Rattle.rkyv_base.specs.declared.width.Width.{Ghosts as Widths}
 use Rattle.rkyv_base.specs.declared.width.Word.{Ghosts as Words}
-use Rattle.rkyv_base.proofs.WritingSteps.{appends_after, end-appends, fails_under}
+use Rattle.rkyv_base.proofs.WritingSteps.{appends_after, end-appends}
 use Rattle.rkyv_table.specs.Lemmas.TableLaws.{table_element}
-use Rattle.rkyv_table.specs.{IsFirstOf, IsHeader, IsValidAround, IsWrittenOf, RepresentedWereWritten, TableIn, TableRepresents, TableResolver, VisitsHomes, WalkVisitsHomes, WriteItemsFails, WrittenTablesPass, cap_at, capacity, hashes_of, items_of, resolved_capacity, table_controls, table_format, table_spec}
+use Rattle.rkyv_table.specs.{IsFirstOf, IsHeader, IsValidAround, IsWrittenOf, RepresentedWereWritten, TableIn, TableRepresents, TableResolver, VisitsHomes, WalkVisitsHomes, WrittenTablesPass, cap_at, capacity, hashes_of, items_of, resolved_capacity, table_controls, table_format, table_spec}
 use Rattle.rkyv_table.proofs.FirstItem.{accepted_under, first_at_home}
 use Rattle.rkyv_table.proofs.WalkedHomes.{none_visits}
-use Rattle.rkyv_end_to_end.specs.{Encoding, IsWrittenList, ListBytes, ListInput, ListsAreValid, LookOverFails, ReportsList, ReportsTable, VisitsItems, WriteAndFindFails, WriteListFails, WroteList, list_format, table_of}
+use Rattle.rkyv_end_to_end.specs.{Encoding, IsWrittenList, ListBytes, ListInput, ListsAreValid, LookOverFails, ReportsList, ReportsTable, VisitsItems, WriteAndFindFails, WroteList, table_of}
 use Rattle.rkyv_end_to_end.specs.declared.looking.LookError.{LookError}
 use Rattle.rkyv_end_to_end.specs.declared.looking.LookError.TheVariants.{Memory, Verify}
 use Rattle.rkyv_end_to_end.specs.declared.looking.TableReport.{TableReport}
@@ -42,14 +41,6 @@ width_members w v = record {
 -- the members of an element, from those of its two traits
 abbrev pub element_members : {T V : Type 0} → Specs T → Related T V → ElementMembers V
 element_members e v = record { spec = e.spec; laws = e.laws; represents = v.represents }
-
--- an error of writing the table is an error of writing the list
-pub list_fails : {X R F : Type 0} (list : ListInput X R) (o o' : Output) (e : WriteError F)
-    → WriteItemsFails list.input.yields list.len list.load_factor list.width.MAX_CAPACITY (list_format list) o o' list.width.LIMIT (list.input.yields_other_count list.len) e → WriteListFails list o o' e
-list_fails list o o' e (inl h) = inl h
-list_fails list o o' e (inr h) =
-    let f = list_format list in
-    inr (h.0, h.1, h.2, fails_under list.width.LIMIT (RootNext (byte_len list.width.word) f h.1 (end_of o)) (f.next h.1 (end_of o)) o o' e (λ front step n. inr (inl n)) h.3)
 
 -- the buffer has room for a header
 pub header_small : (w : Width) → IsArchiveWord w → (size align : ℕ) → align ≡ byte_len w → size ≡ 3 * align → size ≤ 24

@@ -4,8 +4,8 @@ pub mod Listing
 unfoldable pub use Report.{CanCompareItems, LookOverFails, LooksOver, LooksUpIn, ReadsExactlyIn}
 unfoldable pub use Report.{ReadsWithinBound, per_sixteen}
 pub use Report.{ReportsTable}
-unfoldable pub use Listing.{AppendsList, CanCompareAny, FindsFirstItem, ListsAreValid}
-unfoldable pub use Listing.{WriteAndFindFails, WriteListFails, WritesAndFinds, WritesList}
-unfoldable pub use Listing.{WroteList, encoding, list_format, list_of, pairs_of, positions_of}
-unfoldable pub use Listing.{table_of}
+unfoldable pub use Listing.{AppendsList, CanCompareAny, FindsFirstItem, ListNext, ListStepFails}
+unfoldable pub use Listing.{ListsAreValid, WriteAndFindFails, WriteListFails, WritesAndFinds}
+unfoldable pub use Listing.{WritesList, WroteList, encoding, list_format, list_of, pairs_of}
+unfoldable pub use Listing.{positions_of, table_of}
 pub use Listing.{Encoding, IsWrittenList, ListBytes, ListInput, ReportsList, VisitsItems}

@@ -4,8 +4,8 @@ use Rattle.std.specs.Prelude.{MatchResult, Option, Result, Some, slice_get, slic
 use Rattle.std.specs.Int.{Width, byte_len}
 use Rattle.std.specs.declared.iter.Iterator.{Ghosts as Iterators}
 use Rattle.rkyv_base.specs.{Appended, ElementMembers, ElementSpec, Format, IsValidView, OccursAt}
-use Rattle.rkyv_base.specs.{Output, RepresentsAs, WidthMembers, WriteRootFails, end_of, padding}
-use Rattle.rkyv_base.specs.{round_up, vec_output, written_as, zeros}
+use Rattle.rkyv_base.specs.{Output, RepresentsAs, Step, ValueStep, WidthMembers, WriteFails}
+use Rattle.rkyv_base.specs.{end_of, padding, piece, round_up, vec_output, written_as, zeros}
 use Rattle.rkyv_base.specs.declared.archive.Archive.{Ghosts as Archives}
 use Rattle.rkyv_base.specs.declared.errors.WriteError.{WriteError}
 use Rattle.rkyv_base.specs.declared.lend.Lend.{Ghosts as Lends}
@@ -83,6 +83,19 @@ pub record ListBytes {X : Type 0} (align : ℕ) (f : Format (List (ℕ × X)) Ta
   pub at : p ≡ round_up end align
   pub is : bytes ≡ part ++ (zeros (padding align end) ++ header)
 
+module _ {X : Type 0} (align : ℕ) (f : Format (List (ℕ × X)) TableResolver)
+    (pairs : List (ℕ × X)) (begin : ℕ) where
+  -- `step`: next step of writing the list from `begin` on, after `front`. It is a step
+  -- of the table, the zeros, or the header
+  abbrev pub ListNext : List ℕ → Step → Type 0
+  ListNext front step =
+      f.next pairs begin front step
+      ⊎ ((r : TableResolver) × f.parts pairs begin front r
+      × (step ≡ piece (zeros (padding align (begin + length front)))))
+      ⊎ ((part : List ℕ) × (r : TableResolver) × f.parts pairs begin part r
+      × (front ≡ part ++ zeros (padding align (begin + length part)))
+      × ValueStep align f pairs begin part r step)
+
 module _ {X R : Type 0} (list : ListInput X R) (o o' : Output) where
   -- `pairs`: the input pairs, `bytes`: the appended bytes. They are those of the list,
   -- whose table ends at `end`, and whose header is at `p`
@@ -96,6 +109,12 @@ module _ {X R : Type 0} (list : ListInput X R) (o o' : Output) where
   WroteList end p = HasCapacity list.len list.load_factor list.width.MAX_CAPACITY
       × (pairs : List (ℕ × X)) × (bytes : List ℕ) × AppendsList pairs bytes end p
 
+  -- writing `pairs`, the zeros or the header failed with `e`. No memory is allocated for the zeros
+  -- and the header
+  abbrev pub ListStepFails : {F : Type 0} → List (ℕ × X) → WriteError F → Type 0
+  ListStepFails pairs e = WriteFails list.width.LIMIT
+      (ListNext (byte_len list.width.word) (list_format list) pairs (end_of o)) o o' e
+
   -- `e`: error of the call itself, before it wrote anything, or error
   -- of writing the pairs, the zeros or the header
   abbrev pub WriteListFails : {F : Type 0} → WriteError F → Type 0
@@ -104,7 +123,7 @@ module _ {X R : Type 0} (list : ListInput X R) (o o' : Output) where
       (list.input.yields_other_count list.len) e × (o' ≡ o))
       ⊎ (HasCapacity list.len list.load_factor list.width.MAX_CAPACITY
       × (pairs : List (ℕ × X)) × YieldsExactly list.input.yields list.len pairs
-      × WriteRootFails list.width.LIMIT (byte_len list.width.word) (list_format list) pairs o o' e)
+      × ListStepFails pairs e)
 
 -- `result`: the positions of the list that was written as a table with its header, or the error
 abbrev pub WritesList : {X R F : Type 0} → ListInput X R → Output → Output
