@@ -15,7 +15,7 @@ use Rattle.rkyv_base.specs.declared.width.Width.{Ghosts as Widths}
 use Rattle.rkyv_base.specs.declared.width.Word.{Ghosts as Words}
 use Rattle.rkyv_base.proofs.WritingSteps.{appends_after, end-appends}
 use Rattle.rkyv_table.specs.Lemmas.TableLaws.{table_element}
-use Rattle.rkyv_table.specs.{IsFirstOf, IsHeader, IsValidAround, IsWrittenOf, RepresentedWereWritten, TableIn, TableRepresents, TableResolver, VisitsHomes, WalkVisitsHomes, WrittenTablesPass, cap_at, capacity, hashes_of, items_of, resolved_capacity, table_controls, table_format, table_spec}
+use Rattle.rkyv_table.specs.{IsFirstOf, IsHeader, IsValidAround, IsWrittenOf, RepresentedWereWritten, TableIn, TableRepresents, TableResolver, VisitsHomes, WalkVisitsHomes, WrittenTablesPass, cap_at, capacity, hashes_of, items_of, len_at, resolved_capacity, table_controls, table_format, table_spec}
 use Rattle.rkyv_table.proofs.FirstItem.{accepted_under, first_at_home}
 use Rattle.rkyv_table.proofs.WalkedHomes.{none_visits}
 use Rattle.rkyv_end_to_end.specs.{Encoding, IsWrittenList, ListBytes, ListInput, ListsAreValid, LookOverFails, ReportsList, ReportsTable, VisitsItems, WriteAndFindFails, WroteList, table_of}
@@ -181,8 +181,8 @@ written_never_fails w kind s law c b p begin end around same range low high e fa
     let holds = around range.lo range.hi (omega (arith, low)) (omega (arith, high)) in
     (table_element w kind s law).exclusive c p range.lo range.hi holds.0 e holds.1 there
 
--- looking over a written list fails for want of memory alone
+-- looking over a written list fails for want of memory alone, and only if it has items
 pub look_fails : {X R : Type 0} (list : ListInput X R) (o o' : Output) (t : TableIn) (end p : ℕ) (range : PartRange) → WroteList list o o' end p
-    → ((e : VerifyError) → Fails (table_spec t.word t.spec) t.bytes t.pos range e → ⊥) → (u : LookError) → LookOverFails t range u → WriteAndFindFails list o o' (Look u)
-look_fails list o o' t end p range wrote passes (Verify e) fails = absurd (passes e fails)
-look_fails list o o' t end p range wrote passes Memory accepts = (end, p, wrote)
+    → ((e : VerifyError) → Fails (table_spec t.word t.spec) t.bytes t.pos range e → ⊥) → len_at t.word t.bytes t.pos ≡ list.len → (u : LookError) → LookOverFails t range u → WriteAndFindFails list o o' (Look u)
+look_fails list o o' t end p range wrote passes count (Verify e) fails = absurd (passes e fails)
+look_fails list o o' t end p range wrote passes count Memory accepts = (omega (arith, count, accepts.0), end, p, wrote)

@@ -1,5 +1,5 @@
 -- A list that is written as a table followed by its header, and the result of its lookup.
-use Rattle.std.specs.Prelude.{◌≡◌, ℕ, ◌+◌, ◌*◌, ◌%◌, ◌≤◌, ◌⊎◌, Bool, List, ◌++◌, length}
+use Rattle.std.specs.Prelude.{◌≡◌, ℕ, ◌+◌, ◌*◌, ◌%◌, ◌<◌, ◌≤◌, ◌⊎◌, Bool, List, ◌++◌, length}
 use Rattle.std.specs.Prelude.{MatchResult, Option, Result, Some, slice_get, slice_index}
 use Rattle.std.specs.Int.{Width, byte_len}
 use Rattle.std.specs.declared.iter.Iterator.{Ghosts as Iterators}
@@ -208,13 +208,14 @@ pub record ReportsList {T X R : Type 0} (list : ListInput X R) (post : View T �
   pub first : FindsFirstItem written.items post hash report.found
   pub reports : ReportsTable (table_of list o' p) post hash report
 
--- the list was not written, or memory for the positions could not be allocated.
--- The bytes of a written list are always valid
+-- the list was not written, or it has items, and memory for their positions could not be
+-- allocated. The bytes of a written list are always valid
 abbrev pub WriteAndFindFails : {X R : Type 0} → ListInput X R → Output → Output → ListError
     → Type 0
 WriteAndFindFails list o o' (Write e) = WriteListFails list o o' e
 WriteAndFindFails list o o' (Look (Verify e)) = ⊥
-WriteAndFindFails list o o' (Look Memory) = (end : ℕ) × (p : ℕ) × WroteList list o o' end p
+WriteAndFindFails list o o' (Look Memory) =
+    (0 < list.len) × (end : ℕ) × (p : ℕ) × WroteList list o o' end p
 
 -- `result`: the items and one lookup of the list, which was written, or the error.
 -- `old`, `new`: bytes and count of failed writes of the writer to memory, before and after

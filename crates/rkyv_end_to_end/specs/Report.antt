@@ -1,5 +1,5 @@
 -- A table in bytes, its items, and the result of one lookup.
-use Rattle.std.specs.Prelude.{◌≡◌, ℕ, ◌+◌, ◌/◌, Bool, List, length, IfSome, MatchResult}
+use Rattle.std.specs.Prelude.{◌≡◌, ℕ, ◌+◌, ◌/◌, ◌<◌, Bool, List, length, IfSome, MatchResult}
 use Rattle.std.specs.Prelude.{Option, Result}
 use Rattle.std.specs.Int.{Width}
 use Rattle.std.specs.List.{All, Contains}
@@ -49,11 +49,11 @@ pub record ReportsTable {T : Type 0} (t : TableIn) (post : View T → Bool → T
   pub reads : ReadsWithinBound t.word t.bytes t.pos report.strides
   pub exact : ReadsExactlyIn t post hash report.strides
 
--- the bytes are not a valid table, or memory could not be allocated for a valid one
+-- the bytes are not a valid table, or memory could not be allocated for the items of a valid one
 abbrev pub LookOverFails : TableIn → PartRange → LookError → Type 0
 LookOverFails t range (Verify e) = Fails (table_spec t.word t.spec) t.bytes t.pos range e
-LookOverFails t range Memory =
-    (rest : PartRange) × Passes (table_spec t.word t.spec) t.bytes t.pos range rest
+LookOverFails t range Memory = (0 < len_at t.word t.bytes t.pos)
+    × (rest : PartRange) × Passes (table_spec t.word t.spec) t.bytes t.pos range rest
 
 -- `result`: the items of the table, which is valid, and one lookup, or the error
 abbrev pub LooksOver : {T : Type 0} → TableIn → PartRange → (View T → Bool → Type 0) → ℕ

@@ -1,9 +1,9 @@
 //! Validation, walk and lookup of a table in untrusted bytes.
 
-ghost use Rattle.std.specs.Prelude.{IfOk, length, ◌%◌, ◌*◌, ◌+◌, ◌≡◌, ◌≤◌};
+ghost use Rattle.std.specs.Prelude.{MatchResult, length, ◌%◌, ◌*◌, ◌+◌, ◌<◌, ◌≡◌, ◌≤◌};
 ghost use Rattle.std.specs.Int.{byte_len};
 ghost use Rattle.rkyv_base.specs.{Viewable};
-ghost use Rattle.rkyv_table.specs.{CanCompareOf, item_positions, table_in, table_spec};
+ghost use Rattle.rkyv_table.specs.{CanCompareOf, item_positions, len_at, table_in, table_spec};
 ghost use Rattle.rkyv_end_to_end.specs.{CanCompareItems, LooksOver, LooksUpIn, ReadsExactlyIn};
 ghost use Rattle.rkyv_end_to_end.specs.{ReadsWithinBound};
 ghost use Rattle.rkyv_end_to_end.specs.declared.looking.LookError.TheVariants.{Memory, Verify};
@@ -67,8 +67,9 @@ struct LookupResult {
 // Returns the positions of the items of the table at `pos`, in bucket order.
 fn walk<W: Width, T: Element>(alloc: Global, bytes: &[u8], pos: u64) -> Result<Vec<u64>, AllocError>
     requires { Viewable (table_spec W.word T.spec) bytes.now pos }
-    ensures { IfOk result (λ walked. walked.items
-        ≡ item_positions W.word T.spec.size bytes.now pos) }
+    ensures { MatchResult result
+        (λ walked. walked.items ≡ item_positions W.word T.spec.size bytes.now pos)
+        (λ _. 0 < len_at W.word bytes.now pos) }
 {
     let mut walked = Vec::new(alloc);
     for item in ArchivedHashTable::<T, W>::of(View::new(bytes, pos)).raw_iter() {
@@ -119,7 +120,8 @@ fn look_up<W: Width, T: Element, F: Fn(View<'_, T>) -> bool>(
 /// # Errors
 ///
 /// - `Verify`: the bytes are not a valid table. It has the first fault.
-/// - `Memory`: the table is valid, and memory for the positions could not be allocated.
+/// - `Memory`: the table is valid and has items, and memory for their positions could not be
+///   allocated.
 ///
 /// # Examples
 ///

@@ -69,7 +69,8 @@ impl From<LookError> for ListError {
 /// # Errors
 ///
 /// - `Write`: the list can't be written. It has the error of the write.
-/// - `Look(LookError::Memory)`: memory for the positions could not be allocated.
+/// - `Look(LookError::Memory)`: the list has items, and memory for their positions could not be
+///   allocated.
 pub fn write_and_look_over<
     W: Width,
     U: Serialize<VecWriter, W>,
