@@ -55,7 +55,7 @@ unfoldable pub use Map.ValueWrites.{ValuesWrittenRepresent, entry_at}
 pub use Map.ValueWrites.{KeepsMap}
 unfoldable pub use Map.ListedLookups.{AgreesOnKeys, IsPosOfPair, LookupsFindListed}
 pub use Map.ListedLookups.{FindsListed}
-unfoldable pub use Map.ListedWalks.{SameSteps, SetWalksVisitEach, WalksVisitEach, WalksVisitPairs}
+unfoldable pub use Map.ListedWalks.{SetWalksVisitEach, WalksVisitEach, WalksVisitPairs}
 unfoldable pub use Map.ListedWalks.{key_positions_at}
 pub use Map.ListedWalks.{HasEachOnce}
 unfoldable pub use Map.BothHashers.{ComparedAlike, QueriedAlike, WrittenAlike, fx_found, fx_hash_at}

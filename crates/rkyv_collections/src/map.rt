@@ -48,8 +48,8 @@ pub struct ArchivedHashMap<'a, K: HasSpec, V: HasSpec, H = FxHasher64, W: Word =
 impl<'a, K: HasSpec, V: HasSpec, H, W: Word> Clone for ArchivedHashMap<'a, K, V, H, W> {
     #[inline]
     fn clone(&self) -> Result<ArchivedHashMap<'a, K, V, H, W>, AllocError>
-        ensures value { result ≡ Ok self.now }
         ensures cases { MatchResult result (λ clone. clone ≡ self.now) (λ _. ¬ ⊤) }
+        ensures same { result ≡ Ok self.now }
     {
         Ok(*self)
     }

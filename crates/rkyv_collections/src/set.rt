@@ -34,8 +34,8 @@ pub struct ArchivedHashSet<'a, K: HasSpec, H = FxHasher64, W: Word = Narrow> {
 impl<'a, K: HasSpec, H, W: Word> Clone for ArchivedHashSet<'a, K, H, W> {
     #[inline]
     fn clone(&self) -> Result<ArchivedHashSet<'a, K, H, W>, AllocError>
-        ensures value { result ≡ Ok self.now }
         ensures cases { MatchResult result (λ clone. clone ≡ self.now) (λ _. ¬ ⊤) }
+        ensures same { result ≡ Ok self.now }
     {
         Ok(*self)
     }

@@ -42,7 +42,7 @@ unfoldable pub use Map.SealedIndex.{AcceptsIn, IsAcceptedIn, IsFullSeal, IsFullS
 unfoldable pub use Map.SealedIndex.{IsPairPosIn, IsPairSeal, IsValueSeal, SealsPair, SealsValue}
 unfoldable pub use Map.SealedIndex.{full_seal_index, index_at, index_in}
 pub use Map.SealedIndex.{IsKeyAt, IsPairPos}
-unfoldable pub use Map.Walking.{CountsPositions, EndsBelow, StepsAs}
+unfoldable pub use Map.Walking.{EndsBelow}
 pub use Map.Walking.{IsWalk}
 unfoldable pub use Map.Equality.{CountsAllStrides, CountsRepeated, CountsUpTo, ReturnsRepeated}
 unfoldable pub use Map.Equality.{index_equal, index_map_equal, index_maps_equal, index_misplaced}

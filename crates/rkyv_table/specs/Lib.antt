@@ -64,8 +64,8 @@ unfoldable pub use Table.Listed.{ListFails, listed, written_as_each}
 unfoldable pub use Table.ItemValues.{UnitStep, key_values, pair_values, with_units}
 unfoldable pub use Table.IterWriting.{WritesInFormat, keys_in, pairs_in}
 pub use Table.IterWriting.{ItemsToWrite}
-unfoldable pub use Table.RawItems.{AllValid, IsAhead, buckets_left, marked_left, pos_before}
-unfoldable pub use Table.RawItems.{positions_left}
+unfoldable pub use Table.RawItems.{AllValid, CountsPositions, IsAhead, SameSteps, buckets_left}
+unfoldable pub use Table.RawItems.{marked_left, pos_before, positions_left}
 pub use Table.RawItems.{IsRawIter, ItemsLeft, YieldsPos}
 unfoldable pub use Table.Hints.{HintsExactly}
 unfoldable pub use Table.PairWalks.{YieldsKey, YieldsPair, YieldsValue}

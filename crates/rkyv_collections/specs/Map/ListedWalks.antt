@@ -1,5 +1,5 @@
 -- Walks over a map or a set that represents a list, in terms of the list.
-use Rattle.std.specs.Prelude.{◌≡◌, ℕ, ◌↔◌, List, Option, Some, slice_get, slice_index}
+use Rattle.std.specs.Prelude.{◌≡◌, ℕ, List, Some, slice_get, slice_index}
 use Rattle.std.specs.Int.{Width}
 use Rattle.std.specs.List.{AllZip}
 use Rattle.std.specs.List.Sorted.{IsPermutation}
@@ -11,13 +11,6 @@ use Rattle.rkyv_collections.specs.Set.SetFormat.{SetRepresents}
 -- the positions of the keys of the map at `p`, in bucket order, with which its walks begin
 abbrev pub key_positions_at : Width → ElementSpec → ElementSpec → List ℕ → ℕ → List ℕ
 key_positions_at w k v b p = item_positions w (entry_spec k v).size b p
-
--- calls of `next` relate the same states and results under both
-abbrev pub SameSteps : {S I : Type 0} → (S → Option I → S → Type 0) → (S → Option I → S → Type 0)
-    → Type 0
-SameSteps {S} {I} steps other =
-    (before : S) (result : Option I) (after : S)
-    → steps before result after ↔ other before result after
 
 -- The positions have the items of the list, each once, and no others.
 -- `reordered` is the list in another order: its items are at the positions in turn

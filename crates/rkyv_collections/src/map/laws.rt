@@ -3,15 +3,12 @@
 //! - This module has laws of equality, lookups and walks.
 //! - `written` is about the bytes of written maps, and `list_archives` about root maps.
 //! - `in_place` is about writes of one value, and `nested` about maps that are values of maps.
-ghost use Rattle.std.specs.Prelude.{length, ◌≡◌};
-ghost use Rattle.std.specs.Iterator.{at_most};
-ghost use Rattle.rkyv_table.specs.{ItemsLeft, YieldsKey, YieldsPair, YieldsValue};
-ghost use Rattle.rkyv_collections.specs.{ComparedAlike, EqualHaveSamePairs, LookupsFindListed};
-ghost use Rattle.rkyv_collections.specs.{QueriedAlike, RepeatedKeysAreMisplaced, SameSteps};
-ghost use Rattle.rkyv_collections.specs.{WalksVisitEach, WalksVisitPairs, WrittenAlike, map_list};
-ghost use Rattle.rkyv_collections.specs.{map_spec};
-ghost use Rattle.rkyv_keys.specs.{hash_at, native_pairs};
 ghost use Rattle.rkyv_base.specs.{SameSpec, SameValues};
+ghost use Rattle.rkyv_keys.specs.{hash_at, native_pairs};
+ghost use Rattle.rkyv_table.specs.{CountsPositions, SameSteps, YieldsKey, YieldsPair, YieldsValue};
+ghost use Rattle.rkyv_collections.specs.{ComparedAlike, EqualHaveSamePairs, LookupsFindListed};
+ghost use Rattle.rkyv_collections.specs.{QueriedAlike, RepeatedKeysAreMisplaced, WalksVisitEach};
+ghost use Rattle.rkyv_collections.specs.{WalksVisitPairs, WrittenAlike, map_list, map_spec};
 
 pub mod in_place;
 pub mod list_archives;
@@ -27,37 +24,18 @@ use rkyv_keys::equality::ElementEquiv;
 use rkyv_keys::keys::{FixedKey, KeyElement, Query};
 use rkyv_scan::hash::KeyHasher;
 
-/// States that `next` of `Iter` yields the pairs at the positions in turn.
+/// States that the iterators yield the pairs, keys and values at their positions in turn.
 ///
-/// It can always be called. At most as many items remain as positions are left.
-pub fn pairs_are_yielded<'a, K: 'a + Element, V: 'a + Element, H: 'a, W: 'a>()
-    ensures can { (left : ItemsLeft) → ⟦<Iter<'a, K, V, H, W> as Iterator>⟧.can_next left }
-    ensures steps { SameSteps ⟦<Iter<'a, K, V, H, W> as Iterator>⟧.next_gives
+/// At most as many items remain as positions are left.
+pub fn items_are_yielded<'a, K: 'a + Element, V: 'a + Element, H: 'a, W: 'a>()
+    ensures pairs { SameSteps ⟦<Iter<'a, K, V, H, W> as Iterator>⟧.next_gives
         (YieldsPair K.spec V.spec) }
-    ensures remain { (left : ItemsLeft) → ⟦<Iter<'a, K, V, H, W> as Iterator>⟧.remaining left
-        ≡ at_most (length left.positions) }
-{}
-
-/// States that `next` of `Keys` yields the keys at the positions in turn.
-///
-/// It can always be called. At most as many items remain as positions are left.
-pub fn keys_are_yielded<'a, K: 'a + Element, V: 'a + Element, H: 'a, W: 'a>()
-    ensures can { (left : ItemsLeft) → ⟦<Keys<'a, K, V, H, W> as Iterator>⟧.can_next left }
-    ensures steps { SameSteps ⟦<Keys<'a, K, V, H, W> as Iterator>⟧.next_gives
-        (YieldsKey K.spec) }
-    ensures remain { (left : ItemsLeft) → ⟦<Keys<'a, K, V, H, W> as Iterator>⟧.remaining left
-        ≡ at_most (length left.positions) }
-{}
-
-/// States that `next` of `Values` yields the values at the positions in turn.
-///
-/// It can always be called. At most as many items remain as positions are left.
-pub fn values_are_yielded<'a, K: 'a + Element, V: 'a + Element, H: 'a, W: 'a>()
-    ensures can { (left : ItemsLeft) → ⟦<Values<'a, K, V, H, W> as Iterator>⟧.can_next left }
-    ensures steps { SameSteps ⟦<Values<'a, K, V, H, W> as Iterator>⟧.next_gives
+    ensures keys { SameSteps ⟦<Keys<'a, K, V, H, W> as Iterator>⟧.next_gives (YieldsKey K.spec) }
+    ensures values { SameSteps ⟦<Values<'a, K, V, H, W> as Iterator>⟧.next_gives
         (YieldsValue K.spec V.spec) }
-    ensures remain { (left : ItemsLeft) → ⟦<Values<'a, K, V, H, W> as Iterator>⟧.remaining left
-        ≡ at_most (length left.positions) }
+    ensures pairs_left { CountsPositions ⟦<Iter<'a, K, V, H, W> as Iterator>⟧.remaining }
+    ensures keys_left { CountsPositions ⟦<Keys<'a, K, V, H, W> as Iterator>⟧.remaining }
+    ensures values_left { CountsPositions ⟦<Values<'a, K, V, H, W> as Iterator>⟧.remaining }
 {}
 
 /// States that written maps of distinct keys are equal if and only if they have the same pairs.

@@ -1,9 +1,7 @@
 -- Walks over the entries of an index map: their invariant, steps and counts.
-use Rattle.std.specs.Prelude.{◌≡◌, ℕ, ◌+◌, ◌*◌, ◌<◌, ◌^◌, List, Option, length}
-use Rattle.std.specs.Iterator.{Count, at_most}
+use Rattle.std.specs.Prelude.{ℕ, ◌+◌, ◌*◌, ◌<◌, ◌^◌, List}
 use Rattle.std.specs.List.{All}
 use Rattle.rkyv_base.specs.{ElementSpec, Viewable}
-use Rattle.rkyv_table.specs.{ItemsLeft}
 use Rattle.rkyv_index.specs.Map.{row}
 
 -- the `left` entries of `size` bytes from `at` on end below 2^64
@@ -14,13 +12,3 @@ EndsBelow at size left = at + left * size < 2 ^ 64
 pub record IsWalk (s : ElementSpec) (b : List ℕ) (at size left : ℕ) : Type 0 where
   pub below : EndsBelow at size left
   pub all_valid : All (Viewable s b) (row size at left)
-
--- each step of `given` is a step of `step`
-abbrev pub StepsAs : {S A : Type 0} → (S → Option A → S → Type 0) → (S → Option A → S → Type 0)
-    → Type 0
-StepsAs {S} {A} given step = (before : S) (result : Option A) (after : S)
-    → given before result after → step before result after
-
--- `left`: the number of positions that remain, at most
-abbrev pub CountsPositions : (ItemsLeft → Count) → Type 0
-CountsPositions left = (items : ItemsLeft) → left items ≡ at_most (length items.positions)

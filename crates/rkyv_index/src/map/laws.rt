@@ -3,13 +3,13 @@
 //! They are about writes of one value in place, deserialized lists, lookups, walks and the
 //! layout.
 //! `written` is about the bytes of written index maps, and `list_archives` about root index maps.
-ghost use Rattle.rkyv_keys.specs.{hash_at, hash_of, native_pairs};
-ghost use Rattle.rkyv_index.specs.{CountsPositions, LookupsFindListed, PairsReadBackAreListed};
-ghost use Rattle.rkyv_index.specs.{StepsAs, WalksVisitInOrder};
-ghost use Rattle.rkyv_table.specs.{YieldsKey, YieldsPair, YieldsValue};
-ghost use Rattle.rkyv_index.specs.{ValueWritesKeepIndexMaps, ValueWritesKeepLookups};
-ghost use Rattle.rkyv_index.specs.{ValuesWrittenRepresent, index_spec, ordered_pairs, reads_as};
 ghost use Rattle.rkyv_base.specs.{SameSpec, SameValues, entry_spec};
+ghost use Rattle.rkyv_keys.specs.{hash_at, hash_of, native_pairs};
+ghost use Rattle.rkyv_table.specs.{CountsPositions, SameSteps, YieldsKey, YieldsPair, YieldsValue};
+ghost use Rattle.rkyv_index.specs.{LookupsFindListed, PairsReadBackAreListed};
+ghost use Rattle.rkyv_index.specs.{ValueWritesKeepIndexMaps, ValueWritesKeepLookups};
+ghost use Rattle.rkyv_index.specs.{ValuesWrittenRepresent, WalksVisitInOrder, index_spec};
+ghost use Rattle.rkyv_index.specs.{ordered_pairs, reads_as};
 
 pub mod list_archives;
 pub mod written;
@@ -107,14 +107,13 @@ pub fn walks_visit_in_order<
         (native_pairs K.represents V.represents H.hasher K.key_calls) }
 {}
 
-/// States that `next` of the iterators returns a view at the first position, or `None` at the end.
+/// States that the iterators yield the pairs, keys and values at their positions in turn.
 ///
-/// - `pairs`, `keys`, `values`: a step of `iter`, `keys` and `values`.
-/// - `pairs_left`, `keys_left`, `values_left`: the number of positions that remain.
-pub fn iterators_yield_the_first<'a, K: Element, V: Element>()
-    ensures pairs { StepsAs ⟦<Iter<'a, K, V> as Iterator>⟧.next_gives (YieldsPair K.spec V.spec) }
-    ensures keys { StepsAs ⟦<Keys<'a, K, V> as Iterator>⟧.next_gives (YieldsKey K.spec) }
-    ensures values { StepsAs ⟦<Values<'a, K, V> as Iterator>⟧.next_gives
+/// At most as many items remain as positions are left.
+pub fn items_are_yielded<'a, K: Element, V: Element>()
+    ensures pairs { SameSteps ⟦<Iter<'a, K, V> as Iterator>⟧.next_gives (YieldsPair K.spec V.spec) }
+    ensures keys { SameSteps ⟦<Keys<'a, K, V> as Iterator>⟧.next_gives (YieldsKey K.spec) }
+    ensures values { SameSteps ⟦<Values<'a, K, V> as Iterator>⟧.next_gives
         (YieldsValue K.spec V.spec) }
     ensures pairs_left { CountsPositions ⟦<Iter<'a, K, V> as Iterator>⟧.remaining }
     ensures keys_left { CountsPositions ⟦<Keys<'a, K, V> as Iterator>⟧.remaining }

@@ -1,7 +1,8 @@
 -- The remaining items of a walk over a table.
-use Rattle.std.specs.Prelude.{◌≡◌, ℕ, ◌+◌, ◌-◌, ◌*◌, ◌≤◌, List, ◌++◌, Option, length, map, take}
+use Rattle.std.specs.Prelude.{◌≡◌, ℕ, ◌↔◌, ◌+◌, ◌-◌, ◌*◌, ◌≤◌, List, ◌++◌, Option, length, map}
+use Rattle.std.specs.Prelude.{take}
 use Rattle.std.specs.Borrow.{Bor}
-use Rattle.std.specs.Iterator.{YieldsFirst}
+use Rattle.std.specs.Iterator.{Count, YieldsFirst, at_most}
 use Rattle.std.specs.List.{All}
 use Rattle.rkyv_base.specs.{ElementSpec, Viewable}
 use Rattle.rkyv_table.specs.Controls.Walking.{full_from}
@@ -15,6 +16,18 @@ pub record ItemsLeft : Type 0 where
 pub record YieldsPos (before : ItemsLeft) (result : Option ℕ) (after : ItemsLeft) : Type 0 where
   pub takes : YieldsFirst (λ (left : ItemsLeft). left.positions) before result after
   pub archive : after.archive ≡ before.archive
+
+-- calls of `next` relate the same states and results under both
+abbrev pub SameSteps : {S I : Type 0} → (S → Option I → S → Type 0) → (S → Option I → S → Type 0)
+    → Type 0
+SameSteps {S} {I} steps other =
+    (before : S) (result : Option I) (after : S)
+    → steps before result after ↔ other before result after
+
+-- `remaining`: at most as many items as positions are left
+abbrev pub CountsPositions : (ItemsLeft → Count) → Type 0
+CountsPositions remaining =
+    (left : ItemsLeft) → remaining left ≡ at_most (length left.positions)
 
 -- the position of bucket `i` before the position `buckets_end`
 abbrev pub pos_before : ℕ → ℕ → ℕ → ℕ

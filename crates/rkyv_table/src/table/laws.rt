@@ -5,14 +5,15 @@
 ghost use Rattle.std.specs.Prelude.{ℕ};
 ghost use Rattle.rkyv_base.specs.{RepresentsAs, SameSpec, pair_format, scalar_format, text_format};
 ghost use Rattle.rkyv_base.specs.{unit_format, written_as};
-ghost use Rattle.rkyv_table.specs.{LookupFindsFirst, WalkVisitsHomes, WritesOneWay, table_format};
-ghost use Rattle.rkyv_table.specs.{table_spec};
+ghost use Rattle.rkyv_table.specs.{CountsPositions, LookupFindsFirst, SameSteps, WalkVisitsHomes};
+ghost use Rattle.rkyv_table.specs.{WritesOneWay, YieldsPos, table_format, table_spec};
 
 pub mod in_place;
 pub mod misplaced;
 pub mod written;
 
 use crate::table::TableOf;
+use crate::table::raw_iter::RawIter;
 use rkyv_base::archive::Archive;
 use rkyv_base::element::{Element, HasSpec};
 use rkyv_base::lend::Lend;
@@ -24,6 +25,14 @@ use rkyv_base::width::Width;
 /// The buckets are in ascending order.
 pub fn walk_visits_homes()
     ensures { WalkVisitsHomes }
+{}
+
+/// States that a walk yields the positions of the items in turn.
+///
+/// At most as many items remain as positions are left.
+pub fn positions_are_yielded<'a, T: 'a>()
+    ensures steps { SameSteps ⟦<RawIter<'a, T> as Iterator>⟧.next_gives YieldsPos }
+    ensures remain { CountsPositions ⟦<RawIter<'a, T> as Iterator>⟧.remaining }
 {}
 
 /// States that a lookup in a written table finds the first accepted item of its list.
