@@ -1,7 +1,7 @@
 //! A symbol table of the output of `nm`: written to files, read back, looked up and listed.
 #![tactic(auto)]
 
-ghost use Rattle.std.specs.Prelude.{IfOk, None, Ok, OnOk, length, ◌≡◌};
+ghost use Rattle.std.specs.Prelude.{IfOk, None, Ok, OnOk, length, ◌↔◌, ◌≡◌, ◌≢◌};
 ghost use Rattle.example_symbols.specs.{IsTable, address_found};
 ghost use Rattle.example_symbols_program.specs.{command_of, outcome_of};
 
@@ -57,10 +57,7 @@ fn read_file(rt: &HostRuntime, file: &str) -> Result<Vec<u8>, SymbolsError> {
 
 /// Returns the text on standard input.
 fn read_input(rt: &HostRuntime) -> Result<String, SymbolsError> {
-    match io::read_to_string(rt.alloc(), rt.reader()) {
-        Ok(text) => Ok(text),
-        Err(error) => Err(SymbolsError::Input(error)),
-    }
+    io::read_to_string(rt.alloc(), rt.reader()).map_err(SymbolsError::Input)
 }
 
 /// Writes the address of a name in a table, or a line with `none`.
@@ -93,26 +90,34 @@ fn validate(rt: &HostRuntime, file: &str, table: &[u8]) -> Result<(), SymbolsErr
 /// Prints the addresses of names in the table of a file.
 ///
 /// The names are the arguments, or the lines of standard input if there are no arguments.
-fn get(rt: &HostRuntime, table: &str, names: &[String]) -> Result<Outcome, SymbolsError> {
+fn get(rt: &HostRuntime, table: &str, names: &[String]) -> Result<Outcome, SymbolsError>
+    ensures { IfOk result (λ outcome. outcome ≢ Outcome.Misused) }
+{
     let bytes = read_file(rt, table)?;
     validate(rt, table, bytes.as_slice())?;
     let mut out = BufWriter::new(rt.alloc(), io::writer(rt))?;
-    let mut outcome = Outcome::Complete;
+    let mut missing = false;
     for name in names {
-        outcome = outcome.and(write_address(&mut out, bytes.as_slice(), name.as_str())?);
+        if let Outcome::Missing = write_address(&mut out, bytes.as_slice(), name.as_str())? {
+            missing = true;
+        }
     }
     if names.is_empty() {
         let text = read_input(rt)?;
         for name in text.lines() {
-            outcome = outcome.and(write_address(&mut out, bytes.as_slice(), name)?);
+            if let Outcome::Missing = write_address(&mut out, bytes.as_slice(), name)? {
+                missing = true;
+            }
         }
     }
     out.flush()?;
-    Ok(outcome)
+    Ok(Outcome::of_lookups(missing))
 }
 
 /// Prints the names in the index of a file, by ascending address.
-fn list(rt: &HostRuntime, index: &str) -> Result<Outcome, SymbolsError> {
+fn list(rt: &HostRuntime, index: &str) -> Result<Outcome, SymbolsError>
+    ensures { IfOk result (λ outcome. outcome ≡ Outcome.Complete) }
+{
     let bytes = read_file(rt, index)?;
     let map = match by_address::open(bytes.as_slice()) {
         Ok(map) => map,
@@ -146,23 +151,27 @@ fn cut_short(rt: &HostRuntime, table: &[u8]) -> Result<(), SymbolsError> {
 /// - the address of each name in the table,
 /// - the entries of the index,
 /// - the validation error of the table without its last byte.
-fn build(rt: &HostRuntime, table: &str, index: &str, all: bool) -> Result<Outcome, SymbolsError> {
+fn build(rt: &HostRuntime, table: &str, index: &str, all: bool) -> Result<Outcome, SymbolsError>
+    ensures { IfOk result (λ outcome. outcome ≢ Outcome.Misused) }
+{
     let text = read_input(rt)?;
     let symbols = parse(rt.alloc(), text.as_str())?;
     write(rt, symbols.as_slice(), table, index)?;
-    let mut outcome = Outcome::Complete;
+    let mut missing = false;
     if all {
         let bytes = read_file(rt, table)?;
         validate(rt, table, bytes.as_slice())?;
         let mut out = BufWriter::new(rt.alloc(), io::writer(rt))?;
         for (name, _) in symbols.iter() {
-            outcome = outcome.and(write_address(&mut out, bytes.as_slice(), name)?);
+            if let Outcome::Missing = write_address(&mut out, bytes.as_slice(), name)? {
+                missing = true;
+            }
         }
         out.flush()?;
-        outcome = outcome.and(list(rt, index)?);
+        list(rt, index)?;
         cut_short(rt, bytes.as_slice())?;
     }
-    Ok(outcome)
+    Ok(Outcome::of_lookups(missing))
 }
 
 /// Prints the usage to standard error.
@@ -177,7 +186,7 @@ fn print_usage(rt: &HostRuntime) -> Outcome
 ///
 /// If they are no command, it prints the usage to standard error.
 fn execute(rt: &HostRuntime, name: &str, arguments: &[String]) -> Result<Outcome, SymbolsError>
-    ensures { command_of name.now (length arguments.now) ≡ None → result ≡ Ok Outcome.Misused }
+    ensures { (result ≡ Ok Outcome.Misused) ↔ (command_of name.now (length arguments.now) ≡ None) }
 {
     match command_of(name, arguments.len()) {
         Some(Command::Help) => {
@@ -194,10 +203,7 @@ fn execute(rt: &HostRuntime, name: &str, arguments: &[String]) -> Result<Outcome
 
 /// Executes the command of the command line.
 fn run(rt: &HostRuntime) -> Result<Outcome, SymbolsError> {
-    let given = match env::args(rt) {
-        Ok(given) => given,
-        Err(error) => return Err(SymbolsError::Arguments(error)),
-    };
+    let given = env::args(rt).map_err(SymbolsError::Arguments)?;
     let mut words: Vec<String> = Vec::new(rt.alloc());
     for word in given.skip(1) {
         match words.push(word) {

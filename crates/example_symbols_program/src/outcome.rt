@@ -1,5 +1,5 @@
 //! The outcomes of the program, and their exit statuses.
-ghost use Rattle.std.specs.Prelude.{Ok, OnErr, ◌≡◌, ◌≢◌};
+ghost use Rattle.std.specs.Prelude.{IsTrue, Ok, OnErr, false, ◌≡◌, ◌≢◌};
 
 use crate::errors::SymbolsError;
 
@@ -15,14 +15,16 @@ pub enum Outcome {
 }
 
 impl Outcome {
-    /// Returns the outcome of two parts of a command: `self`, unless it is `Complete`.
-    pub fn and(self, next: Outcome) -> Outcome
-        ensures kept { self ≢ Outcome.Complete → result ≡ self }
-        ensures next { self ≡ Outcome.Complete → result ≡ next }
+    /// Returns the outcome of lookups: `Missing` if a name wasn't found, else `Complete`.
+    pub fn of_lookups(missing: bool) -> Outcome
+        ensures missing { IsTrue missing → result ≡ Outcome.Missing }
+        ensures complete { missing ≡ false → result ≡ Outcome.Complete }
+        ensures no_misuse { result ≢ Outcome.Misused }
     {
-        match self {
-            Outcome::Complete => next,
-            _ => self,
+        if missing {
+            Outcome::Missing
+        } else {
+            Outcome::Complete
         }
     }
 }

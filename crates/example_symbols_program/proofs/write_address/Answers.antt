@@ -3,7 +3,7 @@ use Rattle.example_symbols_program.specs.{outcome_of}
 use Rattle.example_symbols_program.proofs.write_address.Goals as goal
 
 pub returns-in_ok-writeln-in-Some : goal.returns-in_ok-writeln-in-Some
-returns-in_ok-writeln-in-Some c = ap outcome_of c.in-Some.ensures.found
+returns-in_ok-writeln-in-Some g c = ap outcome_of c.in-Some.ensures.found
 
 pub returns-in_ok-writeln-in-None : goal.returns-in_ok-writeln-in-None
-returns-in_ok-writeln-in-None c = ap outcome_of c.in-None.ensures.found
+returns-in_ok-writeln-in-None g c = ap outcome_of c.in-None.ensures.found
