@@ -1,5 +1,9 @@
-//! Laws of scripts, each a function whose contract is the statement.
-ghost use Rattle.rkyv_dict.specs.{BuildsAreOne, ChecksAreOne, ScriptsAreOne};
+//! Laws of scripts and of errors, each a function whose contract is the statement.
+ghost use Rattle.rkyv_dict.specs.{BuildsAreOne, ChecksAreOne, ScriptsAreOne, message_of};
+ghost use Rattle.std.specs.Prelude.{Some, ◌≡◌};
+
+use crate::run::RunError;
+use std::fmt;
 
 /// States that the pairs have at most one archive of a form under a load factor.
 pub fn builds_are_one()
@@ -14,4 +18,9 @@ pub fn checks_are_one()
 /// States that the same lines from the same state have one output and end in one state.
 pub fn scripts_are_one()
     ensures { ScriptsAreOne }
+{}
+
+/// States the texts that `Display` writes for the errors of a run.
+pub fn errors_are_displayed()
+    ensures { (e : RunError) → ⟦<RunError as fmt::Display>⟧.output e ≡ Some (message_of e) }
 {}
