@@ -5,8 +5,8 @@ pub mod Lemmas
 pub mod Set
 pub mod Listed
 unfoldable pub use StdMaps.StdMap.{AddsKey, ArePairsAt, InsertsPair, InsertsRead, ReadsStdMap}
-unfoldable pub use StdMaps.StdMap.{SameErrors, StdMapRepresents, inner, insert_pair_fails}
-unfoldable pub use StdMaps.StdMap.{of_entries, std_map_fails}
+unfoldable pub use StdMaps.StdMap.{StdMapRepresents, inner, insert_pair_fails, of_entries}
+unfoldable pub use StdMaps.StdMap.{std_map_fails}
 pub use StdMaps.StdMap.{EntriesRepresent}
 unfoldable pub use StdMaps.StdEquality.{EntriesEqual, FindsPair, FindsPairIn, StdMapEquals}
 unfoldable pub use StdMaps.StdEquality.{StdMapEqualsIn}

@@ -1,6 +1,6 @@
 -- Maps of std: the archived maps that represent them, and their format.
-use Rattle.std.specs.Prelude.{◌≡◌, ℕ, ◌↔◌, ◌⊎◌, Bool, List, [], ◌∷◌, ◌++◌}
-use Rattle.std.specs.Prelude.{MatchResult, None, Result, Some}
+use Rattle.std.specs.Prelude.{◌≡◌, ℕ, ◌⊎◌, Bool, List, [], ◌∷◌, ◌++◌, MatchResult, None, Result}
+use Rattle.std.specs.Prelude.{Some}
 use Rattle.std.specs.HashMap.{HashMap, IsUnique, Updates, hasher_of, keys}
 use Rattle.std.specs.Int.{Width}
 use Rattle.std.specs.List.{AllZip, IsDistinct, find}
@@ -56,10 +56,6 @@ abbrev pub std_map_fails : Width → ElementSpec → ElementSpec → Deserialize
     → DeserializeErrors → DeserializeErrors
 std_map_fails w k v key value b p e =
     (e ≡ Memory) ⊎ ((q : ℕ) × IsKeyPosAt w k v b p q × entry_deserialize_fails k v key value b q e)
-
--- deserializing the value at a position can return the same errors under both
-abbrev pub SameErrors : DeserializeErrors → DeserializeErrors → Type 0
-SameErrors errors other = (b : List ℕ) (p : ℕ) (e : ReadError) → errors b p e ↔ other b p e
 
 -- `result`: map of std that the view represents, with the hash state `state`, or an error
 abbrev pub ReadsStdMap : {A B S T : Type 0} → (List ℕ → ℕ → HashMap A B S → Type 0)

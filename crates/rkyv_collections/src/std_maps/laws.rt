@@ -3,12 +3,12 @@
 //! They are about the written bytes, lookups in these archives, and values that are read back.
 
 ghost use Rattle.rkyv_base.specs.{RepresentsAs, SameFormat, SameValues, unit_format, unit_spec};
-ghost use Rattle.rkyv_keys.specs.{hash_at, native_format, queried};
+ghost use Rattle.rkyv_keys.specs.{SameErrors, hash_at, native_format, queried};
 ghost use Rattle.rkyv_table.specs.{with_units};
 ghost use Rattle.rkyv_collections.specs.{ArchivesRoundTrip, FindsInWrittenMap, FindsInWrittenSet};
-ghost use Rattle.rkyv_collections.specs.{SameErrors, StdMapRepresents, StdSetRepresents};
-ghost use Rattle.rkyv_collections.specs.{WrittenMapsAreLists, WrittenSetsAreLists, inner};
-ghost use Rattle.rkyv_collections.specs.{std_map_fails, std_map_format, std_set_fails};
+ghost use Rattle.rkyv_collections.specs.{StdMapRepresents, StdSetRepresents, WrittenMapsAreLists};
+ghost use Rattle.rkyv_collections.specs.{WrittenSetsAreLists, inner, std_map_fails};
+ghost use Rattle.rkyv_collections.specs.{std_map_format, std_set_fails};
 
 use crate::map::HashMapOf;
 use crate::set::HashSetOf;
