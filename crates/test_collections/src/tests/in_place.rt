@@ -1,6 +1,7 @@
 //! Tests of values of maps that a closure or a cursor writes over the plain bytes.
 
-use rkyv_base::access::{access_in, access_mut};
+use crate::tests::opened::small_seal;
+use rkyv_base::access::access_in;
 use rkyv_base::element::Element;
 use rkyv_base::errors::VerifyError;
 use rkyv_base::scalars::Scalar;
@@ -9,8 +10,6 @@ use rkyv_collections::map::{ArchivedHashMap, HashMapOf};
 use rkyv_keys::keys::{KeyElement, Query};
 use rkyv_scan::hash::{FxHasher64, KeyHasher};
 use test_support::archives::four_pairs;
-
-type Small = HashMapOf<i8, i8>;
 
 // Writes `byte` at `pos`, if the archive has this position. Returns `pos`.
 fn change(archive: &mut [u8], pos: u64, byte: u8) -> u64 {
@@ -68,7 +67,7 @@ fn lookup_of_a_missing_key_changes_nothing(rt: HostRuntime) {
 // Writes a byte behind the key of each pair while the cursor steps. Returns the results of five
 // steps, which are positions of keys or `None`, and the number of pairs left.
 fn change_stepping(bytes: &mut [u8], byte: u8) -> Result<([Option<u64>; 5], usize), VerifyError> {
-    let whole = access_mut::<Small>(bytes)?;
+    let whole = small_seal(bytes)?;
     let mut rest = ArchivedHashMap::iter_seal(whole);
     let mut positions = [None; 5];
     for key_pos in &mut positions {

@@ -3,6 +3,7 @@ ghost use Rattle.std.specs.Int.{w32};
 ghost use Rattle.rkyv_base.specs.{IsValidView, entry_spec, text_spec};
 
 use crate::tests::archives::map_archive;
+use crate::tests::opened::{Small, small_map};
 use crate::tests::query_results::{
     counts, equal_maps, has_key, map_prints, misplaced, misplaced_up_to, number_of, pair_of,
 };
@@ -21,8 +22,6 @@ use test_support::archives::{
     four_pairs, four_pairs_backwards, nested, no_items, one_key_twice, one_pair, one_symbol,
     one_wide_number,
 };
-
-type Small = HashMapOf<i8, i8>;
 
 type Nested = HashMapOf<i8, Small>;
 
@@ -105,7 +104,7 @@ fn count_call(calls: &Cell<usize>, accepts: bool) -> bool {
 // Looks a key up by a comparison that always returns `accepts`.
 // Returns the position of the value, if one is found, and the number of calls of the comparison.
 fn value_with(bytes: &[u8], key: i8, accepts: bool) -> Result<(Option<u64>, usize), VerifyError> {
-    let map = ArchivedHashMap::of(access::<Small>(bytes)?);
+    let map = small_map(bytes)?;
     let calls = Cell::new(0usize);
     match map.get_with(&key, |_: &i8, _: View<'_, i8>| count_call(&calls, accepts)) {
         Some(value) => Ok((Some(value.pos()), calls.get())),
@@ -115,7 +114,7 @@ fn value_with(bytes: &[u8], key: i8, accepts: bool) -> Result<(Option<u64>, usiz
 
 // Does the same by the lookup that also returns the key.
 fn pair_with(bytes: &[u8], key: i8, accepts: bool) -> Result<(Option<u64>, usize), VerifyError> {
-    let map = ArchivedHashMap::of(access::<Small>(bytes)?);
+    let map = small_map(bytes)?;
     let calls = Cell::new(0usize);
     match map.get_key_value_with(&key, |_: &i8, _: View<'_, i8>| count_call(&calls, accepts)) {
         Some((_, value)) => Ok((Some(value.pos()), calls.get())),
@@ -401,7 +400,7 @@ fn a_wide_map_is_read(rt: HostRuntime) {
 
 // Returns the length of a copy of a map.
 fn copied_len(bytes: &[u8]) -> Option<usize> {
-    let map = ArchivedHashMap::of(access::<Small>(bytes).ok()?);
+    let map = small_map(bytes).ok()?;
     let copy = map.clone().ok()?;
     Some(copy.len())
 }

@@ -8,13 +8,13 @@ ghost use Rattle.rkyv_collections.specs.{IsKeyPosAt, map_at, map_spec};
 ghost use Rattle.test_collections.specs.InMaps.{FindsIn, KeepsIn};
 
 use crate::tests::archives::map_archive;
+use crate::tests::opened::{is_text, number_seal, small_seal, text_seal};
 use crate::tests::query_results::number_of;
-use rkyv_base::access::{access, access_in, access_mut};
+use rkyv_base::access::{access_in, access_mut};
 use rkyv_base::element::Element;
 use rkyv_base::errors::VerifyError;
 use rkyv_base::scalars::Scalar;
 use rkyv_base::seal::set_at;
-use rkyv_base::text::Text;
 use rkyv_base::view::View;
 use rkyv_base::width::{Narrow, Width};
 use rkyv_collections::map::laws::in_place::{value_writes_keep_maps, values_written_represent};
@@ -25,10 +25,6 @@ use std::alloc::Global;
 use test_support::archives::{four_pairs, one_number};
 
 type Numbers = HashMapOf<u32, u32>;
-
-type Small = HashMapOf<i8, i8>;
-
-type Texts = HashMapOf<Text, Text>;
 
 // Returns the position of a key's value, by a plain lookup in the map at `root`.
 fn value_found<K: KeyElement, V: Element, H: KeyHasher, W: Width, Q: Query<K>>(
@@ -126,7 +122,7 @@ fn a_stored_value_is_looked_up(rt: HostRuntime) {
 
 // Writes a number over the value of a key. Returns the values before and after the write.
 fn replace(bytes: &mut [u8], key: u32, value: u32) -> Result<Option<(u32, u32)>, VerifyError> {
-    let whole = access_mut::<Numbers>(bytes)?;
+    let whole = number_seal(bytes)?;
     match ArchivedHashMap::get_seal(whole, &key) {
         Some(mut seal) => {
             let before = seal.to_native();
@@ -198,7 +194,7 @@ fn replace_by(
     value: u32,
     accepts: bool,
 ) -> Result<Option<u32>, VerifyError> {
-    let whole = access_mut::<Numbers>(bytes)?;
+    let whole = number_seal(bytes)?;
     match ArchivedHashMap::get_seal_with(whole, &key, |_: &u32, _: View<'_, u32>| accepts) {
         Some(mut seal) => {
             let before = seal.to_native();
@@ -211,7 +207,7 @@ fn replace_by(
 
 // Returns the key that is found by such a comparison.
 fn key_by(bytes: &mut [u8], key: u32, accepts: bool) -> Result<Option<u32>, VerifyError> {
-    let whole = access_mut::<Numbers>(bytes)?;
+    let whole = number_seal(bytes)?;
     match ArchivedHashMap::get_key_value_seal_with(
         whole,
         &key,
@@ -233,7 +229,7 @@ fn sealed_lookup_takes_a_comparison(rt: HostRuntime) {
 // Writes these numbers over the values that a cursor reaches, one after the other.
 // Returns `true` if the map has as many values, each `len` is right, and no seal follows the last.
 fn write_values(bytes: &mut [u8], values: &[i8]) -> Result<bool, VerifyError> {
-    let whole = access_mut::<Small>(bytes)?;
+    let whole = small_seal(bytes)?;
     let mut rest = ArchivedHashMap::values_seal(whole);
     let mut right = true;
     let mut left = values.len();
@@ -251,7 +247,7 @@ fn write_values(bytes: &mut [u8], values: &[i8]) -> Result<bool, VerifyError> {
 
 // Does the same by the positions of the values, but compares only the last `len`.
 fn write_values_by_pos(bytes: &mut [u8], values: &[i8]) -> Result<bool, VerifyError> {
-    let whole = access_mut::<Small>(bytes)?;
+    let whole = small_seal(bytes)?;
     let mut rest = ArchivedHashMap::values_seal(whole);
     for value in values {
         match rest.next_pos() {
@@ -266,7 +262,7 @@ fn write_values_by_pos(bytes: &mut [u8], values: &[i8]) -> Result<bool, VerifyEr
 // Writes the numbers of these pairs over the values.
 // Returns `true` if the map has exactly their keys, in this order.
 fn write_pairs(bytes: &mut [u8], pairs: &[(i8, i8)]) -> Result<bool, VerifyError> {
-    let whole = access_mut::<Small>(bytes)?;
+    let whole = small_seal(bytes)?;
     let mut rest = ArchivedHashMap::iter_seal(whole);
     let mut right = true;
     for pair in pairs {
@@ -324,7 +320,7 @@ fn change(archive: &mut [u8], pos: u64, byte: u8) {
 
 // Writes 20 and 21 over the first two values while the cursor steps. Returns their positions.
 fn write_stepping(bytes: &mut [u8]) -> Result<[Option<u64>; 2], VerifyError> {
-    let whole = access_mut::<Small>(bytes)?;
+    let whole = small_seal(bytes)?;
     let mut rest = ArchivedHashMap::values_seal(whole);
     let first = rest.next_with(|archive: &mut [u8], pos: u64| change(archive, pos, 20));
     let second = rest.next_with(|archive: &mut [u8], pos: u64| change(archive, pos, 21));
@@ -353,7 +349,7 @@ fn write_first(
     bytes: &mut [u8],
     value: i8,
 ) -> Result<Option<(usize, u64, i8, usize)>, VerifyError> {
-    let whole = access_mut::<Small>(bytes)?;
+    let whole = small_seal(bytes)?;
     let mut rest = ArchivedHashMap::iter_seal(whole);
     let before = rest.len();
     match rest.next_pos() {
@@ -390,25 +386,16 @@ fn is_archived_as(alloc: Global, values: [&str; 3], bytes: &[u8]) -> bool {
 
 // Returns whether the value of a key is `text`, as read by a seal.
 fn is_text_in_place(bytes: &mut [u8], key: &str, text: &str) -> Result<Option<bool>, VerifyError> {
-    let whole = access_mut::<Texts>(bytes)?;
+    let whole = text_seal(bytes)?;
     match ArchivedHashMap::get_seal(whole, &key) {
         Some(seal) => Ok(Some(seal.as_str() == Some(text))),
         None => Ok(None),
     }
 }
 
-// Returns whether the value of a key is `text`.
-fn is_text(bytes: &[u8], key: &str, text: &str) -> Result<Option<bool>, VerifyError> {
-    let map = ArchivedHashMap::of(access::<Texts>(bytes)?);
-    match map.get(&key) {
-        Some(value) => Ok(Some(value.as_str() == text)),
-        None => Ok(None),
-    }
-}
-
 // Writes the value of a key in upper case. Returns the result of the seal.
 fn uppercase(bytes: &mut [u8], key: &str) -> Result<Option<bool>, VerifyError> {
-    let whole = access_mut::<Texts>(bytes)?;
+    let whole = text_seal(bytes)?;
     match ArchivedHashMap::get_seal(whole, &key) {
         Some(mut seal) => Ok(Some(seal.make_ascii_uppercase())),
         None => Ok(None),
@@ -417,7 +404,7 @@ fn uppercase(bytes: &mut [u8], key: &str) -> Result<Option<bool>, VerifyError> {
 
 // Writes three values in upper case. Returns the number of seals that return `true`.
 fn uppercase_three(bytes: &mut [u8]) -> Result<Option<usize>, VerifyError> {
-    let whole = access_mut::<Texts>(bytes)?;
+    let whole = text_seal(bytes)?;
     let mut rest = ArchivedHashMap::values_seal(whole);
     let mut uppercased = 0usize;
     for _ in 0..3 {

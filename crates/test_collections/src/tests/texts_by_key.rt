@@ -1,13 +1,14 @@
 //! Tests of texts of a map that are written in upper case by key, over the plain bytes.
 
 use crate::tests::archives::map_archive;
+use crate::tests::opened::is_text;
 use rkyv_base::access::access;
 use rkyv_base::errors::VerifyError;
 use rkyv_base::text::Text;
 use rkyv_base::width::Narrow;
 use rkyv_collections::FxHasher64;
+use rkyv_collections::map::HashMapOf;
 use rkyv_collections::map::in_place::text::make_ascii_uppercase_of;
-use rkyv_collections::map::{ArchivedHashMap, HashMapOf};
 use std::alloc::Global;
 use std::test::Fail;
 
@@ -22,15 +23,6 @@ fn texts(alloc: Global) -> Result<Vec<u8>, Fail> {
 fn uppercase(bytes: &mut [u8], key: &str) -> Result<Option<bool>, VerifyError> {
     let root = access::<HashMapOf<Text, Text>>(&*bytes)?.pos();
     Ok(make_ascii_uppercase_of::<&str, Text, FxHasher64, Narrow>(bytes, root, &key))
-}
-
-// Returns whether the value of a key is `text`.
-fn is_text(bytes: &[u8], key: &str, text: &str) -> Result<Option<bool>, VerifyError> {
-    let map = ArchivedHashMap::of(access::<HashMapOf<Text, Text>>(bytes)?);
-    match map.get(&key) {
-        Some(value) => Ok(Some(value.as_str() == text)),
-        None => Ok(None),
-    }
 }
 
 // Returns the results of three calls, and whether the texts are as expected after them.

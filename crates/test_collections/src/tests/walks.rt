@@ -1,4 +1,5 @@
 //! Tests of walks over maps and sets: the items, their order, and the number left.
+use crate::tests::opened::small_map;
 use rkyv_base::access::access;
 use rkyv_base::element::Element;
 use rkyv_base::errors::VerifyError;
@@ -98,7 +99,7 @@ fn values_of<K: Element, V: Element>(
 
 // Returns the number of pairs whose value a lookup of their key finds at the same position.
 fn found_by_own_keys(bytes: &[u8]) -> Result<usize, VerifyError> {
-    let map = ArchivedHashMap::of(access::<HashMapOf<i8, i8>>(bytes)?);
+    let map = small_map(bytes)?;
     let mut count = 0usize;
     for (key, value) in map {
         match map.get(&key.to_native()) {
