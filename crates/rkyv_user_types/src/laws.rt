@@ -3,17 +3,16 @@
 //! They say by which parts a value is archived, represented and hashed, and with which errors
 //! it fails to deserialize.
 
+ghost use Rattle.std.specs.Prelude.{◌++◌, ◌≡◌};
 ghost use Rattle.rkyv_base.specs.{SameFormat, SameValues, pair_format, written_as};
-ghost use Rattle.rkyv_keys.specs.{entry_deserialize_fails};
+ghost use Rattle.rkyv_keys.specs.{SameErrors, entry_deserialize_fails};
 ghost use Rattle.rkyv_user_types.specs.{RepresentsAsPair};
-ghost use Rattle.std.specs.Prelude.{List, ℕ, ◌++◌, ◌↔◌, ◌≡◌};
 
 use crate::pair::{AsPair, FromPair, PairEntry};
 use crate::tuple::{AsTuple, FromTuple, TupleEntry};
 use rkyv_base::archive::Archive;
 use rkyv_base::element::Represents;
 use rkyv_base::entry::Entry;
-use rkyv_base::errors::ReadError;
 use rkyv_base::width::Width;
 use rkyv_keys::deserialize::Deserialize;
 use rkyv_keys::hash::KeyHash;
@@ -48,9 +47,8 @@ pub fn pairs_fail_as_their_parts<
     K: Deserialize<A>,
     V: Deserialize<B>,
 >()
-    ensures { (b : List ℕ) (p : ℕ) (e : ReadError)
-        → ⟦<Entry<K, V> as Deserialize<PairEntry<T>>>⟧.deserialize_fails b p e
-        ↔ entry_deserialize_fails K.spec V.spec K.deserialize_fails V.deserialize_fails b p e }
+    ensures { SameErrors ⟦<Entry<K, V> as Deserialize<PairEntry<T>>>⟧.deserialize_fails
+        (entry_deserialize_fails K.spec V.spec K.deserialize_fails V.deserialize_fails) }
 {}
 
 /// States that a `TupleEntry` is archived and represented as the pair of its parts.
@@ -87,7 +85,6 @@ pub fn tuples_fail_as_their_parts<
     K: Deserialize<A>,
     V: Deserialize<B>,
 >()
-    ensures { (b : List ℕ) (p : ℕ) (e : ReadError)
-        → ⟦<Entry<K, V> as Deserialize<TupleEntry<T>>>⟧.deserialize_fails b p e
-        ↔ entry_deserialize_fails K.spec V.spec K.deserialize_fails V.deserialize_fails b p e }
+    ensures { SameErrors ⟦<Entry<K, V> as Deserialize<TupleEntry<T>>>⟧.deserialize_fails
+        (entry_deserialize_fails K.spec V.spec K.deserialize_fails V.deserialize_fails) }
 {}
