@@ -62,7 +62,7 @@ impl<'a, K: Key + ?Sized, V: Value + ?Sized> IndexMap<'a, K, V> {
     /// [`open_container`](IndexMap::open_container) opens those that do.
     ///
     /// # Errors
-    /// The first error of validation:
+    /// The first error of validation, one of these:
     /// - [`ErrorKind::OutOfRange`](crate::ErrorKind::OutOfRange)
     /// - [`ErrorKind::Unaligned`](crate::ErrorKind::Unaligned)
     /// - [`ErrorKind::InvalidLength`](crate::ErrorKind::InvalidLength)
