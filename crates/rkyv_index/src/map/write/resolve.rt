@@ -94,8 +94,10 @@ impl<'a, K: HasSpec, V: HasSpec, H, W: Width> ArchivedIndexMap<'a, K, V, H, W> {
         requires fits { pos + W.INDEX_SIZE < 2 ^ 64 }
         ensures { WritesIndexHeader W.word resolver pos out.old out.new result }
     {
-        let entries_word = pos + W::TABLE_SIZE as u64;
-        let distance = W::distance(resolver.entries, entries_word).ok_or(DistanceTooLarge)?;
+        let distance = match W::distance(resolver.entries, pos + W::TABLE_SIZE as u64) {
+            Some(distance) => distance,
+            None => return Err(DistanceTooLarge),
+        };
         let (table, entries) = out.split_at_mut(W::TABLE_SIZE);
         ArchivedHashTable::<W::Place, W>::resolve_from_len(
             len,

@@ -43,7 +43,11 @@ pub(crate) fn write_row<W: Width, S: Writer, U: Archive<W>>(
 {
     let mut rest = resolvers.into_iter();
     for value in values {
-        value.resolve(rest.next().unwrap(), serializer.pos(), scratch)?;
+        let resolver = match rest.next() {
+            Some(resolver) => resolver,
+            None => unreachable!(),
+        };
+        value.resolve(resolver, serializer.pos(), scratch)?;
         append_in::<W, S>(serializer, scratch)?;
     }
     Ok(())

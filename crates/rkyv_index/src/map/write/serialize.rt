@@ -127,10 +127,15 @@ impl<'a, K: KeyElement, V: Element, H: KeyHasher, W: IndexMapWidth> ArchivedInde
             mut scratch,
             resolvers,
         } = Room::new(alloc, len, Entry::<K, V>::size())?;
-        take_entries(iter, len, &mut entries).map_err(|actual| IteratorLengthMismatch {
-            expected: len,
-            actual,
-        })?;
+        match take_entries(iter, len, &mut entries) {
+            Ok(()) => {}
+            Err(actual) => {
+                return Err(WriteError::IteratorLengthMismatch(IteratorLengthMismatch {
+                    expected: len,
+                    actual,
+                }));
+            }
+        }
         write_index::<W, H, _, EntryAdapter<_, _, A, B>>(
             alloc,
             entries.as_slice(),
