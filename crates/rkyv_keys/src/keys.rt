@@ -72,7 +72,7 @@ pub trait Query<K: KeyElement>: KeyHash {
     // The query fits the key at a position.
     ghost fits: { Self → List ℕ → ℕ → Bool };
 
-    /// Returns `true` if and only if the query fits the key.
+    /// Returns `true` if and only if the query matches the key.
     ///
     /// # Requires
     ///
@@ -104,7 +104,7 @@ pub trait NativeKey<K: KeyElement + Represents<Self>>: Query<K> + Eq {
     ghost reads: { (key : Self) → Self.can_read key };
 }
 
-/// A query that fits the archived form of a native key of type `A` if and only if both are equal.
+/// A query that matches the archived form of a native key of type `A` if and only if they are equal.
 ///
 /// Each native key is such a query of its own type. A `&str` is one of `String` keys,
 /// and a `String` one of `&str` keys. The laws of lookups in lists are about these queries.

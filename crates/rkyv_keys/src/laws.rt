@@ -24,12 +24,12 @@ pub fn native_keys_hash_as_written<K: KeyElement + Represents<V>, V: NativeKey<K
     ensures { HashesAsWritten K.spec K.represents K.key_calls V.can_read V.calls }
 {}
 
-/// States that a query fits all archived keys of one native value, or none.
+/// States that a query matches all archived keys of one native value, or none.
 pub fn queries_fit_by_value<K: KeyElement + Represents<V>, V: NativeKey<K>, Q: Query<K>>()
     ensures { FitsByValue K.spec K.represents V.can_read Q.can_read Q.fits }
 {}
 
-/// States that the keys that a query fits depend only on the bytes of the keys and their parts.
+/// States that the keys that a query matches depend only on the bytes of the keys and their parts.
 pub fn queries_rest_on_keys<K: KeyElement, Q: Query<K>>()
     ensures { RestsOnKeys K.spec Q.can_read Q.fits }
 {}

@@ -165,11 +165,11 @@ impl<'a, K: Element, H, W: Width> IntoIterator for &ArchivedHashSet<'a, K, H, W>
 impl<'a, K: KeyElement, H: KeyHasher, W: Width> ArchivedHashSet<'a, K, H, W> {
     /// Returns the key that the query finds, or `None`.
     ///
-    /// In a written set, it is the first key in insertion order that the query fits.
+    /// In a written set, it is the first key in insertion order that the query matches.
     ///
-    /// In an untrusted set, a lookup may miss a key that the query fits.
-    /// No key is missed if `misplaced` is 0. The lookup then finds the one key that the query fits,
-    /// and `None` if and only if it fits none.
+    /// In an untrusted set, a lookup may miss a key that the query matches.
+    /// No key is missed if `misplaced` is 0. The lookup then finds the one key that the query
+    /// matches, and `None` if and only if it matches none.
     ///
     /// A lookup in an untrusted set may read every group of its control bytes once.
     ///

@@ -54,8 +54,8 @@ impl<'a, K: KeyElement, H: KeyHasher, W: Width> ArchivedHashSet<'a, K, H, W> {
     ///
     /// The number is the result of `misplaced`.
     ///
-    /// The result is `None` if the lookups of all keys read more than `limit` strides of sixteen
-    /// control bytes, or more than 2^63.
+    /// The result is `None` if and only if the lookups of all keys read more than `limit` strides
+    /// of sixteen control bytes, or more than 2^63.
     ///
     /// It reads at most `limit` strides and those of one more lookup, so its cost on an untrusted
     /// set is bounded.

@@ -143,11 +143,11 @@ impl<'a, K: Element, H, W: Width> IntoIterator for &ArchivedIndexSet<'a, K, H, W
 impl<'a, K: KeyElement, H: KeyHasher, W: Width> ArchivedIndexSet<'a, K, H, W> {
     /// Returns the key that the query finds, with its index, or `None`.
     ///
-    /// In a written set, it is the first key in insertion order that the query fits.
+    /// In a written set, it is the first key in insertion order that the query matches.
     ///
-    /// In an untrusted set, a lookup may miss a key that the query fits.
-    /// No key is missed if `misplaced` is 0. The lookup then finds the one key that the query fits,
-    /// and `None` if and only if it fits none.
+    /// In an untrusted set, a lookup may miss a key that the query matches.
+    /// No key is missed if `misplaced` is 0. The lookup then finds the one key that the query
+    /// matches, and `None` if and only if it matches none.
     ///
     /// A lookup in an untrusted set may read every group of its control bytes once.
     /// `FxHasher64` takes no secret key, so it doesn't protect from chosen input.

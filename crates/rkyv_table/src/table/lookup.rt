@@ -152,7 +152,7 @@ impl<'a, T: Element, W: Width> ArchivedHashTable<'a, T, W> {
     ///
     /// # Requires
     ///
-    /// - `strides` has at most 9,223,372,036,854,775,808 strides.
+    /// - `strides` has at most 2^63 strides.
     /// - The comparison can be called with each item of the table.
     ///
     /// # Examples

@@ -149,11 +149,11 @@ impl<'a, K: KeyElement, V: Element, H: KeyHasher, W: Width> ArchivedHashMap<'a, 
 
     /// Returns the pair of the key that the query finds, or `None`.
     ///
-    /// In a written map, it is the first pair in insertion order whose key the query fits.
+    /// In a written map, it is the first pair in insertion order whose key the query matches.
     ///
-    /// In an untrusted map, a lookup may miss a key that the query fits.
-    /// No key is missed if `misplaced` is 0. The lookup then finds the one key that the query fits,
-    /// and `None` if and only if it fits none.
+    /// In an untrusted map, a lookup may miss a key that the query matches.
+    /// No key is missed if `misplaced` is 0. The lookup then finds the one key that the query
+    /// matches, and `None` if and only if it matches none.
     ///
     /// A lookup in an untrusted map may read every group of its control bytes once.
     /// `FxHasher64` takes no secret key, so it doesn't protect from chosen input.

@@ -3,7 +3,7 @@
 //! - `misplaced` looks up each key. Its cost on an untrusted map may be quadratic.
 //! - `misplaced_up_to` ends at a limit on the strides that are read.
 //!
-//! If the number is 0, each lookup is exact: it finds the one key that the query fits, or none.
+//! If the number is 0, each lookup is exact: it finds the one key that the query matches, or none.
 ghost use Rattle.std.specs.Prelude.{◌≡◌};
 ghost use Rattle.rkyv_base.specs.{IsValidView, bytes_of, entry_spec, pos_of};
 ghost use Rattle.rkyv_keys.specs.{hash_at};
@@ -63,14 +63,12 @@ impl<'a, K: KeyElement, V: Element, H: KeyHasher, W: Width> ArchivedHashMap<'a, 
     ///
     /// The number is the result of `misplaced`.
     ///
-    /// The result is `None` if the lookups of all keys read more than `limit` strides of sixteen
-    /// control bytes, or more than 2^63.
+    /// The result is `None` if and only if the lookups of all keys read more than `limit` strides
+    /// of sixteen control bytes, or more than 2^63.
     ///
     /// It reads at most `limit` strides and those of one more lookup, so its cost on an untrusted
-    /// map is bounded: [`ArchivedHashTable::misplaced_up_to_by`] counts them. A written map
+    /// map is bounded: `ArchivedHashTable::misplaced_up_to_by` counts them. A written map
     /// without repeated hashes takes about one stride for each key.
-    ///
-    /// [`ArchivedHashTable::misplaced_up_to_by`]: rkyv_table::table::ArchivedHashTable
     ///
     /// # Examples
     ///

@@ -81,8 +81,8 @@ impl<'a, K: KeyElement, V: Element, H: KeyHasher, W: Width> ArchivedIndexMap<'a,
     ///
     /// The number is the result of `misplaced`.
     ///
-    /// The result is `None` if the lookups of all keys read more than `limit` strides of sixteen
-    /// control bytes, or more than 2^63.
+    /// The result is `None` if and only if the lookups of all keys read more than `limit` strides
+    /// of sixteen control bytes, or more than 2^63.
     ///
     /// It reads at most `limit` strides and those of one more lookup, so its cost on an untrusted
     /// map is bounded: `misplaced_up_to_counted` counts them. A written map without repeated hashes
