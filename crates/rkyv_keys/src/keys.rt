@@ -104,7 +104,7 @@ pub trait NativeKey<K: KeyElement + Represents<Self>>: Query<K> + Eq {
     ghost reads: { (key : Self) → Self.can_read key };
 }
 
-/// A query that matches the archived form of a native key of type `A` if and only if they are equal.
+/// A query that matches an archived native key of type `A` if and only if they are equal.
 ///
 /// Each native key is such a query of its own type. A `&str` is one of `String` keys,
 /// and a `String` one of `&str` keys. The laws of lookups in lists are about these queries.
