@@ -1,6 +1,7 @@
 //! Types of a user's own as values and as keys.
 
 mod as_keys;
+mod round_trips;
 
 use crate::color::Color;
 use crate::landmark::Landmark;

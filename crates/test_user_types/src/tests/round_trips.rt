@@ -1,0 +1,57 @@
+//! Round trips of values of a user's own types, and of a map of std with such values.
+
+ghost use Rattle.std.specs.Prelude.{◌≡◌, IfOk, true};
+
+use crate::pixel::Pixel;
+use crate::point::Point;
+use rkyv_base::errors::RoundTripError;
+use rkyv_base::width::{Narrow, Wide};
+use rkyv_collections::std_maps::hashed::Hashed;
+use rkyv_collections::std_maps::round_trip::round_trips_equal;
+use rkyv_user_types::pair::PairEntry;
+use rkyv_user_types::tuple::TupleEntry;
+use std::alloc::{AllocError, Global};
+use std::collections::HashMap;
+use std::test::Fail;
+
+type Places = Hashed<HashMap<u8, PairEntry<Point>>>;
+
+// Writes a point and a pixel, compares the archives with them, and reads them back.
+fn values_round_trip(
+    alloc: Global,
+    point: &PairEntry<Point>,
+    pixel: &TupleEntry<Pixel>,
+) -> Result<(bool, bool), RoundTripError>
+    ensures { IfOk result (λ same. (same.0 ≡ true) × (same.1 ≡ true)) }
+{
+    let first = round_trips_equal::<Narrow, PairEntry<Point>>(alloc, point)?;
+    let second = round_trips_equal::<Wide, TupleEntry<Pixel>>(alloc, pixel)?;
+    Ok((first, second))
+}
+
+// Returns a map with one point as a value.
+fn one_place(alloc: Global) -> Result<Places, AllocError> {
+    let mut map = HashMap::new(alloc);
+    map.insert(7u8, PairEntry(Point { x: -2, y: 3 }))?;
+    Ok(Hashed::new(map))
+}
+
+#[test]
+fn a_point_and_a_pixel(rt: HostRuntime) {
+    let point = PairEntry(Point { x: -2, y: 3 });
+    let pixel = TupleEntry(Pixel {
+        level: 7,
+        x: 300,
+        y: 2,
+    });
+    let same = values_round_trip(rt.alloc(), &point, &pixel).ok();
+    assert_eq!(rt; same, Some((true, true)));
+}
+
+#[test]
+fn a_map_of_points(rt: HostRuntime) -> Result<(), Fail> {
+    let map = one_place(rt.alloc())?;
+    let same = round_trips_equal::<Narrow, Places>(rt.alloc(), &map).ok();
+    assert_eq!(rt; same, Some(true));
+    Ok(())
+}
