@@ -12,4 +12,5 @@ unfoldable pub use CommandLines.{option_argument, pair_argument, value_in, whole
 unfoldable pub use CommandLines.{word_argument}
 pub use CommandLines.{Argument, EndsWithName, MakeUp, NamesOptions, SetOptions, as_svg, in_color}
 pub use CommandLines.{of_file, with_help, with_key, with_kind, with_value, with_width}
-unfoldable pub use Outcomes.{HasInspection, IsCausedBy, status_of}
+unfoldable pub use Outcomes.{HasInspection, IsCausedBy, IsContainerError, IsFileError, IsOtherError}
+unfoldable pub use Outcomes.{status_of}

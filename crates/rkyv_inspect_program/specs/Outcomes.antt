@@ -1,12 +1,16 @@
 -- The outcomes of the program, and their exit statuses.
 use Rattle.std.specs.Prelude.{Err, List, Ok, Result, ℕ, ◌≡◌}
+use Rattle.std.specs.declared.io.Error.{Error}
 use Rattle.rkyv_container.specs.declared.contents.Contents.{Contents}
+use Rattle.rkyv_container.specs.declared.errors.ContainerError.{ContainerError}
 use Rattle.rkyv_inspect.specs.{InspectsContents}
 use Rattle.rkyv_inspect.specs.declared.errors.InspectError.{InspectError}
 use Rattle.rkyv_inspect.specs.declared.errors.InspectError.TheVariants.{Invalid as InvalidArchive}
 use Rattle.rkyv_inspect.specs.declared.inspection.Inspection.{Inspection}
 use Rattle.rkyv_inspect_program.specs.declared.errors.ProgramError.{ProgramError}
-use Rattle.rkyv_inspect_program.specs.declared.errors.ProgramError.TheVariants.{Container, Invalid}
+use Rattle.rkyv_inspect_program.specs.declared.errors.ProgramError.TheVariants.{Container, File}
+use Rattle.rkyv_inspect_program.specs.declared.errors.ProgramError.TheVariants.{Inspection as Other}
+use Rattle.rkyv_inspect_program.specs.declared.errors.ProgramError.TheVariants.{Invalid, Memory}
 use Rattle.rkyv_inspect_program.specs.declared.outcome.Outcome.{Outcome}
 use Rattle.rkyv_inspect_program.specs.declared.outcome.Outcome.TheVariants.{Complete, Misused}
 
@@ -19,10 +23,29 @@ status_of (Err (Container _ _)) = 1
 status_of (Err (Invalid _ _)) = 1
 status_of (Err _) = 3
 
--- `error`: error of the program for the `cause`. It is an invalid archive only if the cause is
+-- the error is no invalid archive
+abbrev pub IsOtherError : InspectError → Type 0
+IsOtherError (InvalidArchive _) = ⊥
+IsOtherError _ = Unit {0}
+
+-- the error of the program for a failed inspection with this cause, or a failed allocation
 abbrev pub IsCausedBy : InspectError → ProgramError → Type 0
-IsCausedBy cause (Invalid file fault) = cause ≡ InvalidArchive fault
-IsCausedBy cause _ = Unit {0}
+IsCausedBy cause (Invalid _ fault) = cause ≡ InvalidArchive fault
+IsCausedBy cause (Other _ error) = (cause ≡ error) × IsOtherError error
+IsCausedBy _ (Memory _) = Unit {0}
+IsCausedBy _ _ = ⊥
+
+-- the error of the program for a failed read of a file, or a failed allocation
+abbrev pub IsFileError : Error → ProgramError → Type 0
+IsFileError cause (File _ error) = cause ≡ error
+IsFileError _ (Memory _) = Unit {0}
+IsFileError _ _ = ⊥
+
+-- the error of the program for a file that isn't a container, or a failed allocation
+abbrev pub IsContainerError : ContainerError → ProgramError → Type 0
+IsContainerError cause (Container _ error) = cause ≡ error
+IsContainerError _ (Memory _) = Unit {0}
+IsContainerError _ _ = ⊥
 
 -- the archive `bytes` has an inspection with these contents, so it is valid. `limit`: limit of
 -- strides

@@ -1,5 +1,5 @@
 //! The errors of the program.
-ghost use Rattle.rkyv_inspect_program.specs.{IsCausedBy};
+ghost use Rattle.rkyv_inspect_program.specs.{IsCausedBy, IsContainerError, IsFileError};
 
 use rkyv_base::errors::VerifyError;
 use rkyv_container::ContainerError;
@@ -35,7 +35,9 @@ pub enum ProgramError {
 }
 
 /// Returns the error of a read of a file.
-pub fn file_error(alloc: Global, file: &str, error: io::Error) -> ProgramError {
+pub fn file_error(alloc: Global, file: &str, error: io::Error) -> ProgramError
+    ensures { IsFileError error result }
+{
     match String::from_str(alloc, file) {
         Ok(file) => ProgramError::File { file, error },
         Err(refused) => ProgramError::Memory(refused),
@@ -43,7 +45,9 @@ pub fn file_error(alloc: Global, file: &str, error: io::Error) -> ProgramError {
 }
 
 /// Returns the error of a file that isn't a container.
-pub fn container_error(alloc: Global, file: &str, error: ContainerError) -> ProgramError {
+pub fn container_error(alloc: Global, file: &str, error: ContainerError) -> ProgramError
+    ensures { IsContainerError error result }
+{
     match String::from_str(alloc, file) {
         Ok(file) => ProgramError::Container { file, error },
         Err(refused) => ProgramError::Memory(refused),
