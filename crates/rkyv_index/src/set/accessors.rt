@@ -199,7 +199,10 @@ impl<'a, K: KeyElement, H: KeyHasher, W: Width> ArchivedIndexSet<'a, K, H, W> {
         requires stored { IfSome index (IsStoredIndex (keys_of self)) }
         ensures { IsMemberAt self.entry result index }
     {
-        Some(self.map.entries().entry(index?).key())
+        match index {
+            Some(index) => Some(self.map.entries().entry(index).key()),
+            None => None,
+        }
     }
 
     /// Returns the index of the key that the query finds, or `None`.
