@@ -3,7 +3,7 @@ use Rattle.std.specs.Prelude.{◌≡◌, ℕ, ◌⊎◌, Bool, List}
 use Rattle.std.specs.Borrow.{Bor}
 use Rattle.std.specs.Str.{IsUtf8}
 use Rattle.rkyv_scan.specs.{HasherCall, fx_hasher, hash_of_calls, low_halves}
-use Rattle.rkyv_base.specs.{ArchiveOf, ElementSpec, Format, IsValidArchive, ScalarRepresents}
+use Rattle.rkyv_base.specs.{ArchiveOf, Format, IsValidArchive, ScalarRepresents}
 use Rattle.rkyv_base.specs.{ToBytesFails, scalar_format, text_spec, unit_spec}
 use Rattle.rkyv_base.specs.declared.errors.WriteError.{WriteError}
 use Rattle.rkyv_base.specs.declared.strings.TextResolver.{TextResolver}

@@ -1,5 +1,5 @@
 -- Lists of regions, and the fields in them.
-use Rattle.std.proofs.Common.{◌≡◌, ◌∙◌, ◌+◌, ◌*◌, ◌-◌, ◌<◌, ◌≤◌, ℕ, zero, suc, Bool, List, [], ◌∷◌, ◌++◌, ap, append_assoc, arith, false, if◌then◌else◌, inl, inr, map, max, min, refl, sym, subst, true, filter}
+use Rattle.std.proofs.Common.{◌≡◌, ◌∙◌, ◌+◌, ◌*◌, ◌-◌, ◌<◌, ◌≤◌, ℕ, Bool, List, [], ◌∷◌, ◌++◌, ap, append_assoc, arith, false, if◌then◌else◌, inl, inr, map, max, min, refl, sym, subst, filter}
 use Rattle.std.proofs.lemmas.Bool.{cases_Bool, le-ltb, lt-ltb}
 use Rattle.std.proofs.lemmas.List.{append-nil, map-append}
 use Rattle.std.proofs.lemmas.List.Elements.{filter-append}

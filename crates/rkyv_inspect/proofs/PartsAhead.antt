@@ -5,15 +5,14 @@ use Rattle.std.specs.Int.{Width, byte_len}
 use Rattle.std.specs.List.{range_with_len}
 use Rattle.std.proofs.lemmas.Bool.{cases_eq, ne_eqb}
 use Rattle.rkyv_scan.specs.{AllBelow}
-use Rattle.rkyv_base.specs.{ElementSpec, IsArchiveWord, IsElement, Viewable, entry_spec, value_offset}
+use Rattle.rkyv_base.specs.{ElementSpec, IsElement, Viewable, entry_spec, value_offset}
 use Rattle.rkyv_base.specs.Lemmas.Entry.{entry_element}
-use Rattle.rkyv_table.specs.{AreValidAt, bucket_at, cap_at, controls_at, control_count, controls_pos, item_at, item_positions, len_at, table_controls, table_spec, walk}
+use Rattle.rkyv_table.specs.{AreValidAt, bucket_at, cap_at, control_count, controls_pos, item_at, item_positions, len_at, table_controls, table_spec, walk}
 use Rattle.rkyv_table.specs.Lemmas.ItemPositions.{decoded_controls, decoded_item, decoded_pos}
 use Rattle.rkyv_table.specs.Lemmas.TableLaws.{walk_below}
-use Rattle.rkyv_table.specs.Lemmas.ValidItemLaws.{all_between}
 use Rattle.rkyv_table.proofs.ValidTable.{part_of}
 use Rattle.rkyv_index.specs.{IsValidIndex, entries_pos, entry_at, index_spec, pair_positions, row}
-use Rattle.rkyv_inspect.specs.{AreAhead, AreInRange, IsWithin, PairFits, PairType, buckets_begin, entry_size, key_part, pair_end, part_end, table_end, value_part}
+use Rattle.rkyv_inspect.specs.{AreAhead, AreInRange, IsWithin, PairFits, PairType, buckets_begin, key_part, pair_end, part_end, table_end, value_part}
 use Rattle.rkyv_inspect.specs.declared.fields.Part.{Part}
 
 -- bytes in a range are in a greater one

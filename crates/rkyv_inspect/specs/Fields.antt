@@ -1,5 +1,5 @@
 -- The types of keys and values that are shown, and their out-of-line bytes.
-use Rattle.std.specs.Prelude.{◌≡◌, ℕ, ◌+◌, ◌≤◌, Bool, List, None, Option, Some, if◌then◌else◌}
+use Rattle.std.specs.Prelude.{◌≡◌, ℕ, ◌+◌, ◌≤◌, List, None, Option, Some, if◌then◌else◌}
 use Rattle.std.specs.Prelude.{unsigned_abs}
 use Rattle.std.specs.Int.{Width}
 use Rattle.rkyv_base.specs.{ElementSpec, fixed_bytes, is_out_of_line, out_of_line_begin}

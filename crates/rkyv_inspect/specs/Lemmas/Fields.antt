@@ -1,11 +1,11 @@
 -- Lemmas: the out-of-line bytes of valid values are in their ranges.
-use Rattle.std.specs.Prelude.{◌≡◌, ℕ, ◌+◌, ◌≤◌, ◌⊎◌, pos, List, None, Option, Some, false, true}
-use Rattle.std.specs.Prelude.{if◌then◌else◌, unsigned_abs}
+use Rattle.std.specs.Prelude.{◌≡◌}
+use Rattle.std.specs.Prelude.{unsigned_abs}
 use Rattle.std.specs.Int.{Width}
-use Rattle.std.proofs.Common.{◌∙◌, ap, arith, inl, inr, refl, sym}
-use Rattle.rkyv_base.specs.{ElementSpec, IsValidText, fixed_bytes, is_out_of_line}
-use Rattle.rkyv_base.specs.{out_of_line_begin, out_of_line_length, text_spec}
-use Rattle.rkyv_inspect.specs.Fields.{AreInRange, IsWithin, no_part, part_from, part_of_text}
+use Rattle.std.proofs.Common.{ap, arith, inl, inr, sym}
+use Rattle.rkyv_base.specs.{ElementSpec, fixed_bytes}
+use Rattle.rkyv_base.specs.{out_of_line_begin, text_spec}
+use Rattle.rkyv_inspect.specs.Fields.{AreInRange, no_part, part_of_text}
 
 -- values without parts
 pub no_part_in_range : (s : ElementSpec) → AreInRange s no_part

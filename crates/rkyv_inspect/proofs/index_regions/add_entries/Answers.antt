@@ -1,4 +1,4 @@
-use Rattle.std.proofs.Common.{◌≡◌, ◌∙◌, ◌+◌, ◌*◌, ◌-◌, ◌++◌, ◌<◌, ◌≤◌, [], ap, arith, refl, subst, sym, ℕ, List, length}
+use Rattle.std.proofs.Common.{◌≡◌, ◌∙◌, ◌+◌, ◌*◌, ◌++◌, ◌<◌, ◌≤◌, [], ap, arith, refl, subst, ℕ, List}
 use Rattle.std.specs.Prelude.{flat_map}
 use Rattle.rkyv_base.specs.{bytes_of, entry_spec, pos_of}
 use Rattle.rkyv_base.specs.Lemmas.Entry.{entry_element}

@@ -1,4 +1,4 @@
-use Rattle.std.proofs.Common.{◌≡◌, ◌++◌, ◌*◌, ◌+◌, ◌-◌, ◌≤◌, ℕ, List}
+use Rattle.std.proofs.Common.{◌≡◌, ◌++◌, ◌-◌, ◌≤◌, ℕ}
 use Rattle.std.specs.Prelude.{flat_map}
 use Rattle.rkyv_base.specs.{bytes_of, pos_of}
 use Rattle.rkyv_table.specs.{len_at}

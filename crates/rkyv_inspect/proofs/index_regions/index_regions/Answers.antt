@@ -1,4 +1,4 @@
-use Rattle.std.proofs.Common.{◌≡◌, ◌∙◌, ◌+◌, ◌*◌, ◌<◌, ◌≤◌, ◌++◌, ap, arith, IfOk, List, length, refl, subst, sym, zero-add, ℕ}
+use Rattle.std.proofs.Common.{◌≡◌, ◌∙◌, ◌+◌, ◌*◌, ◌<◌, ◌≤◌, ap, arith, IfOk, List, length, refl, subst, sym, zero-add, ℕ}
 use Rattle.std.specs.Borrow.{Bor}
 use Rattle.std.specs.Int.{byte_len}
 use Rattle.std.proofs.lemmas.Result.{IfOk-weaker}

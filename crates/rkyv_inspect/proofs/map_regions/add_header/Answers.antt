@@ -1,4 +1,4 @@
-use Rattle.std.proofs.Common.{◌∙◌, ◌≡◌, ◌+◌, ◌*◌, ◌++◌, ℕ, List, [], arith}
+use Rattle.std.proofs.Common.{◌∙◌, ◌+◌, ◌*◌, ◌++◌, ℕ, List, [], arith}
 use Rattle.std.specs.Int.{byte_len}
 use Rattle.std.proofs.lemmas.Result.{on_ok_weaker}
 use Rattle.rkyv_inspect.specs.{AddsFields, Span, field}

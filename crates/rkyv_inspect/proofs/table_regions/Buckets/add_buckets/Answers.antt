@@ -1,4 +1,4 @@
-use Rattle.std.proofs.Common.{◌≡◌, ◌∙◌, ◌-◌, ◌+◌, ◌*◌, ◌++◌, ℕ, List, suc, arith, subst}
+use Rattle.std.proofs.Common.{◌≡◌, ◌∙◌, ◌-◌, ◌++◌, ℕ, List, suc, arith, subst}
 use Rattle.rkyv_inspect.specs.{buckets_below, fields_of}
 use Rattle.rkyv_inspect.proofs.TableFields.{begin_step, buckets_step}
 use Rattle.rkyv_inspect.proofs.table_regions.Buckets.add_buckets.Goals as goal
