@@ -30,7 +30,7 @@ module _ (t : PairType) (kl : IsElement t.key) (vl : IsElement t.value) (kr : Ar
   middle : ℕ
   middle = ahead.valid.1.1
 
-  -- a pair fits behind the end of the list, and the other pairs behind its own end
+  -- a pair fits after the end of the list, and the other pairs after its own end
   pub ahead_step : PairFits t b q end len × AreAhead t b hi rest (pair_end t b q end) len
   ahead_step =
       let m = ahead.valid.0 in

@@ -12,7 +12,7 @@ pub fields_step : (f : ℕ → List Span) (now next all : List Span) (q : ℕ) (
 fields_step f now next all q before after first more is =
     ap (λ xs. xs ++ flat_map f after) more ∙ append_assoc now (f q) (flat_map f after) ∙ ap (λ qs. now ++ flat_map f qs) (sym first) ∙ is
 
--- the fields of the pairs at `qs` are to come, and are behind the end of `list`
+-- the fields of the pairs at `qs` are to come, and are after the end of `list`
 pub record PartsLeft (t : PairType) (b : List ℕ) (hi : ℕ) (all qs : List ℕ) (old list : RegionList) : Type 0 where
   pub list_is : IsRegionList list
   pub same_len : list.len ≡ old.len

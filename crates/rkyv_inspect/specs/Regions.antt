@@ -124,7 +124,7 @@ module _ (t : PairType) where
     abbrev pub key_part : Option Part
     key_part = t.key_part b q
 
-    -- the out-of-line bytes of the value behind it
+    -- the out-of-line bytes of the value after it
     abbrev pub value_part : Option Part
     value_part = t.value_part b (q + value_offset t.key t.value)
 
@@ -189,6 +189,6 @@ abbrev pub AddsEach : RegionList → RegionList → (ℕ → List Span) → List
 AddsEach old new fields qs =
     fields_of new.regions.items ≡ fields_of old.regions.items ++ flat_map fields qs
 
--- `new`: the list `old` after the out-of-line bytes of the key at `q` and of the value behind it
+-- `new`: the list `old` after the out-of-line bytes of the key at `q` and of the value after it
 abbrev pub AddsPair : PairType → List ℕ → ℕ → RegionList → RegionList → Type 0
 AddsPair t b q old new = AddsFields old new (pair_fields t b q) (pair_end t b q old.end)

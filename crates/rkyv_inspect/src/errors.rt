@@ -1,6 +1,6 @@
 //! The errors of an inspection.
 ghost use Rattle.std.specs.Prelude.{◌≡◌};
-ghost use Rattle.rkyv_inspect.specs.declared.errors.InspectError.TheVariants.{Memory};
+ghost use Rattle.rkyv_inspect.specs.declared.errors.InspectError.TheVariants.{Invalid, Memory};
 
 use rkyv_base::errors::VerifyError;
 use rkyv_container::contents::ItemType;
@@ -19,6 +19,14 @@ pub enum InspectError {
     /// An allocation failed.
     #[error("no memory")]
     Memory,
+}
+
+impl From<VerifyError> for InspectError {
+    ghost from_gives = { λ error e. e ≡ Invalid error };
+
+    fn from(error: VerifyError) -> InspectError {
+        InspectError::Invalid(error)
+    }
 }
 
 impl From<AllocError> for InspectError {

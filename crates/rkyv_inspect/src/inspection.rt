@@ -42,10 +42,7 @@ fn inspect_hash_map<K: KeyElement + Field, V: Field, W: ArchiveWidth>(
         Inspects (target W.word W.LIMIT contents archive.now limit) Kind.HashMap keys
         (pair_type K.spec V.spec K.part_at V.part_at) result }
 {
-    let root = match access_in::<W, HashMapOf<K, V, FxHasher64, W>>(archive) {
-        Ok(root) => root,
-        Err(error) => return Err(InspectError::Invalid(error)),
-    };
+    let root = access_in::<W, HashMapOf<K, V, FxHasher64, W>>(archive)?;
     let summary = map_summary(alloc, root, limit)?;
     let regions = map_regions(alloc, root)?;
     Ok(Inspection {
@@ -66,10 +63,7 @@ fn inspect_index_map<K: KeyElement + Field, V: Field, W: ArchiveWidth>(
         Inspects (target W.word W.LIMIT contents archive.now limit) Kind.IndexMap keys
         (pair_type K.spec V.spec K.part_at V.part_at) result }
 {
-    let root = match access_in::<W, IndexMapOf<K, V, FxHasher64, W>>(archive) {
-        Ok(root) => root,
-        Err(error) => return Err(InspectError::Invalid(error)),
-    };
+    let root = access_in::<W, IndexMapOf<K, V, FxHasher64, W>>(archive)?;
     let summary = index_summary(alloc, root, limit)?;
     let regions = index_regions(alloc, root)?;
     Ok(Inspection {

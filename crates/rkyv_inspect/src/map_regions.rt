@@ -57,7 +57,7 @@ fn add_part(
 ///
 /// # Requires
 ///
-/// - The value is behind the key.
+/// - The value is after the key.
 /// - The out-of-line bytes aren't before the end of the list, and are inside the archive.
 pub(crate) fn add_pair_parts<K: Field, V: Field>(
     alloc: Global,

@@ -17,7 +17,7 @@ pub enum RegionKind {
     EmptyBucket,
     /// The control bytes of the buckets.
     Controls,
-    /// The control bytes behind those of the buckets.
+    /// The control bytes after those of the buckets.
     MirroredControls,
     /// An entry of an index map.
     Entry,
@@ -67,7 +67,7 @@ impl RegionList {
 
     /// Appends the region up to the position `end`, if it has bytes.
     ///
-    /// It ends at the end of the archive if `end` is behind that.
+    /// It ends at the end of the archive if `end` is after that.
     ///
     /// # Errors
     ///

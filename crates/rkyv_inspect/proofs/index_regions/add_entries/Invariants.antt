@@ -6,7 +6,7 @@ use Rattle.rkyv_index.specs.{entries_pos, entry_at, pair_positions, row}
 use Rattle.rkyv_inspect.specs.{IsRegionList, entry_field, entry_size, fields_of, pair_type}
 use Rattle.rkyv_inspect.proofs.index_regions.add_entries.Given as goal
 
--- the entries that remain are to come, and are behind the end of the list
+-- the entries that remain are to come, and are after the end of the list
 abbrev pub invariant-loop-index : goal.invariant-loop-index
 invariant-loop-index g l =
     let t = pair_type g.K.HasSpec.spec g.V.HasSpec.spec g.K.Field.part_at g.V.Field.part_at in
