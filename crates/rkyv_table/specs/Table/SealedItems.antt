@@ -157,8 +157,8 @@ abbrev pub MaySealNext : {F T : Type 0} → (F → MutBor (Seal T) → Type 0) �
 MaySealNext {F} {T} pre s before write = (x : MutBor (Seal T)) → bytes_in x.now ≡ before.archive.now
     → LiesIn s x.now → pre write x
 
--- `write` can be called with a seal of each item that fits in the bytes
+-- `write` can be called with a seal of each valid value of the bytes
 abbrev pub MaySealIn : {F T : Type 0} → (F → MutBor (Seal T) → Type 0) → ElementSpec → F → List ℕ
     → Type 0
 MaySealIn {F} {T} pre s write b = (x : MutBor (Seal T)) → bytes_in x.now ≡ b → LiesIn s x.now
-    → pre write x
+    → Viewable s b (seal_pos x.now) → pre write x

@@ -354,7 +354,7 @@ impl<'a, T: Element, W: Width> ArchivedHashTable<'a, T, W> {
     ///
     /// - The archive has a valid table at `pos`.
     /// - The comparison can be called with each item of the table.
-    /// - `write` can be called with a seal of each item that fits in the archive.
+    /// - `write` can be called with a seal of each valid value of the archive.
     ///
     /// # Examples
     ///
