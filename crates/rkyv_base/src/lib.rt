@@ -29,7 +29,7 @@ pub mod part;
 pub mod root;
 pub mod scalars;
 pub mod seal;
-mod seal_text;
+pub mod seal_text;
 pub mod strings;
 pub mod text;
 mod unit;

@@ -41,9 +41,16 @@ fn inline_len<W: Width>(bytes: &[u8], pos: usize) -> Option<usize>
     Some(inline_text_at::<W>(bytes, pos)?.len())
 }
 
-/// Writes the inline text at a position in upper case, and returns `true` if it is inline.
+/// Writes each letter from a to z of inline text in upper case, and returns `true`.
+///
+/// The text is at `pos` of the bytes. Returns `false`, and changes no byte, if the text is out of
+/// line.
+///
+/// # Requires
+///
+/// - The fixed bytes of the text end inside the bytes.
 #[inline]
-fn uppercase_at<W: Width>(bytes: &mut [u8], pos: usize) -> bool
+pub fn uppercase_at<W: Width>(bytes: &mut [u8], pos: usize) -> bool
     requires { pos + text_size W.word ≤ length bytes.old }
     ensures { Uppercases W.word bytes.old pos bytes.new result }
 {
