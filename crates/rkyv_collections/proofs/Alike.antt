@@ -7,11 +7,11 @@ use Rattle.rkyv_scan.specs.{HasherCall, SizeWords, fx_hash, generic_kind}
 use Rattle.rkyv_scan.specs.Lemmas.Numbers.{fx_fits}
 use Rattle.rkyv_scan.proofs.HashLaws.{fixed_alike}
 use Rattle.rkyv_base.specs.{ElementSpec, IsElement, Viewable, entry_spec}
-use Rattle.rkyv_keys.specs.{Comparison, IsQuery, MakesFixedCalls}
+use Rattle.rkyv_keys.specs.{Comparison, IsQuery, MakesFixedCalls, fx_hash_at}
 use Rattle.rkyv_keys.specs.Lemmas.OfEntries.{valid_key}
 use Rattle.rkyv_table.specs.{WrittenAt, home_positions, item_at, pos_found}
 use Rattle.rkyv_keys.specs.declared.hash.KeyHash.{Ghosts as KeyHashes}
-use Rattle.rkyv_collections.specs.{MapWrittenAt, QueriedAlike, fx_hash_at, map_spec, pair_at}
+use Rattle.rkyv_collections.specs.{MapWrittenAt, QueriedAlike, map_spec, pair_at}
 use Rattle.rkyv_collections.proofs.WrittenPairs.{first_accepted, key_valid, pair_valid, pos_of_pair}
 
 module _ (w : Width) (k v : ElementSpec) (kl : IsElement k) (vl : IsElement v) (key_calls : List ℕ → ℕ → List HasherCall) (fixed : MakesFixedCalls k key_calls)

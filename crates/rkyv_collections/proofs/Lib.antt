@@ -23,6 +23,5 @@ pub mod FoundThrough
 pub mod Alike
 pub mod FirstWrites
 pub mod ListArchives
-pub mod NestedTables
 pub mod NestedWrites
 pub mod UppercaseTexts

@@ -58,7 +58,7 @@ pub use Map.ListedLookups.{FindsListed}
 unfoldable pub use Map.ListedWalks.{SetWalksVisitEach, WalksVisitEach, WalksVisitPairs}
 unfoldable pub use Map.ListedWalks.{key_positions_at}
 pub use Map.ListedWalks.{HasEachOnce}
-unfoldable pub use Map.BothHashers.{ComparedAlike, QueriedAlike, WrittenAlike, fx_found, fx_hash_at}
+unfoldable pub use Map.BothHashers.{ComparedAlike, QueriedAlike, WrittenAlike, fx_found}
 unfoldable pub use Map.InPlace.{SetsFirst, SetsFound, SetsValue, with_first}
 unfoldable pub use Map.ListArchives.{FoundAreListed, IsTextMapUnder, OpensTextMap, TextMapFails}
 unfoldable pub use Map.ListArchives.{TextMapRepresents, TextMapResult, TextPairs, first_of_text}
@@ -66,7 +66,7 @@ unfoldable pub use Map.ListArchives.{map_root, text_found, text_map_format, text
 pub use Map.ListArchives.{IsTextMap}
 unfoldable pub use Map.NestedWrites.{NestedWritesKeepMaps, NestedWritesRepresent}
 unfoldable pub use Map.NestedWrites.{ValueWritesAreNested}
-pub use Map.NestedWrites.{IsValidBefore, KeepsOuterMap, StaysAt, WritesAmongParts}
+pub use Map.NestedWrites.{KeepsOuterMap}
 unfoldable pub use Map.InPlaceText.{UppercasesFirst, UppercasesFound, UppercasesText}
 unfoldable pub use Map.InPlaceText.{list_after_uppercase, map_to_texts_at, map_to_texts_spec}
 unfoldable pub use Map.InPlaceText.{uppercase_text, with_first_uppercase}

@@ -1,5 +1,6 @@
 pub mod Checking
 pub mod ValidIndexMap
+pub mod WrittenLookups
 pub mod Lookups
 pub mod IndicesFound
 pub mod Queries
@@ -15,7 +16,10 @@ pub mod EntrySteps
 pub mod Counted
 pub mod FirstAccepted
 pub mod ListSteps
+pub mod SameIndex
 pub mod ValueWrites
+pub mod Alike
+pub mod NestedWrites
 pub mod SealedIndex
 pub mod Headers
 pub mod FirstListed

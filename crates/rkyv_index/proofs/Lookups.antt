@@ -17,20 +17,7 @@ use Rattle.rkyv_table.specs.declared.table.ArchivedHashTable.{ArchivedHashTable}
 use Rattle.rkyv_index.specs.{AreUnderHash, ComparesKeysBy, IndexWrittenAt, IsIndexOf, IsKeyOf, IsStored, IsWritten, index_archive, index_bytes, index_found, index_len, index_of, index_pos, index_strides, indices_of, key_pos}
 use Rattle.rkyv_index.specs.declared.map.ArchivedIndexMap.{ArchivedIndexMap}
 use Rattle.rkyv_index.proofs.ValidIndexMap.{index_below, index_inside}
-
--- the image of the first accepted element is the first accepted image
-find-step : (f : ℕ → ℕ) (accept : ℕ → Bool) (x : ℕ) (r : Option ℕ) (r' : Option ℕ) (t : Bool) → option_map f r ≡ r'
-    → option_map f (cond t (Some x) r) ≡ cond t (Some (f x)) r'
-find-step f accept x r r' true e = refl
-find-step f accept x r r' false e = e
-
-pub find-map : (f : ℕ → ℕ) (accept : ℕ → Bool) (xs : List ℕ) → option_map f (find (λ x. accept (f x)) xs) ≡ find accept (map f xs)
-find-map f accept [] = refl
-find-map f accept (x ∷ xs) = find-step f accept x (find (λ y. accept (f y)) xs) (find accept (map f xs)) (accept (f x)) (find-map f accept xs)
-
--- the number at index `i` of the indices is `i`
-index_read : (n i : ℕ) → i < n → slice_index (indices_of n) i ≡ i
-index_read n i below = get_or-range_with_len 0 n i 0 below ∙ omega arith
+use Rattle.rkyv_index.proofs.WrittenLookups.{find-map, under_hash}
 
 module _ {K V H W P N : Type 0} {ks : Specs K} {vs : Specs V} {ts : Specs P} {wt : Words W} (m : ArchivedIndexMap K V H W ks vs wt) (e : Encoding N) (pk : IsScalar ts.spec e) (index : IsIndexEncoding wt.word e)
     (t : ArchivedHashTable P W ts wt) (at : IsAt t.view (index_archive m) (index_pos m)) where
@@ -111,17 +98,9 @@ module _ {K V H W P N : Type 0} {ks : Specs K} {vs : Specs V} {ts : Specs P} {wt
 
     pub under_there : (hash : ℕ) (accept : ℕ → Bool) → AreUnderHash (index_of m) hash key_hash accept
         → IsUnderHash hash hashes (home_positions w ts.spec.size (table_bytes t) (table_pos t) homes) (λ q. accept (number_at w (index_bytes m) q))
-    under_there hash accept under i h accepted =
-        let n = index_len m in
-        let items = home_positions w (byte_len w) (index_bytes m) (index_pos m) homes in
-        let count : length hashes ≡ n = length-map (indices_of n) (λ j. key_hash (index_bytes m) (key_pos m j)) ∙ length-range_with_len 0 n in
-        let below : i < n = omega (arith, h, count) in
-        let many : length items ≡ n = sym (length-map items (number_at w (index_bytes m))) ∙ ap length written.indices ∙ length-range_with_len 0 n in
-        let read : number_at w (index_bytes m) (slice_index items i) ≡ i =
-        sym (get_or-map (number_at w (index_bytes m)) items i 0 0 (omega (arith, below, many))) ∙ ap (λ (xs : List ℕ). slice_index xs i) written.indices ∙ index_read n i below in
-        let here : accept i ≡ true = sym (ap accept (ap (λ (xs : List ℕ). number_at w (index_bytes m) (slice_index xs i)) (homes_are homes) ∙ read)) ∙ accepted in
-        get_or-map (λ j. key_hash (index_bytes m) (key_pos m j)) (indices_of n) i 0 0 (omega (arith, below, length-range_with_len 0 n))
-        ∙ ap (λ j. key_hash (index_bytes m) (key_pos m j)) (index_read n i below) ∙ under i below here
+    under_there hash accept under =
+        subst (λ (xs : List ℕ). IsUnderHash hash hashes xs (λ q. accept (number_at w (index_bytes m) q))) (sym (homes_are homes))
+        (under_hash w s.size key_hash (index_bytes m) (index_pos m) homes written hash accept under)
 
     pub first_is : (result : Option (View P)) (accept : ℕ → Bool)
         → pos_of_found result ≡ find (λ q. accept (number_at w (index_bytes m) q)) (home_positions w ts.spec.size (table_bytes t) (table_pos t) homes)

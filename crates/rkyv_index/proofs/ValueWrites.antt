@@ -1,5 +1,5 @@
 -- A write of one value in place keeps the index map, and its list but for that value.
-use Rattle.std.proofs.Common.{◌≡◌, ◌≢◌, ℕ, suc, ◌+◌, ◌*◌, ◌<◌, ◌≤◌, ◌^◌, ◌∙◌, inl, inr, refl, sym, ap, subst, arith, Bool, List, [], ◌∷◌, length, Option, Some, None}
+use Rattle.std.proofs.Common.{◌≡◌, ◌≢◌, ℕ, suc, ◌+◌, ◌-◌, ◌*◌, ◌<◌, ◌≤◌, ◌^◌, ◌∙◌, inl, inr, refl, sym, ap, subst, arith, Bool, List, [], ◌∷◌, length, Option, Some, None}
 use Rattle.std.specs.Prelude.{slice_get, slice_set, unsigned_abs}
 use Rattle.std.specs.Int.{Width, byte_len}
 use Rattle.std.specs.Option.{option_map}
@@ -16,7 +16,7 @@ use Rattle.rkyv_base.specs.Lemmas.Pairs.{pair_local}
 use Rattle.rkyv_base.proofs.Sealing.{entry_kept, same_outside, sealed_wider, valid_outside, viewable_kept}
 use Rattle.rkyv_keys.specs.{HashLocal, RestsOnKeys}
 use Rattle.rkyv_table.specs.{AreValidAt, IsValidWithin, IsWalked, RestsOnKey, SameValue}
-use Rattle.rkyv_table.specs.{WritesValue, cap_at, capacity, found, item_at, len_at, table_controls}
+use Rattle.rkyv_table.specs.{WritesAmongParts, WritesValue, cap_at, capacity, found, item_at, len_at, table_controls}
 use Rattle.rkyv_table.specs.Lemmas.SameHeader.{cap_same, len_same}
 use Rattle.rkyv_table.specs.Lemmas.TableLaws.{table_element}
 use Rattle.rkyv_table.proofs.Lists.{set_each}
@@ -27,7 +27,8 @@ use Rattle.rkyv_index.specs.{EntriesIn, IndexRepresents, IndexWrittenAt, IsPairP
 use Rattle.rkyv_index.specs.Lemmas.IndexLaws.{decoded_same, each_is_valid, entry_inside, head_same, index_again, index_same_at, indices_below, stored_index_element}
 use Rattle.rkyv_table.specs.Lemmas.SameControls.{same_controls}
 use Rattle.rkyv_index.specs.Lemmas.IndexLocal.{written_again}
-use Rattle.rkyv_index.proofs.ValidIndexMap.{begin_is, entries_inside, entry_viewable, index_below, table_there}
+use Rattle.rkyv_index.proofs.SameIndex.{controls_same, entry_before, entry_parts, entry_there, new_value_represents, positions_same, read_same, some_buckets, table_below, written_same}
+use Rattle.rkyv_index.proofs.ValidIndexMap.{index_below, table_there}
 
 -- a write at the position of the value of a pair writes the value of that pair
 pub value_written : (w : Width) (k v : ElementSpec) (b c : List ℕ) (at q : ℕ) → at ≡ value_pos k v q → ModifiesOnly b at v.size c → StaysValid v b c at → WritesValue k v b c q
@@ -82,31 +83,17 @@ module _ (w : Width) (kind : IsArchiveWord w) (k v : ElementSpec) (kl : IsElemen
   abbrev valid : IsValidIndex w S b p 0 p view.valid.0
   valid = view.valid.1
 
-  begins : entries_pos w b p ≡ valid.entries.begin
-  begins = begin_is w kind S law b p view
+  abbrev entry : (i : ℕ) → i < len_at w b p → Viewable S b (at i)
+  entry = entry_there w kind k v kl vl b p view
 
-  entry_there : (i : ℕ) → i < len_at w b p → Viewable S b (at i)
-  entry_there i below = entry_viewable w kind S law b p view i below
-
-  -- an entry is before the header
-  entry_before : (i : ℕ) → i < len_at w b p → at i + S.size ≤ p
-  entry_before i below =
-      let u = entry_inside S.size (entries_pos w b p) (len_at w b p) i below in
-      let e = entries_inside w kind S law b p view in
-      omega (arith, u.1, e)
-
-  -- an entry is valid with its parts before the entries
-  entry_parts : (i : ℕ) → i < len_at w b p → IsValidWithin S b (at i) valid.middle (entries_pos w b p) valid.entries.last
-  entry_parts i below =
-      let begin = valid.entries.begin in
-      let r = each_is_valid S law (entry_at S.size begin) b begin 0 (len_at w b p) valid.middle valid.entries.last i valid.entries.part.above valid.entries.valid (omega arith) (omega (arith, below)) in
-      subst (λ n. IsValidWithin S b (entry_at S.size n i) valid.middle n valid.entries.last) (sym begins) r
+  abbrev parts_of : (i : ℕ) → i < len_at w b p → IsValidWithin S b (at i) valid.middle (entries_pos w b p) valid.entries.last
+  parts_of = entry_parts w kind k v kl vl b p view
 
   -- the value at index `i` is written
   module _ (c : List ℕ) (i : ℕ) (below : i < len_at w b p) (writes : WritesValue k v b c (at i)) where
     wider : ModifiesOnly b (at i) S.size c
     wider =
-        let small = size_of_small (whole_size k v) (entry_there i below).valid.1.0 in
+        let small = size_of_small (whole_size k v) (entry i below).valid.1.0 in
         let inside = key_and_value_inside k v in
         sealed_wider b c (value_pos k v (at i)) v.size (at i) S.size (omega arith) (omega (arith, small, inside.1)) writes.sealed
 
@@ -117,7 +104,7 @@ module _ (w : Width) (kind : IsArchiveWord w) (k v : ElementSpec) (kl : IsElemen
     front_same x y o h = same_outside b (at i) S.size c wider x y o (inl (omega (arith, h)))
 
     header_same : AgreeOn b c p (p + 4 * byte_len w)
-    header_same = let e = entry_before i below in same_outside b (at i) S.size c wider p (p + 4 * byte_len w) (omega arith) (inr (omega (arith, e)))
+    header_same = let e = entry_before w kind k v kl vl b p view i below in same_outside b (at i) S.size c wider p (p + 4 * byte_len w) (omega arith) (inr (omega (arith, e)))
 
     head : AgreeOn b c p (p + 3 * byte_len w)
     head = head_same w b c p header_same
@@ -149,7 +136,7 @@ module _ (w : Width) (kind : IsArchiveWord w) (k v : ElementSpec) (kl : IsElemen
 
     other_same : (j : ℕ) → j < len_at w b p → j ≢ i → SameValue S b c (at j)
     other_same j there ne =
-        let r = entry_parts j there in
+        let r = parts_of j there in
         record {
           fixed = entry_same j ne;
           parts = λ l h. front_same 0 l (omega arith) (parts_below S law b (at j) r.lower (entries_pos w b p) r.rest l r.below (omega arith) r.is_valid h);
@@ -161,12 +148,12 @@ module _ (w : Width) (kind : IsArchiveWord w) (k v : ElementSpec) (kl : IsElemen
           let inside = key_and_value_inside k v in
           let own : AgreeOn b c (at i) (at i + k.size) = same_outside b (value_pos k v (at i)) v.size c writes.sealed (at i) (at i + k.size) (omega arith) (inl (omega (arith, inside.0))) in
           subst (λ n. AgreeOn b c (at n) (at n + k.size)) (sym e) own
-      | inr ne ↦ same_key k v kl vl b c (at j) (entry_there j there).valid.1.0 (entry_same j ne)
+      | inr ne ↦ same_key k v kl vl b c (at j) (entry j there).valid.1.0 (entry_same j ne)
     ]
 
     key_same : (j : ℕ) → j < len_at w b p → SameValue k b c (at j)
     key_same j there =
-        let r = entry_parts j there in
+        let r = parts_of j there in
         record {
           fixed = key_fixed j there;
           parts = λ l h. front_same 0 l (omega arith) (parts_below k kl b (at j) r.lower (entries_pos w b p) r.is_valid.1 l r.below (omega arith) r.is_valid.2 h);
@@ -181,22 +168,16 @@ module _ (w : Width) (kind : IsArchiveWord w) (k v : ElementSpec) (kl : IsElemen
       others = other_same;
     }
 
-    -- ---- the table of indices, and lookups
+    -- ---- lookups
 
-    positions_same : (j : ℕ) → pair_pos w S.size c p j ≡ at j
-    positions_same j = ap (λ z. entry_at S.size (unsigned_abs z) j) (sym (decoded_same w b c p header_same))
+    indices_same : AgreeOn b c 0 valid.middle
+    indices_same = front_same 0 valid.middle (omega arith) (table_below w kind k v kl vl b p view)
 
-    table_below : valid.middle ≤ entries_pos w b p
-    table_below = let above = valid.entries.part.above in omega (arith, above, begins)
+    same_positions : (j : ℕ) → pair_pos w S.size c p j ≡ at j
+    same_positions = positions_same w kind k v kl vl b p view c header_same indices_same
 
-    controls_same : 0 < cap_at w b p → table_controls w b p ≡ table_controls w c p
-    controls_same = same_controls w (stored_index_spec w) (stored_index_element w kind) b c p 0 p valid.middle (omega arith) valid.table head (front_same 0 valid.middle (omega arith) table_below)
-
-    read_same : (j : ℕ) → IsWalked w b p j → number_at w b (item_at w (byte_len w) b p j) ≡ number_at w c (item_at w (byte_len w) c p j)
-    read_same = index_same_at w kind b c p 0 p valid.middle (omega arith) head (front_same 0 valid.middle (omega arith) table_below) valid.table
-
-    some_buckets : 0 < cap_at w b p
-    some_buckets = some_cap w (stored_index_spec w) (stored_index_element w kind) b p (table_there w kind S law b p view) (omega (arith, below))
+    same_read : (j : ℕ) → IsWalked w b p j → number_at w b (item_at w (byte_len w) b p j) ≡ number_at w c (item_at w (byte_len w) c p j)
+    same_read = read_same w kind k v kl vl b p view c header_same indices_same
 
     module _ (hash : ℕ) (small : hash < 2 ^ 64) (fits : List ℕ → ℕ → Bool) (rests : RestsOnKey k fits) where
       abbrev fits_bucket : List ℕ → ℕ → Bool
@@ -209,18 +190,18 @@ module _ (w : Width) (kind : IsArchiveWord w) (k v : ElementSpec) (kl : IsElemen
       fits_same j there =
           let n = number_at w b (item_at w (byte_len w) b p j) in
           let inside = index_below w kind S law b p view j there in
-          let key = viewable_key k v kl vl b (at n) (entry_there n inside) in
-          ap (λ m. fits c (pair_pos w S.size c p m)) (sym (read_same j there)) ∙ ap (fits c) (positions_same n)
+          let key = viewable_key k v kl vl b (at n) (entry n inside) in
+          ap (λ m. fits c (pair_pos w S.size c p m)) (sym (same_read j there)) ∙ ap (fits c) (same_positions n)
           ∙ rests b c (at n) key.valid (key_same n inside)
 
       bucket_same : found generic_kind (table_controls w c p) (cap_at w c p) (len_at w c p) hash (fits_bucket c) ≡ bucket
       bucket_same =
           let f = found generic_kind in
-          ap (λ (x : List ℕ). f x (cap_at w c p) (len_at w c p) hash (fits_bucket c)) (sym (controls_same some_buckets))
+          ap (λ (x : List ℕ). f x (cap_at w c p) (len_at w c p) hash (fits_bucket c)) (sym (controls_same w kind k v kl vl b p view c header_same indices_same (some_buckets w kind k v kl vl b p view i below)))
           ∙ ap (λ n. f (table_controls w b p) n (len_at w c p) hash (fits_bucket c)) (sym (cap_same w b c p head))
           ∙ ap (λ n. f (table_controls w b p) (cap_at w b p) n hash (fits_bucket c)) (sym (len_same w b c p head))
           ∙ found_agree generic_kind (cap_at w b p) (len_at w b p) hash (table_controls w b p) word_lawful
-          (controls_accepted w (stored_index_spec w) (stored_index_element w kind) b p (table_there w kind S law b p view) some_buckets) small (fits_bucket c) (fits_bucket b)
+          (controls_accepted w (stored_index_spec w) (stored_index_element w kind) b p (table_there w kind S law b p view) (some_buckets w kind k v kl vl b p view i below)) small (fits_bucket c) (fits_bucket b)
           (λ j there. fits_same j (walked_full (cap_at w b p) (table_controls w b p) j there))
 
       lookup_same : index_found w c p hash (fits_in w k v c p fits) ≡ index_found w b p hash (fits_in w k v b p fits)
@@ -228,31 +209,27 @@ module _ (w : Width) (kind : IsArchiveWord w) (k v : ElementSpec) (kl : IsElemen
           let of : List ℕ → Option ℕ → Option ℕ = λ d o. option_map (number_at w d) (option_map (item_at w (byte_len w) d p) o) in
           ap (of c) bucket_same ∙ read_alike (number_at w c) (item_at w (byte_len w) c p) (number_at w b) (item_at w (byte_len w) b p) bucket (λ j is.
           let walked = found_walked generic_kind (cap_at w b p) (len_at w b p) hash (table_controls w b p) word_lawful
-          (controls_accepted w (stored_index_spec w) (stored_index_element w kind) b p (table_there w kind S law b p view) some_buckets) small (fits_bucket b) j is in
-          sym (read_same j (walked_full (cap_at w b p) (table_controls w b p) j walked.1)))
+          (controls_accepted w (stored_index_spec w) (stored_index_element w kind) b p (table_there w kind S law b p view) (some_buckets w kind k v kl vl b p view i below)) small (fits_bucket b) j is in
+          sym (same_read j (walked_full (cap_at w b p) (table_controls w b p) j walked.1)))
 
     -- ---- written index maps, and index maps that represent a list
 
     module _ (key_hash : List ℕ → ℕ → ℕ) (local : HashLocal k key_hash) where
       hash_same : (j : ℕ) → j < len_at w b p → key_hash c (at j) ≡ key_hash b (at j)
       hash_same j there =
-          let key = viewable_key k v kl vl b (at j) (entry_there j there) in
+          let key = viewable_key k v kl vl b (at j) (entry j there) in
           let same = key_same j there in
           sym (local b c (at j) 0 (at j) key.valid.0 (omega arith) key.valid.1 same.fixed (same.parts key.valid.0 key.valid.1))
-
-      written_same : (homes : List ℕ) → IndexWrittenAt w S.size key_hash b p homes → IndexWrittenAt w S.size key_hash c p homes
-      written_same = written_again w S.size key_hash b c p head controls_same read_same
-          (λ j there. sym (hash_same j there) ∙ ap (key_hash c) (sym (positions_same j)))
 
       pub index_kept : KeepsIndexMap (index_kind w k v key_hash) b c p i
       index_kept = record {
         entries = entries_kept;
         valid = viewable_kept (index_spec w S) b c p writes.sealed.same_length index_is_valid view;
         len = sym (len_same w b c p head);
-        positions = positions_same;
+        positions = same_positions;
         hashes = hash_same;
         lookups = λ hash fits small rests. lookup_same hash small fits rests;
-        written = written_same;
+        written = written_same w kind k v kl vl b p view c header_same indices_same key_hash hash_same;
       }
 
       module _ {A B : Type 0} (key : List ℕ → ℕ → A → Type 0) (value : List ℕ → ℕ → B → Type 0) (kn : RepresentsLocally k key) (vn : RepresentsLocally v value) (factor : ℕ × ℕ) (pairs : List (A × B))
@@ -260,43 +237,43 @@ module _ (w : Width) (kind : IsArchiveWord w) (k v : ElementSpec) (kl : IsElemen
         -- the written pair has the new value, and each other pair is unchanged
         written_represents : PairRepresents k v key value c (at i) (pair.0, new)
         written_represents =
-            let there = viewable_key k v kl vl b (at i) (entry_there i below) in
+            let there = viewable_key k v kl vl b (at i) (entry i below) in
             let same = key_same i below in
             (kn pair.0 b c (at i) 0 (at i) there.valid.0 (omega arith) there.valid.1 same.fixed (same.parts there.valid.0 there.valid.1) (st.at i pair at_i).0, represents)
 
         other_represents : (j : ℕ) (x : A × B) → j < len_at w b p → slice_get pairs j ≡ Some x → j ≢ i → PairRepresents k v key value c (at j) x
         other_represents j x there at_j ne =
-            let entry = entry_there j there in
+            let here = entry j there in
             let same = other_same j there ne in
-            pair_local k v kl vl key value kn vn x b c (at j) 0 (at j) entry.valid.0 (omega arith) entry.valid.1 same.fixed (same.parts entry.valid.0 entry.valid.1) (st.at j x at_j)
+            pair_local k v kl vl key value kn vn x b c (at j) 0 (at j) here.valid.0 (omega arith) here.valid.1 same.fixed (same.parts here.valid.0 here.valid.1) (st.at j x at_j)
 
         pub written_value_represents : IndexRepresents w k v key value key_hash factor c p (slice_set pairs i (pair.0, new))
         written_value_represents =
-            let y : A × B = (pair.0, new) in
-            let same_count = length-set pairs i y in
-            let inside : i < length pairs = slice_get_within pairs i pair at_i in
-            let count = st.len in
-            record {
-              homes = st.homes;
-              written = written_same st.homes st.written;
-              len = sym (len_same w b c p head) ∙ st.len ∙ sym same_count;
-              cap = sym (cap_same w b c p head) ∙ st.cap ∙ ap (λ m. capacity m factor) (sym same_count);
-              at = set_each (λ j x. PairRepresents k v key value c (pair_at w k v c p j) x) pairs i y inside
-                  (subst (λ z. PairRepresents k v key value c z y) (sym (positions_same i)) written_represents)
-                  (λ j x at_j ne.
-                  let there : j < len_at w b p = omega (arith, slice_get_within pairs j x at_j, count) in
-                  subst (λ z. PairRepresents k v key value c z x) (sym (positions_same j)) (other_represents j x there at_j ne));
-            }
+            new_value_represents w kind k v kl vl b p view c header_same indices_same key_hash hash_same key value factor pairs st i pair (pair.0, new) at_i written_represents
+            other_represents
+
+    -- the write is among the parts of the index map
+    pub value_nested : WritesAmongParts (index_spec w S) b c p
+    value_nested = record {
+      is_valid = index_is_valid;
+      sealed = λ lo hi l o o' h.
+          let is : entries_pos w b p ≡ h.entries.begin = ap unsigned_abs (sym h.entries.part.begins) in
+          let t = (table_element w kind (stored_index_spec w) (stored_index_element w kind)).rest_in_range b p lo hi h.middle o h.table in
+          let above = h.entries.part.above in
+          let ends = h.entries.ends in
+          let inside = entry_inside S.size h.entries.begin (len_at w b p) i below in
+          sealed_wider b c (at i) S.size lo (l - lo) (omega (arith, t.0, above, is)) (omega (arith, t.0, above, ends, inside.1, is)) wider;
+    }
 
   -- the pair at index `i`, whose value can be written
   pub pair_position : (i : ℕ) → i < len_at w b p → IsPairPos w k v b p i (at i)
   pair_position i below =
-      let entry = entry_there i below in
+      let here = entry i below in
       record {
         below = below;
         pos = refl;
-        key = viewable_key k v kl vl b (at i) entry;
-        value = viewable_value k v kl vl b (at i) entry;
+        key = viewable_key k v kl vl b (at i) here;
+        value = viewable_value k v kl vl b (at i) here;
         kept = λ c writes. entries_kept c i below writes;
       }
 

@@ -38,6 +38,10 @@ unfoldable pub use Map.ValueWrites.{KeptByWrites, SetsValue, ValueWritesKeepInde
 unfoldable pub use Map.ValueWrites.{ValueWritesKeepLookups, ValuesWrittenRepresent, index_kind}
 unfoldable pub use Map.ValueWrites.{pair_at}
 pub use Map.ValueWrites.{IndexKind, KeepsEntries, KeepsIndexMap}
+unfoldable pub use Map.NestedWrites.{NestedWritesKeepIndexMaps, NestedWritesRepresent}
+unfoldable pub use Map.NestedWrites.{ValueWritesAreNested}
+pub use Map.NestedWrites.{KeepsOuterIndexMap}
+unfoldable pub use Map.BothHashers.{ComparedAlike, QueriedAlike, WrittenAlike, fx_index_found}
 unfoldable pub use Map.SealedIndex.{AcceptsIn, IsAcceptedIn, IsFullSeal, IsFullSealAt, IsIndexSeal}
 unfoldable pub use Map.SealedIndex.{IsPairPosIn, IsPairSeal, IsValueSeal, SealsPair, SealsValue}
 unfoldable pub use Map.SealedIndex.{full_seal_index, index_at, index_in}

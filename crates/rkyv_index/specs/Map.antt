@@ -4,6 +4,8 @@ pub mod IndexHeader
 pub mod Row
 pub mod IndexFormat
 pub mod ValueWrites
+pub mod NestedWrites
+pub mod BothHashers
 pub mod SealedIndex
 pub mod Walking
 pub mod Equality

@@ -1,6 +1,6 @@
 -- The calls of a key to a hasher, and its hash.
 use Rattle.std.specs.Prelude.{ℕ, Bool, if◌then◌else◌, List, [], ◌∷◌, fold}
-use Rattle.rkyv_scan.specs.{Bytes, Hasher, HasherCall, U8, hash_of_calls}
+use Rattle.rkyv_scan.specs.{Bytes, Hasher, HasherCall, SizeWords, U8, fx_hash, hash_of_calls}
 
 -- the state `state` after a list of calls, in order
 abbrev pub after_calls : {State : Type 0} → Hasher State → State → List HasherCall → State
@@ -22,3 +22,7 @@ hash_of hasher calls value = hash_of_calls hasher (calls value)
 abbrev pub hash_at : {State : Type 0} → Hasher State → (List ℕ → ℕ → List HasherCall) → List ℕ → ℕ
     → ℕ
 hash_at hasher calls b q = hash_of_calls hasher (calls b q)
+
+-- the same by `FxHasher64` or `FxHasher64Wide`, whose rules for `usize` and `isize` are `sizes`
+abbrev pub fx_hash_at : SizeWords → (List ℕ → ℕ → List HasherCall) → List ℕ → ℕ → ℕ
+fx_hash_at sizes calls b q = fx_hash sizes (calls b q)

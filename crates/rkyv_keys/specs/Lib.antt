@@ -22,7 +22,7 @@ pub mod Lemmas
 unfoldable pub use KeyLookups.{IsFoundAt, query_of}
 pub use KeyLookups.{KeyLookup}
 unfoldable pub use AtViews.{at_view, at_views}
-unfoldable pub use Calls.{after_calls, bool_call, hash_at, hash_of, text_calls}
+unfoldable pub use Calls.{after_calls, bool_call, fx_hash_at, hash_at, hash_of, text_calls}
 unfoldable pub use Deserialize.{DeserializeErrors, DeserializeMembers, Deserializes, SameErrors}
 unfoldable pub use Deserialize.{memory_fails, nothing_fails}
 unfoldable pub use Equality.{Comparison, DecidesEquality, EqualsUniquely, RepresentsUniquely}

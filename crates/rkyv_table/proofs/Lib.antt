@@ -19,6 +19,9 @@ pub mod WrittenTables
 pub mod HomeList
 pub mod Headers
 pub mod SealedTable
+pub mod NestedItems
+pub mod NestedTables
+pub mod NestedEntries
 pub mod Misplaced
 pub mod FirstFound
 pub mod PlacingSteps

@@ -74,6 +74,7 @@ unfoldable pub use Table.WalkLaws.{WalkVisitsHomes}
 pub use Table.WalkLaws.{VisitsHomes}
 unfoldable pub use Table.SealedTable.{KeptByValueWrites, KeptByWrites, RestsOnKey}
 pub use Table.SealedTable.{KeepsTable, SameLookups, SameValue, WritesValue}
+pub use Table.NestedWrites.{IsValidBefore, StaysAt, WritesAmongParts}
 unfoldable pub use Table.SealedLookup.{AcceptedAt, CanCompareAt, ComparesByAt, IsReadAt}
 unfoldable pub use Table.SealedLookup.{IsTableSeal, SealsFirst, SealsFound, pos_of_seal}
 pub use Table.SealedLookup.{IsItemSeal}

@@ -19,6 +19,7 @@ pub mod Hints
 pub mod PairWalks
 pub mod WalkLaws
 pub mod SealedTable
+pub mod NestedWrites
 pub mod SealedLookup
 pub mod PairSeals
 pub mod Misplaced

@@ -3,14 +3,11 @@ use Rattle.std.specs.Prelude.{◌≡◌, ℕ, All, Bool, List, Option}
 use Rattle.std.specs.Int.{Width}
 use Rattle.rkyv_scan.specs.{HasherCall, IsFixed, SizeWords, fx_hash, generic_kind}
 use Rattle.rkyv_base.specs.{ElementSpec, Viewable, entry_spec}
+use Rattle.rkyv_keys.specs.{fx_hash_at}
 use Rattle.rkyv_keys.specs.declared.hash.KeyHash.{Ghosts as KeyHashes}
 use Rattle.rkyv_table.specs.{pos_found}
 use Rattle.rkyv_collections.specs.Map.{MapWrittenAt}
 use Rattle.rkyv_collections.specs.Map.MapSpec.{map_spec}
-
--- the hash of the key at `q`, under a rule for `usize` and `isize`
-abbrev pub fx_hash_at : SizeWords → (List ℕ → ℕ → List HasherCall) → List ℕ → ℕ → ℕ
-fx_hash_at sizes key_calls b q = fx_hash sizes (key_calls b q)
 
 module _ (w : Width) (k v : ElementSpec) where
   -- the position that a lookup under the hash of `calls` finds

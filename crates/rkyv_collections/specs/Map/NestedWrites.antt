@@ -1,37 +1,15 @@
 -- Maps with a value that is written among its parts, as a map that is a value.
-use Rattle.std.specs.Prelude.{◌≡◌, ◌≢◌, ℕ, ◌+◌, ◌*◌, ◌-◌, ◌≤◌, List, Some}
+use Rattle.std.specs.Prelude.{◌≡◌, ◌≢◌, ℕ, ◌+◌, ◌*◌, List, Some}
 use Rattle.std.specs.Int.{Width, byte_len}
 use Rattle.std.specs.Option.{option_map}
-use Rattle.rkyv_base.specs.{AgreeOn, ElementSpec, ModifiesOnly, Viewable, entry_spec, value_pos}
-use Rattle.rkyv_table.specs.{IsWalked, WritesValue, table_controls}
+use Rattle.rkyv_base.specs.{AgreeOn, ElementSpec, Viewable, entry_spec, value_pos}
+use Rattle.rkyv_table.specs.{IsWalked, StaysAt, WritesAmongParts, WritesValue, table_controls}
 use Rattle.rkyv_collections.specs.Map.InPlace.{with_first}
 use Rattle.rkyv_collections.specs.Map.{FindsFirstKeyAt, MapWrittenAt}
 use Rattle.rkyv_collections.specs.Map.MapSpec.{IsKeyPosAt, map_spec}
 use Rattle.rkyv_collections.specs.Map.MapFormat.{MapRepresents}
 use Rattle.rkyv_keys.specs.{NativeKeys}
 use Rattle.rkyv_collections.specs.Map.ValueWrites.{entry_at}
-
--- `c`: bytes `b` after a write among the parts of the value at `q`. A valid value
--- stays valid with the same lower end, and the bytes outside its parts are unchanged
-pub record WritesAmongParts (s : ElementSpec) (b c : List ℕ) (q : ℕ) : Type 0 where
-  pub is_valid : (lo hi l : ℕ) → lo ≤ hi → hi ≤ q → s.is_valid b q lo hi l → s.is_valid c q lo hi l
-  pub sealed : (lo hi l : ℕ) → lo ≤ hi → hi ≤ q → s.is_valid b q lo hi l
-      → ModifiesOnly b lo (l - lo) c
-
--- the value at `q` is valid, with its parts in some range before it
-pub record IsValidBefore (s : ElementSpec) (b : List ℕ) (q : ℕ) : Type 0 where
-  pub lower : ℕ
-  pub upper : ℕ
-  pub rest : ℕ
-  pub order : lower ≤ upper
-  pub before : upper ≤ q
-  pub is_valid : s.is_valid b q lower upper rest
-
--- the value at `q` is the same in both: its own bytes, and the range of its parts
-pub record StaysAt (s : ElementSpec) (b c : List ℕ) (q : ℕ) : Type 0 where
-  pub valid : IsValidBefore s b q
-  pub fixed : AgreeOn b c q (q + s.size)
-  pub parts : AgreeOn b c valid.lower valid.rest
 
 module _ (w : Width) (k v : ElementSpec) where
   -- The map at `p` in `b`, after a write among the parts of the value in bucket `i`, is a map

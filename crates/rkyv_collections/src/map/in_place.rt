@@ -20,10 +20,10 @@
 //! If the map is a value of another map, `map::laws::nested` has the laws of the outer map.
 ghost use Rattle.std.specs.Prelude.{IfSome, length, ℕ, ◌+◌, ◌≡◌, ◌≤◌};
 ghost use Rattle.rkyv_base.specs.{Viewable, value_pos};
-ghost use Rattle.rkyv_table.specs.{MayWriteIn, WritesIn};
+ghost use Rattle.rkyv_table.specs.{MayWriteIn, WritesAmongParts, WritesIn};
 ghost use Rattle.rkyv_collections.specs.{FoundValueHasAt, IsKeyPosAt, SetsFirst};
-ghost use Rattle.rkyv_collections.specs.{SetsValue, WritesAmongParts, map_at};
-ghost use Rattle.rkyv_collections.specs.{map_bytes, map_pos, map_spec, query_of_value};
+ghost use Rattle.rkyv_collections.specs.{SetsValue, map_at, map_bytes, map_pos, map_spec};
+ghost use Rattle.rkyv_collections.specs.{query_of_value};
 ghost use Rattle.rkyv_keys.specs.{query_of};
 
 pub mod iter_seal;

@@ -26,29 +26,29 @@ use Rattle.rkyv_index.specs.{index_spec, indices_of, pair_pos, stored_index_spec
 use Rattle.rkyv_index.specs.Lemmas.IndexLaws.{each_is_valid, entry_inside, stored_index_element}
 use Rattle.rkyv_index.specs.Lemmas.IndexLaws.{decoded_same, head_same, index_same_at}
 
--- An index map that was written in `b` was also written in `c`. Both have the same header
--- of the table at `p`, and the same control bytes if it has buckets. The numbers in full buckets
--- and the hashes of the keys are the same.
-module _ (w : Width) (size : ℕ) (key_hash : List ℕ → ℕ → ℕ) (b c : List ℕ) (p : ℕ)
+-- An index map that was written in `b` under the hashes `key_hash` was also written in `c` under
+-- `hash_after`. Both have the same header of the table at `p`, and the same control bytes if it has
+-- buckets. The numbers in full buckets and the hashes of the keys are the same.
+module _ (w : Width) (size : ℕ) (key_hash hash_after : List ℕ → ℕ → ℕ) (b c : List ℕ) (p : ℕ)
     (head : AgreeOn b c p (p + 3 * byte_len w))
     (controls : 0 < cap_at w b p → table_controls w b p ≡ table_controls w c p)
     (read : (i : ℕ) → IsWalked w b p i → number_at w b (item_at w (byte_len w) b p i)
     ≡ number_at w c (item_at w (byte_len w) c p i))
     (same_hash : (i : ℕ) → i < len_at w b p → key_hash b (pair_pos w size b p i)
-    ≡ key_hash c (pair_pos w size c p i)) where
-  abbrev hashes_in : List ℕ → List ℕ
-  hashes_in d = map (λ i. key_hash d (pair_pos w size d p i)) (indices_of (len_at w d p))
+    ≡ hash_after c (pair_pos w size c p i)) where
+  abbrev hashes_in : (List ℕ → ℕ → ℕ) → List ℕ → List ℕ
+  hashes_in hash d = map (λ i. hash d (pair_pos w size d p i)) (indices_of (len_at w d p))
 
   len_is : len_at w b p ≡ len_at w c p
   len_is = len_same w b c p head
 
-  same_hashes : hashes_in b ≡ hashes_in c
+  same_hashes : hashes_in key_hash b ≡ hashes_in hash_after c
   same_hashes =
       let n = len_at w b p in
       let is = indices_of n in
       let count = length-range_with_len 0 n in
       let f : ℕ → ℕ = λ i. key_hash b (pair_pos w size b p i) in
-      let g : ℕ → ℕ = λ i. key_hash c (pair_pos w size c p i) in
+      let g : ℕ → ℕ = λ i. hash_after c (pair_pos w size c p i) in
       ext_get_or 0 (map f is) (map g is) (length-map is f ∙ sym (length-map is g))
       (λ i below.
       let inside : i < n = omega (arith, below, length-map is f, count) in
@@ -69,7 +69,7 @@ module _ (w : Width) (size : ℕ) (key_hash : List ℕ → ℕ → ℕ) (b c : L
       (length-map hc (number_at w c) ∙ nc ∙ sym nb ∙ sym (length-map hb (number_at w b)))
       (λ i below.
       let n : i < length homes = omega (arith, below, length-map hc (number_at w c), nc) in
-      let walked = home_walked w b p (hashes_in b) homes written.table i n in
+      let walked = home_walked w b p (hashes_in key_hash b) homes written.table i n in
       get_or-map (number_at w c) hc i 0 0 (omega (arith, n, nc)) ∙ ap (number_at w c)
       (home_pos w (byte_len w) c p homes i n) ∙ sym (read (slice_index homes i) walked)
       ∙ ap (number_at w b) (sym (home_pos w (byte_len w) b p homes i n))
@@ -77,10 +77,10 @@ module _ (w : Width) (size : ℕ) (key_hash : List ℕ → ℕ → ℕ) (b c : L
       ∙ written.indices ∙ ap indices_of len_is
 
   pub written_again : (homes : List ℕ) → IndexWrittenAt w size key_hash b p homes
-      → IndexWrittenAt w size key_hash c p homes
+      → IndexWrittenAt w size hash_after c p homes
   written_again homes written = record {
     table = subst (λ (xs : List ℕ). WrittenAt w c p xs homes) same_hashes
-        (written_there w b c p head controls (hashes_in b) homes written.table);
+        (written_there w b c p head controls (hashes_in key_hash b) homes written.table);
     indices = same_indices homes written;
   }
 
@@ -184,7 +184,7 @@ module _ (w : Width) (kind : IsArchiveWord w) (k v : ElementSpec) (kl : IsElemen
     represents_again = record {
       homes = st.homes;
       written =
-          written_again w S.size hash b c p head
+          written_again w S.size hash hash b c p head
           (same_controls w (stored_index_spec w) (stored_index_element w kind) b c p lo hi
           h.middle o h.table head table_local)
           (index_same_at w kind b c p lo hi h.middle o head table_local h.table)

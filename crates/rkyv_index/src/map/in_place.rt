@@ -17,11 +17,12 @@
 //!
 //! `get_index_of` returns the index of a key. `make_ascii_uppercase_at` is in
 //! `map::in_place::text`. The sealed lookups that end in `_with` take a comparison. `map::laws`
-//! has the laws of the map afterwards.
+//! has the laws of the map afterwards. If the map is a value of another map or index map,
+//! `map::laws::nested` has the laws of the outer one.
 ghost use Rattle.std.specs.Prelude.{IfSome, length, ◌+◌, ◌<◌, ◌≡◌, ◌≤◌};
 ghost use Rattle.rkyv_base.specs.{ScalarRepresents, Viewable, entry_spec, value_pos, with_value};
 ghost use Rattle.rkyv_keys.specs.{hash_at, query_of};
-ghost use Rattle.rkyv_table.specs.{MayWriteIn, WritesIn, len_at};
+ghost use Rattle.rkyv_table.specs.{MayWriteIn, WritesAmongParts, WritesIn, len_at};
 ghost use Rattle.rkyv_index.specs.{FoundValueHas, IndexRepresents, KeepsIndexMap, SetsValue};
 ghost use Rattle.rkyv_index.specs.{index_kind, index_over, index_spec, pair_at};
 
@@ -150,6 +151,8 @@ pub fn set_value_at<A, K: KeyElement + Represents<A>, N: Scalar, H: KeyHasher, W
     ensures listed { SetsValue
         (IndexRepresents W.word K.spec N.spec K.represents (ScalarRepresents N.encoding)
         (hash_at H.hasher K.key_calls)) archive.old archive.new root index value }
+    ensures parts { WritesAmongParts (index_spec W.word (entry_spec K.spec N.spec))
+        archive.old archive.new root }
 {
     let pos = value_pos_at::<K, N, H, W>(&*archive, root, index);
     set_at(archive, pos as usize, value);

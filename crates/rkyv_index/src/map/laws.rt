@@ -2,16 +2,18 @@
 //!
 //! They are about writes of one value in place, deserialized lists, lookups, walks and the
 //! layout.
-//! `written` is about the bytes of written index maps, and `list_archives` about root index maps.
+//! `written` is about the bytes of written index maps, `list_archives` about root index maps, and
+//! `nested` about writes in a map or index map that is a value.
 ghost use Rattle.rkyv_base.specs.{SameSpec, SameValues, entry_spec};
 ghost use Rattle.rkyv_keys.specs.{hash_at, hash_of, native_pairs};
 ghost use Rattle.rkyv_table.specs.{CountsPositions, SameSteps, YieldsKey, YieldsPair, YieldsValue};
-ghost use Rattle.rkyv_index.specs.{LookupsFindListed, PairsReadBackAreListed};
-ghost use Rattle.rkyv_index.specs.{ValueWritesKeepIndexMaps, ValueWritesKeepLookups};
-ghost use Rattle.rkyv_index.specs.{ValuesWrittenRepresent, WalksVisitInOrder, index_spec};
-ghost use Rattle.rkyv_index.specs.{ordered_pairs, reads_as};
+ghost use Rattle.rkyv_index.specs.{ComparedAlike, LookupsFindListed, PairsReadBackAreListed};
+ghost use Rattle.rkyv_index.specs.{QueriedAlike, ValueWritesKeepIndexMaps, ValueWritesKeepLookups};
+ghost use Rattle.rkyv_index.specs.{ValuesWrittenRepresent, WalksVisitInOrder, WrittenAlike};
+ghost use Rattle.rkyv_index.specs.{index_spec, ordered_pairs, reads_as};
 
 pub mod list_archives;
+pub mod nested;
 pub mod written;
 
 use crate::lists::OrderedPairs;
@@ -20,7 +22,7 @@ use crate::map::read::iter::{Iter, Keys, Values};
 use rkyv_base::element::{Element, HasSpec, Represents};
 use rkyv_base::width::Width;
 use rkyv_keys::equality::RepresentsUniquely;
-use rkyv_keys::keys::{KeyElement, Query};
+use rkyv_keys::keys::{FixedKey, KeyElement, Query};
 use rkyv_scan::hash::{FxHasher64, KeyHasher};
 
 /// States that a write of one value in place that keeps it valid keeps the index map.
@@ -60,6 +62,21 @@ pub fn pairs_read_back_are_listed<
 >()
     ensures { PairsReadBackAreListed W.word (reads_as K.spec K.represents A.eq)
         (reads_as V.spec V.represents B.eq) (hash_at H.hasher K.key_calls) }
+{}
+
+/// States that both hashers look up alike in an index map whose keys hash no `usize` or `isize`.
+///
+/// `FxHasher64` and `FxHasher64Wide` differ in the calls for `usize` and `isize` alone.
+/// A `FixedKey` makes none of them, and all keys of `rkyv_keys` implement it.
+///
+/// - `written`: an index map that was written under one hasher was written under the other.
+/// - `compared`: in any index map, a comparison finds the same index under both, if the query
+///   makes none of these calls.
+/// - `queried`: in a written index map, a query finds the same index under both.
+pub fn both_hashers_look_up_alike<Q: Query<K>, K: FixedKey, V: Element, W: Width>()
+    ensures written { WrittenAlike W.word K.spec V.spec K.key_calls }
+    ensures compared { ComparedAlike W.word }
+    ensures queried { QueriedAlike W.word K.spec V.spec K.key_calls Q.KeyHash Q.fits }
 {}
 
 /// States the layout of an index map, and that it represents the pairs of a list in order.

@@ -2,12 +2,14 @@
 //!
 //! They are about deserialized lists, lookups, walks, the layout and the written bytes.
 ghost use Rattle.rkyv_keys.specs.{fx_key_format, hash_at, native_key_format, native_keys};
-ghost use Rattle.rkyv_index.specs.{ItemsReadBackAreListed, MembersFoundAreListed, SameFormats};
-ghost use Rattle.rkyv_index.specs.{SetWalksVisitInOrder, index_keys_format, index_set_spec};
-ghost use Rattle.rkyv_index.specs.{indices, ordered_items, ordered_items_format};
-ghost use Rattle.rkyv_base.specs.{SameFormat, SameSpec, SameValues};
+ghost use Rattle.rkyv_index.specs.{ComparedAlike, ItemsReadBackAreListed, MembersFoundAreListed};
+ghost use Rattle.rkyv_index.specs.{QueriedAlike, SameFormats, SetWalksVisitInOrder, WrittenAlike};
+ghost use Rattle.rkyv_index.specs.{index_keys_format, index_set_spec, indices, ordered_items};
+ghost use Rattle.rkyv_index.specs.{ordered_items_format};
+ghost use Rattle.rkyv_base.specs.{SameFormat, SameSpec, SameValues, unit_spec};
 
 use crate::lists::OrderedItems;
+use crate::map::laws::both_hashers_look_up_alike as maps_look_up_alike;
 use crate::map::write::serialize::ListFormat;
 use crate::set::IndexSetOf;
 use crate::width::IndexMapWidth;
@@ -15,7 +17,7 @@ use rkyv_base::archive::Archive;
 use rkyv_base::element::{HasSpec, Represents};
 use rkyv_base::width::Width;
 use rkyv_keys::equality::RepresentsUniquely;
-use rkyv_keys::keys::{KeyElement, NativeKey, NativeQuery};
+use rkyv_keys::keys::{FixedKey, KeyElement, NativeKey, NativeQuery, Query};
 use rkyv_scan::hash::{FxHasher64, KeyHasher};
 
 /// States that a list deserialized from an index set is `==` to the list that it represents.
@@ -54,6 +56,17 @@ pub fn members_found_are_listed<
 pub fn walks_visit_in_order<A, K: KeyElement + Represents<A>, H: KeyHasher, W: Width>()
     ensures { SetWalksVisitInOrder W.word K.spec K.represents (hash_at H.hasher K.key_calls) }
 {}
+
+/// States that both hashers look up alike in an index set whose keys hash no `usize` or `isize`.
+///
+/// It is the law of index maps for the index map of the keys to the unit value.
+pub fn both_hashers_look_up_alike<Q: Query<K>, K: FixedKey, W: Width>()
+    ensures written { WrittenAlike W.word K.spec unit_spec K.key_calls }
+    ensures compared { ComparedAlike W.word }
+    ensures queried { QueriedAlike W.word K.spec unit_spec K.key_calls Q.KeyHash Q.fits }
+{
+    maps_look_up_alike::<Q, K, (), W>();
+}
 
 /// States the layout of an index set, and that it represents the keys of a list in order.
 pub fn index_sets_are_laid_out<W: Width, A, K: KeyElement + Represents<A>>()

@@ -7,6 +7,7 @@ use rkyv_base::access::access;
 use rkyv_base::errors::{VerifyError, WriteError};
 use rkyv_base::width::Narrow;
 use rkyv_base::writer::{NoMemory, VecWriter};
+use rkyv_index::set::laws::both_hashers_look_up_alike;
 use rkyv_index::{ArchivedIndexMap, ArchivedIndexSet, IndexSetOf};
 use rkyv_scan::hash::FxHasher64;
 use std::alloc::Global;
@@ -17,6 +18,7 @@ type Keys = IndexSetOf<i8>;
 
 #[test]
 fn one_item_is_written(rt: HostRuntime) -> Result<(), Fail> {
+    both_hashers_look_up_alike::<i8, i8, Narrow>();
     let alloc = rt.alloc();
     let bytes = set_archive(alloc, &[1])?;
     expect_eq!(rt; bytes.as_slice(), one_index_key().as_slice());

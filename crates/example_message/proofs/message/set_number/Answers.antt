@@ -1,7 +1,7 @@
 use Rattle.std.proofs.Common.{◌≡◌, ◌-◌, ◌%◌, IfSome, Some, None, ap, arith, false, refl, subst, sym, ◌∙◌}
 use Rattle.rkyv_base.specs.Lemmas.Access.{root_viewable}
 use Rattle.rkyv_base.specs.{ValidAt}
-use Rattle.rkyv_collections.specs.{WritesAmongParts}
+use Rattle.rkyv_table.specs.{WritesAmongParts}
 use Rattle.example_message.specs.{ArePartsFields, FindsFirstPart, IsFields, IsMessage, IsPartsPos, PartsRepresent, Represents, WritesIfFound, fields_spec, header_spec, number_in_fields, root, with_number}
 use Rattle.example_message.proofs.Found.{none_set, number_set, only_written}
 use Rattle.example_message.proofs.message.set_number.Goals as goal

@@ -1,31 +1,19 @@
 //! Writing the inline text of a key in place.
 //!
 //! `map::in_place` has a table of all calls that write values.
-ghost use Rattle.std.specs.Prelude.{length, ◌+◌, ◌≤◌};
-ghost use Rattle.rkyv_base.specs.{Uppercases, Viewable, text_size};
-ghost use Rattle.rkyv_collections.specs.{UppercasesFirst, UppercasesText, WritesAmongParts};
-ghost use Rattle.rkyv_collections.specs.{map_to_texts_at, map_to_texts_spec, query_of_value};
+ghost use Rattle.rkyv_base.specs.{Viewable};
+ghost use Rattle.rkyv_table.specs.{WritesAmongParts};
+ghost use Rattle.rkyv_collections.specs.{UppercasesFirst, UppercasesText, map_to_texts_at};
+ghost use Rattle.rkyv_collections.specs.{map_to_texts_spec, query_of_value};
 ghost use Rattle.rkyv_keys.specs.{query_of};
 
 use crate::map::ArchivedHashMap;
 use rkyv_base::element::Represents;
-use rkyv_base::seal::Seal;
+use rkyv_base::seal_text::uppercase_at;
 use rkyv_base::text::Text;
 use rkyv_base::width::Width;
 use rkyv_keys::keys::{KeyElement, NativeKey};
 use rkyv_scan::hash::KeyHasher;
-
-/// Writes the inline text at a position in upper case, and returns `true` if it is inline.
-#[inline]
-fn uppercase_at<W: Width>(bytes: &mut [u8], pos: usize) -> bool
-    requires { pos + text_size W.word ≤ length bytes.old }
-    ensures { Uppercases W.word bytes.old pos bytes.new result }
-{
-    let mut seal = Seal::<Text<W>>::over(bytes, pos);
-    let is_inline = seal.make_ascii_uppercase();
-    drop(seal);
-    is_inline
-}
 
 /// Writes each letter from a to z of the text of a key in upper case, if the text is inline.
 ///

@@ -1,32 +1,20 @@
 //! Writing the inline text at an index in place.
 //!
 //! `map::in_place` has a table of all calls that write values.
-ghost use Rattle.std.specs.Prelude.{length, ◌+◌, ◌<◌, ◌≤◌};
-ghost use Rattle.rkyv_base.specs.{IsTextOf, Uppercases, Viewable, text_size, text_spec, value_pos};
+ghost use Rattle.std.specs.Prelude.{◌<◌};
+ghost use Rattle.rkyv_base.specs.{IsTextOf, Uppercases, Viewable, text_spec, value_pos};
 ghost use Rattle.rkyv_keys.specs.{hash_at};
-ghost use Rattle.rkyv_table.specs.{len_at};
+ghost use Rattle.rkyv_table.specs.{WritesAmongParts, len_at};
 ghost use Rattle.rkyv_index.specs.{IndexRepresents, KeepsIndexMap, UppercasesListed, index_kind};
 ghost use Rattle.rkyv_index.specs.{index_to_texts_spec, pair_at};
 
 use crate::map::in_place::value_pos_at;
 use rkyv_base::element::Represents;
-use rkyv_base::seal::Seal;
+use rkyv_base::seal_text::uppercase_at;
 use rkyv_base::text::Text;
 use rkyv_base::width::Width;
 use rkyv_keys::keys::KeyElement;
 use rkyv_scan::hash::KeyHasher;
-
-/// Writes the inline text at a position in upper case, and returns `true` if it is inline.
-#[inline]
-fn uppercase_at<W: Width>(bytes: &mut [u8], pos: usize) -> bool
-    requires { pos + text_size W.word ≤ length bytes.old }
-    ensures { Uppercases W.word bytes.old pos bytes.new result }
-{
-    let mut seal = Seal::<Text<W>>::over(bytes, pos);
-    let is_inline = seal.make_ascii_uppercase();
-    drop(seal);
-    is_inline
-}
 
 /// Writes each letter from a to z of the text at `index` in upper case, if the text is inline.
 ///
@@ -63,6 +51,8 @@ pub fn make_ascii_uppercase_at<A, K: KeyElement + Represents<A>, H: KeyHasher, W
         (IndexRepresents W.word K.spec (text_spec W.word) K.represents
         (IsTextOf W.word (λ text. text.now)) (hash_at H.hasher K.key_calls))
         archive.old archive.new root index result }
+    ensures parts { WritesAmongParts (index_to_texts_spec W.word K.spec) archive.old archive.new
+        root }
 {
     let pos = value_pos_at::<K, Text<W>, H, W>(&*archive, root, index);
     uppercase_at::<W>(archive, pos as usize)

@@ -5,7 +5,8 @@ use Rattle.rkyv_keys.specs.Lemmas.QueryLaws.{hash_local}
 use Rattle.rkyv_keys.specs.{hash_at}
 use Rattle.rkyv_collections.specs.{SetsFound, map_spec}
 use Rattle.rkyv_collections.proofs.FirstWrites.{first_behind, none_behind}
-use Rattle.rkyv_collections.proofs.NestedWrites.{unwritten, value_nested_at}
+use Rattle.rkyv_table.proofs.NestedEntries.{unwritten}
+use Rattle.rkyv_collections.proofs.NestedWrites.{value_nested_at}
 use Rattle.rkyv_collections.proofs.SealedMap.{satisfies_implied}
 use Rattle.rkyv_collections.proofs.ValueWrites.{map_kept_at}
 use Rattle.rkyv_collections.proofs.map.in_place.set_value_of.Goals as goal

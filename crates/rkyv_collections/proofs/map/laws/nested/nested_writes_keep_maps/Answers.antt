@@ -2,7 +2,7 @@ use Rattle.std.proofs.Common.{subst}
 use Rattle.rkyv_base.specs.{value_pos}
 use Rattle.rkyv_keys.specs.{hash_at}
 use Rattle.rkyv_keys.specs.Lemmas.QueryLaws.{hash_local}
-use Rattle.rkyv_collections.specs.{WritesAmongParts}
+use Rattle.rkyv_table.specs.{WritesAmongParts}
 use Rattle.rkyv_collections.proofs.NestedWrites.{nested_kept}
 use Rattle.rkyv_collections.proofs.map.laws.nested.nested_writes_keep_maps.Goals as goal
 

@@ -4,7 +4,7 @@ use Rattle.rkyv_base.specs.Lemmas.Text.{text_element}
 use Rattle.rkyv_keys.specs.{hash_at}
 use Rattle.rkyv_keys.specs.Lemmas.QueryLaws.{hash_local}
 use Rattle.rkyv_index.proofs.UppercaseTexts.{text_written, uppercased_listed}
-use Rattle.rkyv_index.proofs.ValueWrites.{index_kept}
+use Rattle.rkyv_index.proofs.ValueWrites.{index_kept, value_nested}
 use Rattle.rkyv_index.proofs.map.in_place.text.make_ascii_uppercase_at.Goals as goal
 
 pub returns-clause-uppercases : goal.returns-clause-uppercases
@@ -28,3 +28,11 @@ returns-clause-listed g c = λ factor pairs pair text st there upper.
     uppercased_listed w kind g.K.HasSpec.spec g.K.HasSpec.laws (text_element w kind) c.args.archive.now c.args.root c.requires.map c.uppercase_at.new.bytes c.args.index c.requires.below
     g.K.Represents.represents (hash_at g.H.KeyHasher.hasher g.K.KeyElement.key_calls) (hash_local g.H.KeyHasher.hasher g.met.K.KeyElement.key) g.met.K.Represents.local factor pairs pair text
     _ _ c.value_pos_at-pos.ensures.at c.value_pos_at-pos.ensures.inside c.uppercase_at.ensures st there upper
+
+pub returns-clause-parts : goal.returns-clause-parts
+returns-clause-parts g c =
+    let w = g.W.Word.word in
+    let k = g.K.HasSpec.spec in
+    let kind = g.met.W.Width.layout.kind in
+    value_nested w kind k (text_spec w) g.K.HasSpec.laws (text_element w kind) c.args.archive.now c.args.root c.requires.map c.uppercase_at.new.bytes c.args.index c.requires.below
+    (text_written w k c.args.archive.now c.args.root c.uppercase_at.new.bytes c.args.index _ _ c.value_pos_at-pos.ensures.at c.value_pos_at-pos.ensures.inside c.uppercase_at.ensures)
