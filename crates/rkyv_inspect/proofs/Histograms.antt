@@ -28,11 +28,14 @@ zeros_total : (len : ℕ) → sum (zeros len) ≡ 0
 zeros_total zero = refl
 zeros_total (suc len) = sum_by-cons (λ x. x) 0 (zeros len) ∙ zero-add _ ∙ zeros_total len
 
-pub partial_none : (f : ℕ → ℕ) (items : List ℕ) (len : ℕ) → Partial f items items (zeros len)
-partial_none f items len = record {
+nothing_counted : (f : ℕ → ℕ) (items : List ℕ) (len : ℕ) → Partial f items items (zeros len)
+nothing_counted f items len = record {
   each = λ n. let z = zeros_at len n in omega (arith, z);
   total = let z = zeros_total len in omega (arith, z);
 }
+
+pub partial_none : (f : ℕ → ℕ) (items left counts : List ℕ) (len : ℕ) → left ≡ items → counts ≡ zeros len → Partial f items left counts
+partial_none f items left counts len all none = subst (λ xs. Partial f items xs counts) (sym all) (subst (λ xs. Partial f items items xs) (sym none) (nothing_counted f items len))
 
 module _ (f : ℕ → ℕ) (x m : ℕ) (rest counts : List ℕ) (is : m ≡ f x) (below : m < length counts) where
   each_more : (n : ℕ) → get_or (with_one_more counts m) n 0 + count_by (λ x. eqb (f x) n) rest
@@ -54,12 +57,17 @@ module _ (f : ℕ → ℕ) (x m : ℕ) (rest counts : List ℕ) (is : m ≡ f x)
   total_more : sum (with_one_more counts m) ≡ sum counts + 1
   total_more = let e = sum_by-set (λ (x : ℕ). x) counts m (get_or counts m 0 + 1) 0 below in omega (arith, e)
 
-pub partial_more : (f : ℕ → ℕ) (items left rest counts : List ℕ) (x m : ℕ) → left ≡ x ∷ rest → m ≡ f x → m < length counts
-    → Partial f items left counts → Partial f items rest (with_one_more counts m)
-partial_more f items left rest counts x m step is below before = record {
+one_more : (f : ℕ → ℕ) (items left rest counts : List ℕ) (x m : ℕ) → left ≡ x ∷ rest → m ≡ f x → m < length counts → Partial f items left counts
+    → Partial f items rest (with_one_more counts m)
+one_more f items left rest counts x m step is below before = record {
   each = λ n. each_more f x m rest counts is below n ∙ ap (λ xs. get_or counts n 0 + count_by (λ x. eqb (f x) n) xs) (sym step) ∙ before.each n;
   total = let t = total_more f x m rest counts is below in let l = ap length step in let b = before.total in omega (arith, t, l, b);
 }
+
+pub partial_more : (f : ℕ → ℕ) (items left rest counts new : List ℕ) (x m : ℕ) → left ≡ x ∷ rest → m ≡ f x → m < length counts → new ≡ with_one_more counts m
+    → Partial f items left counts → Partial f items rest new
+partial_more f items left rest counts new x m step is below added before =
+    subst (λ xs. Partial f items rest xs) (sym added) (one_more f items left rest counts x m step is below before)
 
 pub partial_all : (most : ℕ) (f : ℕ → ℕ) (items left counts : List ℕ) → left ≡ [] → length counts ≡ most + 1 → Partial f items left counts
     → IsHistogram most f items counts

@@ -106,11 +106,11 @@ module _ (t : PairType) (kl : IsElement t.key) (vl : IsElement t.value) (w : Wid
   begin_if_some some = ap (λ f. if f then p else controls_pos w b p - cap_at w b p * entry.size) (not_empty (cap_at w b p) some)
 
   -- the pairs of a valid hash map
-  pub map_ahead : (len : ℕ) → p ≤ len → Viewable (table_spec w entry) b p → AreAhead t b (buckets_begin t w b p) (item_positions w entry.size b p) 0 len
-  map_ahead len inside v = elim (cases_eq (cap_at w b p) 0) [
+  pub map_ahead : Viewable (table_spec w entry) b p → (end len : ℕ) → end ≡ 0 → p ≤ len → AreAhead t b (buckets_begin t w b p) (item_positions w entry.size b p) end len
+  map_ahead v end len none_yet inside = elim (cases_eq (cap_at w b p) 0) [
     | inl none ↦
-        subst (λ hi. AreAhead t b hi (item_positions w entry.size b p) 0 len) (sym (begin_if_none none))
-        (subst (λ qs. AreAhead t b p qs 0 len) (sym (no_items none)) (record { lo = 0; last = 0; above = omega arith; below = omega arith; inside = inside; valid = refl }))
+        subst (λ hi. AreAhead t b hi (item_positions w entry.size b p) end len) (sym (begin_if_none none))
+        (subst (λ qs. AreAhead t b p qs end len) (sym (no_items none)) (record { lo = 0; last = 0; above = omega (arith, none_yet); below = omega arith; inside = inside; valid = refl }))
     | inr other ↦
         let some : 0 < cap_at w b p = omega (arith, other) in
         let part = part_of w entry entry_law b p v some in
@@ -122,10 +122,10 @@ module _ (t : PairType) (kl : IsElement t.key) (vl : IsElement t.value) (w : Wid
         let is : buckets_begin t w b p ≡ begin = begin_if_some some ∙ omega (arith, at) in
         let items : AreValidAt entry (bucket_at entry.size begin cap) b begin (walk (table_controls w b p) cap) 0 part.is.last =
         subst (λ controls. AreValidAt entry (bucket_at entry.size begin cap) b begin (walk controls cap) 0 part.is.last) (sym (decoded_controls w entry.size b p begin begins)) part.is.items in
-        subst (λ hi. AreAhead t b hi (item_positions w entry.size b p) 0 len) (sym is) (record {
+        subst (λ hi. AreAhead t b hi (item_positions w entry.size b p) end len) (sym is) (record {
           lo = 0;
           last = part.is.last;
-          above = omega arith;
+          above = omega (arith, none_yet);
           below = omega arith;
           inside = omega (arith, below, inside);
           valid = moved_at entry (bucket_at entry.size begin cap) (item_at w entry.size b p) b begin cap (walk (table_controls w b p) cap) 0 part.is.last
@@ -170,8 +170,8 @@ module _ (t : PairType) (kl : IsElement t.key) (vl : IsElement t.value) (w : Wid
     ]
 
     -- the pairs of a valid index map
-    pub index_ahead : (len : ℕ) → p ≤ len → AreAhead t b (entries_pos w b p) (pair_positions w entry.size b p) (table_end 0 (controls_pos w b p) (cap_at w b p)) len
-    index_ahead len inside =
+    pub index_ahead : (end len : ℕ) → end ≡ table_end 0 (controls_pos w b p) (cap_at w b p) → p ≤ len → AreAhead t b (entries_pos w b p) (pair_positions w entry.size b p) end len
+    index_ahead end len after_table inside =
         let begin = valid.entries.begin in
         let is : entries_pos w b p ≡ begin = sym (ap unsigned_abs valid.entries.part.begins) in
         let above = valid.entries.part.above in
@@ -180,10 +180,10 @@ module _ (t : PairType) (kl : IsElement t.key) (vl : IsElement t.value) (w : Wid
         let in_row : AreValidAt entry (λ q. q) b begin (row entry.size begin (len_at w b p)) valid.middle valid.entries.last =
         subst (λ q. AreValidAt entry (λ q. q) b begin (row entry.size q (len_at w b p)) valid.middle valid.entries.last) first
         (row_at entry begin b begin 0 (len_at w b p) valid.middle valid.entries.last valid.entries.valid) in
-        subst (λ hi. AreAhead t b hi (row entry.size hi (len_at w b p)) (table_end 0 (controls_pos w b p) (cap_at w b p)) len) (sym is) (record {
+        subst (λ hi. AreAhead t b hi (row entry.size hi (len_at w b p)) end len) (sym is) (record {
           lo = valid.middle;
           last = valid.entries.last;
-          above = omega (arith, table_before);
+          above = omega (arith, after_table, table_before);
           below = above;
           inside = omega (arith, below, inside);
           valid = in_row;

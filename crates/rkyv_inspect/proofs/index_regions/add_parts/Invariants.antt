@@ -1,4 +1,3 @@
-use Rattle.std.proofs.Common.{◌≡◌}
 use Rattle.rkyv_base.specs.{archive_of, bytes_of, pos_of}
 use Rattle.rkyv_index.specs.{entries_pos, pair_positions}
 use Rattle.rkyv_inspect.specs.{entry_size, pair_type}
@@ -11,7 +10,4 @@ invariant-loop-key g l =
     let w = g.W.Word.word in
     let b = bytes_of l.root in
     let p = pos_of l.root in
-    record {
-      archive : l.key-iterator.archive ≡ archive_of l.root;
-      left : PartsLeft t b (entries_pos w b p) (pair_positions w (entry_size t) b p) l.key-iterator.positions l.initial.list l.list;
-    }
+    PartsLeft t (archive_of l.root) (entries_pos w b p) (pair_positions w (entry_size t) b p) l.key-iterator l.initial.list l.list

@@ -1,123 +1,76 @@
-use Rattle.std.proofs.Common.{◌≡◌, ◌∙◌, ◌<◌, ◌≤◌, ap, arith, IfOk, List, length, subst, sym, ℕ}
+use Rattle.std.proofs.Common.{◌≡◌, ◌∙◌, ap, arith, IfOk, List, length, refl, subst, ℕ}
 use Rattle.std.specs.Borrow.{Bor}
 use Rattle.std.proofs.lemmas.Result.{IfOk-weaker}
 use Rattle.rkyv_base.specs.{bytes_of, entry_spec, pos_of}
 use Rattle.rkyv_base.specs.Lemmas.Entry.{entry_element}
-use Rattle.rkyv_table.specs.{IsDecoded, cap_at, controls_pos, item_positions}
-use Rattle.rkyv_inspect.specs.{AreAhead, Covers, buckets_begin, entry_size, fields_of, header_fields, map_fields, pair_type, table_end, table_fields}
+use Rattle.rkyv_inspect.specs.{Covers, PairType, fields_of, header_fields, map_fields, pair_type}
 use Rattle.rkyv_inspect.proofs.PartsAhead.{map_ahead, table_begin, table_end_below, table_room}
-use Rattle.rkyv_inspect.proofs.TableFields.{same_end, same_table, three_steps}
+use Rattle.rkyv_inspect.proofs.TableFields.{IsRead, same_end, same_table, table_read, three_steps}
 use Rattle.rkyv_inspect.proofs.map_regions.map_regions.Goals as goal
+use Rattle.rkyv_inspect.proofs.map_regions.map_regions.Goals.{After-new-list, After-size}
+
+-- the list, before it has regions
+module _ (g : _) (c : After-new-list g) where
+  abbrev t : PairType
+  t = pair_type g.K.HasSpec.spec g.V.HasSpec.spec g.K.Field.part_at g.V.Field.part_at
+
+  abbrev b : List ℕ
+  b = bytes_of c.args.root
+
+  abbrev p : ℕ
+  p = pos_of c.args.root
+
+  long : c.new-list.result.len ≡ length b
+  long = c.new-list.ensures.len ∙ ap (λ (a : Bor (List ℕ)). length a.now) c.bytes-bytes.ensures
+
+-- the header, before the buckets are appended
+module _ (g : _) (c : After-size g) where
+  header : IsRead g.W.Word.word (bytes_of c.args.root) (pos_of c.args.root) c.controls_pos.result c.capacity.result
+  header = table_read _ c.of.result.view c.args.root c.header-header.result _ _ c.of.ensures.view c.header-header.ensures c.controls_pos.ensures c.capacity.ensures
 
 pub add_parts-requires-clause-ahead : goal.add_parts-requires-clause-ahead
 add_parts-requires-clause-ahead g c =
-    let k = g.K.HasSpec.spec in
-    let v = g.V.HasSpec.spec in
-    let kl = g.K.HasSpec.laws in
-    let vl = g.V.HasSpec.laws in
-    let t = pair_type k v g.K.Field.part_at g.V.Field.part_at in
-    let w = g.W.Word.word in
-    let root = c.args.root in
-    let b : List ℕ = bytes_of root in
-    let p : ℕ = pos_of root in
-    let long : c.new-list.result.len ≡ length b = c.new-list.ensures.len ∙ ap (λ (a : Bor (List ℕ)). length a.now) c.bytes-bytes.ensures in
+    let at = (goal.at.add_parts-requires-clause-ahead g c).After-new-list in
     let inside = c.requires.inside in
-    subst (λ n. AreAhead t b (buckets_begin t w b p) (item_positions w (entry_size t) b p) n c.new-list.result.len) (sym c.new-list.ensures.end)
-    (map_ahead t kl vl w b p c.new-list.result.len (omega (arith, inside, long)) c.requires)
+    map_ahead (t g at) g.K.HasSpec.laws g.V.HasSpec.laws g.W.Word.word (b g at) (p g at) c.requires _ _ c.new-list.ensures.end (omega (arith, inside, long g at))
 
 pub add-requires-clause-begin : goal.add-requires-clause-begin
-add-requires-clause-begin g c =
-    let k = g.K.HasSpec.spec in
-    let v = g.V.HasSpec.spec in
-    let kl = g.K.HasSpec.laws in
-    let vl = g.V.HasSpec.laws in
-    let t = pair_type k v g.K.Field.part_at g.V.Field.part_at in
-    let w = g.W.Word.word in
-    let root = c.args.root in
-    let b : List ℕ = bytes_of root in
-    let p : ℕ = pos_of root in
-    let header = subst (λ v. IsDecoded w (bytes_of v) (pos_of v) c.header-header.result) c.of.ensures.view c.header-header.ensures in
-    let cap : c.capacity.result ≡ cap_at w b p = c.capacity.ensures ∙ header.cap in
-    let z : 0 < c.capacity.result → c.controls_pos.result ≡ controls_pos w b p = λ some. c.controls_pos.ensures ∙ header.controls_pos (omega (arith, some, c.capacity.ensures)) in
-    λ some.
-    let room = table_begin t kl vl w b p c.requires (omega (arith, some, cap)) c.add_parts.new.list.end c.in_ok-add_parts.ensures.end in
-    rw (cap, c.size.ensures, z some) room
+add-requires-clause-begin g c = λ some.
+    let at = (goal.at.add-requires-clause-begin g c).After-new-list in
+    let header = header g (goal.at.add-requires-clause-begin g c).After-size in
+    let room = table_begin (t g at) g.K.HasSpec.laws g.V.HasSpec.laws g.W.Word.word (b g at) (p g at) c.requires (omega (arith, some, header.cap)) c.add_parts.new.list.end c.in_ok-add_parts.ensures.end in
+    rw (header.cap, c.size.ensures, header.begins some) room
 
 pub add-requires-clause-inside : goal.add-requires-clause-inside
-add-requires-clause-inside g c =
-    let k = g.K.HasSpec.spec in
-    let v = g.V.HasSpec.spec in
-    let kl = g.K.HasSpec.laws in
-    let vl = g.V.HasSpec.laws in
-    let t = pair_type k v g.K.Field.part_at g.V.Field.part_at in
-    let w = g.W.Word.word in
-    let root = c.args.root in
-    let b : List ℕ = bytes_of root in
-    let p : ℕ = pos_of root in
-    let long : c.new-list.result.len ≡ length b = c.new-list.ensures.len ∙ ap (λ (a : Bor (List ℕ)). length a.now) c.bytes-bytes.ensures in
+add-requires-clause-inside g c = λ some.
+    let at = (goal.at.add-requires-clause-inside g c).After-new-list in
+    let header = header g (goal.at.add-requires-clause-inside g c).After-size in
     let inside = c.requires.inside in
-    let header = subst (λ v. IsDecoded w (bytes_of v) (pos_of v) c.header-header.result) c.of.ensures.view c.header-header.ensures in
-    let cap : c.capacity.result ≡ cap_at w b p = c.capacity.ensures ∙ header.cap in
-    let z : 0 < c.capacity.result → c.controls_pos.result ≡ controls_pos w b p = λ some. c.controls_pos.ensures ∙ header.controls_pos (omega (arith, some, c.capacity.ensures)) in
     let same = c.in_ok-add_parts.ensures.len in
-    λ some.
-    let room = (table_room w (entry_spec k v) (entry_element k v kl vl) b p c.requires (omega (arith, some, cap))).end in
-    rw (cap, z some) (omega (arith, room, inside, long, same))
+    let law = entry_element g.K.HasSpec.spec g.V.HasSpec.spec g.K.HasSpec.laws g.V.HasSpec.laws in
+    let room = (table_room g.W.Word.word (entry_spec g.K.HasSpec.spec g.V.HasSpec.spec) law (b g at) (p g at) c.requires (omega (arith, some, header.cap))).end in
+    rw (header.cap, header.begins some) (omega (arith, room, inside, long g at, same))
 
 pub add_header-requires-clause-begin : goal.add_header-requires-clause-begin
 add_header-requires-clause-begin g c =
-    let k = g.K.HasSpec.spec in
-    let v = g.V.HasSpec.spec in
-    let kl = g.K.HasSpec.laws in
-    let vl = g.V.HasSpec.laws in
-    let t = pair_type k v g.K.Field.part_at g.V.Field.part_at in
-    let w = g.W.Word.word in
-    let root = c.args.root in
-    let b : List ℕ = bytes_of root in
-    let p : ℕ = pos_of root in
-    let header = subst (λ v. IsDecoded w (bytes_of v) (pos_of v) c.header-header.result) c.of.ensures.view c.header-header.ensures in
-    let cap : c.capacity.result ≡ cap_at w b p = c.capacity.ensures ∙ header.cap in
-    let z : 0 < c.capacity.result → c.controls_pos.result ≡ controls_pos w b p = λ some. c.controls_pos.ensures ∙ header.controls_pos (omega (arith, some, c.capacity.ensures)) in
-    let end = c.add_parts.new.list.end in
-    let is : c.add.new.list.end ≡ table_end end (controls_pos w b p) (cap_at w b p) =
-    c.in_ok-add.ensures.adds.end_is ∙ same_end end c.controls_pos.result (controls_pos w b p) c.capacity.result (cap_at w b p) cap z in
-    subst (λ n. n ≤ c.pos.result) (sym is)
-    (subst (λ n. table_end end (controls_pos w b p) (cap_at w b p) ≤ n) (sym c.pos.ensures) (table_end_below t kl vl w b p c.requires end c.in_ok-add_parts.ensures.end))
+    let at = (goal.at.add_header-requires-clause-begin g c).After-new-list in
+    let header = header g (goal.at.add_header-requires-clause-begin g c).After-size in
+    let is = same_end _ _ _ _ _ header c.add.new.list.end _ c.add_parts.new.list.end c.in_ok-add.ensures.adds.end_is refl in
+    rw (is, c.pos.ensures) (table_end_below (t g at) g.K.HasSpec.laws g.V.HasSpec.laws g.W.Word.word (b g at) (p g at) c.requires c.add_parts.new.list.end c.in_ok-add_parts.ensures.end)
 
 pub returns-clause-covers : goal.returns-clause-covers
 returns-clause-covers g c =
-    let k = g.K.HasSpec.spec in
-    let v = g.V.HasSpec.spec in
-    let kl = g.K.HasSpec.laws in
-    let vl = g.V.HasSpec.laws in
-    let t = pair_type k v g.K.Field.part_at g.V.Field.part_at in
-    let w = g.W.Word.word in
-    let root = c.args.root in
-    let b : List ℕ = bytes_of root in
-    let p : ℕ = pos_of root in
-    let long : c.new-list.result.len ≡ length b = c.new-list.ensures.len ∙ ap (λ (a : Bor (List ℕ)). length a.now) c.bytes-bytes.ensures in
-    let inside = c.requires.inside in
-    let len : c.add_header.new.list.len ≡ length b = c.in_ok-add_header.ensures.len ∙ c.in_ok-add.ensures.len ∙ c.in_ok-add_parts.ensures.len ∙ long in
+    let long : c.new-list.result.len ≡ length (bytes_of c.args.root) = long g (goal.at.returns-clause-covers g c).After-new-list in
+    let len = c.in_ok-add_header.ensures.len ∙ c.in_ok-add.ensures.len ∙ c.in_ok-add_parts.ensures.len ∙ long in
     subst (λ (n : ℕ). IfOk c.finish.result (λ regions. Covers 0 regions.items n)) len c.finish.ensures.covers
 
 pub returns-clause-fields : goal.returns-clause-fields
 returns-clause-fields g c =
-    let k = g.K.HasSpec.spec in
-    let v = g.V.HasSpec.spec in
-    let kl = g.K.HasSpec.laws in
-    let vl = g.V.HasSpec.laws in
-    let t = pair_type k v g.K.Field.part_at g.V.Field.part_at in
+    let at = (goal.at.returns-clause-fields g c).After-new-list in
     let w = g.W.Word.word in
-    let root = c.args.root in
-    let b : List ℕ = bytes_of root in
-    let p : ℕ = pos_of root in
-    let header = subst (λ v. IsDecoded w (bytes_of v) (pos_of v) c.header-header.result) c.of.ensures.view c.header-header.ensures in
-    let cap : c.capacity.result ≡ cap_at w b p = c.capacity.ensures ∙ header.cap in
-    let z : 0 < c.capacity.result → c.controls_pos.result ≡ controls_pos w b p = λ some. c.controls_pos.ensures ∙ header.controls_pos (omega (arith, some, c.capacity.ensures)) in
-    let table = ap (λ (a : Bor (List ℕ)). table_fields a.now c.controls_pos.result c.size.result c.capacity.result) c.bytes-bytes.ensures
-    ∙ ap (λ n. table_fields b c.controls_pos.result n c.capacity.result) c.size.ensures
-    ∙ same_table b (entry_size t) c.controls_pos.result (controls_pos w b p) c.capacity.result (cap_at w b p) cap z in
+    let header = header g (goal.at.returns-clause-fields g c).After-size in
+    let table = same_table _ _ _ _ _ header _ _ _ (ap (λ (a : Bor (List ℕ)). a.now) c.bytes-bytes.ensures) c.size.ensures in
     let all = three_steps _ _ _ _ _ _ _ _ _ c.new-list.ensures.fields c.in_ok-add_parts.ensures.fields c.in_ok-add.ensures.adds.fields_are c.in_ok-add_header.ensures.adds.fields_are
     table (ap (header_fields w) c.pos.ensures) in
     IfOk-weaker c.finish.result (λ regions. fields_of regions.items ≡ fields_of c.add_header.new.list.regions.items)
-    (λ regions. fields_of regions.items ≡ map_fields t w b p) (λ regions same. same ∙ all) c.finish.ensures.fields
+    (λ regions. fields_of regions.items ≡ map_fields (t g at) w (b g at) (p g at)) (λ regions same. same ∙ all) c.finish.ensures.fields
