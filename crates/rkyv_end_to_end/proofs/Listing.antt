@@ -181,7 +181,7 @@ written_never_fails w kind s law c b p begin end around same range low high e fa
     let holds = around range.lo range.hi (omega (arith, low)) (omega (arith, high)) in
     (table_element w kind s law).exclusive c p range.lo range.hi holds.0 e holds.1 there
 
--- looking over a written list fails for want of memory alone, and only if it has items
+-- after a list is written, the one error is that an allocation fails
 pub look_fails : {X R : Type 0} (list : ListInput X R) (o o' : Output) (t : TableIn) (end p : ℕ) (range : PartRange) → WroteList list o o' end p
     → ((e : VerifyError) → Fails (table_spec t.word t.spec) t.bytes t.pos range e → ⊥) → len_at t.word t.bytes t.pos ≡ list.len → (u : LookError) → LookOverFails t range u → WriteAndFindFails list o o' (Look u)
 look_fails list o o' t end p range wrote passes count (Verify e) fails = absurd (passes e fails)
