@@ -2,6 +2,14 @@
 
 use rkyv_base::errors::VerifyError;
 
+/// Writes `byte` at `pos`, if the archive has this position. Returns `pos`.
+pub fn change(archive: &mut [u8], pos: u64, byte: u8) -> u64 {
+    if let Some(old) = archive.get_mut(pos as usize) {
+        *old = byte;
+    }
+    pos
+}
+
 /// The numbers of changed archives, by the result for them.
 #[derive(Clone, Copy, Debug, PartialEq, Eq)]
 pub struct OutcomeCounts {

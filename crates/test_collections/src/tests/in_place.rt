@@ -10,15 +10,7 @@ use rkyv_collections::map::{ArchivedHashMap, HashMapOf};
 use rkyv_keys::keys::{KeyElement, Query};
 use rkyv_scan::hash::{FxHasher64, KeyHasher};
 use test_support::archives::four_pairs;
-
-// Writes `byte` at `pos`, if the archive has this position. Returns `pos`.
-fn change(archive: &mut [u8], pos: u64, byte: u8) -> u64 {
-    match archive.get_mut(pos as usize) {
-        Some(old) => *old = byte,
-        None => {}
-    }
-    pos
-}
+use test_support::changes::change;
 
 // Returns the archive of the four pairs with other buckets.
 fn four_with(buckets: [u8; 10]) -> [u8; 56] {

@@ -17,15 +17,7 @@ use rkyv_index::{ArchivedIndexMap, IndexMapOf};
 use rkyv_keys::keys::{KeyElement, Query};
 use rkyv_scan::hash::{FxHasher64, KeyHasher};
 use test_support::archives::four_entries;
-
-// Writes `byte` at `pos`, if the archive has this position. Returns `pos`.
-fn change(archive: &mut [u8], pos: u64, byte: u8) -> u64 {
-    match archive.get_mut(pos as usize) {
-        Some(old) => *old = byte,
-        None => {}
-    }
-    pos
-}
+use test_support::changes::change;
 
 // Writes a byte over the value of a key. Returns the position of the value, if the key is found.
 fn change_found<K: KeyElement, N: Scalar, H: KeyHasher, W: Width, Q: Query<K>>(
