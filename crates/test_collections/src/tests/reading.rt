@@ -301,10 +301,7 @@ fn counting_misplaced_keys_ends_at_a_limit(rt: HostRuntime) {
 // Returns the address of a symbol, from an untrusted archive.
 fn address(symbols: &[u8], name: &str) -> Result<Option<u64>, VerifyError> {
     let map = ArchivedHashMap::of(access::<HashMapOf<Text, u64>>(symbols)?);
-    match map.get(&name) {
-        Some(address) => Ok(Some(address.to_native())),
-        None => Ok(None),
-    }
+    Ok(map.get(&name).map(|address| address.to_native()))
 }
 
 #[test]

@@ -84,28 +84,24 @@ fn write_rooms(alloc: Global) -> Result<Vec<u8>, WriteError<NoMemory>> {
 // Returns the number of a thing in a room.
 fn number_of(archive: &[u8], room: &str, thing: &str) -> Result<Option<u32>, VerifyError> {
     let rooms = ArchivedHashMap::of(access::<Rooms>(archive)?);
-    match rooms.get(&room) {
-        Some(things) => match ArchivedHashMap::of(things).get(&thing) {
-            Some(number) => Ok(Some(number.to_native())),
-            None => Ok(None),
-        },
-        None => Ok(None),
-    }
+    let Some(things) = rooms.get(&room) else {
+        return Ok(None);
+    };
+    let number = ArchivedHashMap::of(things).get(&thing);
+    Ok(number.map(|number| number.to_native()))
 }
 
 // Writes the number of a thing, by a seal of each map. Returns `false` if there is none.
 fn change(archive: &mut [u8], room: &str, thing: &str, number: u32) -> Result<bool, VerifyError> {
     let rooms = access_mut::<Rooms>(archive)?;
-    match ArchivedHashMap::get_seal(rooms, &room) {
-        Some(things) => match ArchivedHashMap::get_seal(things.into_archive(), &thing) {
-            Some(mut seal) => {
-                seal.set(number);
-                Ok(true)
-            }
-            None => Ok(false),
-        },
-        None => Ok(false),
-    }
+    let Some(things) = ArchivedHashMap::get_seal(rooms, &room) else {
+        return Ok(false);
+    };
+    let Some(mut seal) = ArchivedHashMap::get_seal(things.into_archive(), &thing) else {
+        return Ok(false);
+    };
+    seal.set(number);
+    Ok(true)
 }
 
 // Returns the position of a room's map, which is valid.
@@ -336,10 +332,7 @@ fn write_sizes(alloc: Global, sizes: &[(&str, u64)]) -> Result<Vec<u8>, WriteErr
 // Returns the size of a name.
 fn size_of(archive: &[u8], name: &str) -> Result<Option<u64>, VerifyError> {
     let sizes = ArchivedHashMap::of(access_in::<Wide, Sizes>(archive)?);
-    match sizes.get(&name) {
-        Some(size) => Ok(Some(size.to_native())),
-        None => Ok(None),
-    }
+    Ok(sizes.get(&name).map(|size| size.to_native()))
 }
 
 #[test]
