@@ -41,18 +41,12 @@ fn write(
 
 /// Writes the bytes to a file.
 fn write_file(rt: &HostRuntime, file: &str, bytes: &[u8]) -> Result<(), SymbolsError> {
-    match fs::write(rt, file, bytes) {
-        Ok(()) => Ok(()),
-        Err(error) => Err(file_error(rt.alloc(), file, error)),
-    }
+    fs::write(rt, file, bytes).map_err(|error| file_error(rt.alloc(), file, error))
 }
 
 /// Returns the bytes of a file.
 fn read_file(rt: &HostRuntime, file: &str) -> Result<Vec<u8>, SymbolsError> {
-    match fs::read(rt, file) {
-        Ok(bytes) => Ok(bytes),
-        Err(error) => Err(file_error(rt.alloc(), file, error)),
-    }
+    fs::read(rt, file).map_err(|error| file_error(rt.alloc(), file, error))
 }
 
 /// Returns the text on standard input.
@@ -81,10 +75,7 @@ fn write_address<W: Write>(out: &mut W, table: &[u8], name: &str) -> Result<Outc
 fn validate(rt: &HostRuntime, file: &str, table: &[u8]) -> Result<(), SymbolsError>
     ensures { OnOk result (IsTable table.now) }
 {
-    match check(table) {
-        Ok(()) => Ok(()),
-        Err(error) => Err(invalid_error(rt.alloc(), file, error)),
-    }
+    check(table).map_err(|error| invalid_error(rt.alloc(), file, error))
 }
 
 /// Prints the addresses of names in the table of a file.
@@ -119,10 +110,8 @@ fn list(rt: &HostRuntime, index: &str) -> Result<Outcome, SymbolsError>
     ensures { IfOk result (λ outcome. outcome ≡ Outcome.Complete) }
 {
     let bytes = read_file(rt, index)?;
-    let map = match by_address::open(bytes.as_slice()) {
-        Ok(map) => map,
-        Err(error) => return Err(invalid_error(rt.alloc(), index, error)),
-    };
+    let opened = by_address::open(bytes.as_slice());
+    let map = opened.map_err(|error| invalid_error(rt.alloc(), index, error))?;
     let mut out = BufWriter::new(rt.alloc(), io::writer(rt))?;
     for i in 0..map.len() {
         if let Some((address, name)) = by_address::entry(map, i) {
@@ -206,10 +195,9 @@ fn run(rt: &HostRuntime) -> Result<Outcome, SymbolsError> {
     let given = env::args(rt).map_err(SymbolsError::Arguments)?;
     let mut words: Vec<String> = Vec::new(rt.alloc());
     for word in given.skip(1) {
-        match words.push(word) {
-            Ok(()) => {}
-            Err(failure) => return Err(SymbolsError::Memory(AllocError::from(failure))),
-        }
+        words
+            .push(word)
+            .map_err(|failure| SymbolsError::Memory(AllocError::from(failure)))?;
     }
     match words.as_slice().split_first() {
         Some((name, arguments)) => execute(rt, name.as_str(), arguments),
