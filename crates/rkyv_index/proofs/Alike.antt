@@ -1,5 +1,5 @@
 -- Index maps whose keys feed no `usize` and no `isize`, under hashers that differ in these alone.
-use Rattle.std.proofs.Common.{◌≡◌, ℕ, ◌<◌, ◌∙◌, arith, sym, ap, Bool, List, refl}
+use Rattle.std.proofs.Common.{◌≡◌, ℕ, ◌<◌, ◌∙◌, sym, ap, Bool, List, refl}
 use Rattle.std.specs.Int.{Width}
 use Rattle.std.specs.List.{find}
 use Rattle.rkyv_scan.specs.{HasherCall, SizeWords, fx_hash}

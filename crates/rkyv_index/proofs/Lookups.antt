@@ -1,13 +1,11 @@
 -- From a lookup in a table of indices to a lookup in an index map.
 use Rattle.rkyv_base.specs.declared.element.HasSpec.{Ghosts as Specs}
 use Rattle.rkyv_base.specs.declared.width.Word.{Ghosts as Words}
-use Rattle.std.proofs.Common.{◌≡◌, ℕ, ◌+◌, ◌<◌, ◌≤◌, ◌∙◌, refl, ap, sym, subst, arith, cond, Bool, true, false, length, map, List, [], ◌∷◌, Option, Some, slice_index}
+use Rattle.std.proofs.Common.{◌≡◌, ℕ, ◌+◌, ◌<◌, ◌≤◌, ◌∙◌, ap, sym, subst, Bool, length, map, List, Option}
 use Rattle.std.specs.Borrow.{Bor}
 use Rattle.std.specs.Int.{Width, byte_len}
 use Rattle.std.specs.List.{find}
 use Rattle.std.specs.Option.{option_map}
-use Rattle.std.proofs.lemmas.List.{get_or-map, length-map}
-use Rattle.std.proofs.lemmas.List.FromFn.{get_or-range_with_len, length-range_with_len}
 use Rattle.rkyv_scan.specs.{generic_kind}
 use Rattle.rkyv_base.specs.{ElementSpec, Encoding, IsAt, IsElement, IsIndexEncoding, IsScalar, bytes_of, entry_spec, number_at, pos_of_found}
 use Rattle.rkyv_base.specs.Lemmas.Entry.{entry_element}

@@ -1,10 +1,10 @@
 -- A write among the parts of one value keeps the index map, and its list but for that value.
-use Rattle.std.proofs.Common.{◌≡◌, ◌≢◌, ℕ, ◌+◌, ◌-◌, ◌*◌, ◌<◌, ◌≤◌, inl, inr, refl, sym, ap, subst, arith, Bool, true, filter, List, [], ◌∷◌, Some}
+use Rattle.std.proofs.Common.{◌≡◌, ◌≢◌, ℕ, ◌+◌, ◌-◌, ◌*◌, ◌<◌, ◌≤◌, inl, inr, refl, sym, ap, subst, arith, Bool, true, filter, List, Some}
 use Rattle.std.specs.Prelude.{slice_get, slice_set, unsigned_abs}
 use Rattle.std.specs.Int.{Width, byte_len}
 use Rattle.std.specs.List.{range_with_len}
 use Rattle.std.proofs.lemmas.Bool.{cases_eq}
-use Rattle.rkyv_base.specs.{AgreeOn, ElementSpec, IsArchiveWord, IsElement, ModifiesOnly, RepresentsLocally, StaysValid, Viewable, entry_spec, value_pos}
+use Rattle.rkyv_base.specs.{AgreeOn, ElementSpec, IsArchiveWord, IsElement, RepresentsLocally, StaysValid, Viewable, entry_spec, value_pos}
 use Rattle.rkyv_base.specs.Lemmas.Bytes.{agree_on_part}
 use Rattle.rkyv_base.specs.Lemmas.Entry.{entry_element}
 use Rattle.rkyv_base.proofs.Sealing.{sealed_wider, viewable_kept}
@@ -15,13 +15,8 @@ use Rattle.rkyv_table.specs.Lemmas.ValidItemLaws.{all_between}
 use Rattle.rkyv_table.proofs.NestedEntries.{entry_written, key_of_other, key_of_own, represents_on, value_of_other}
 use Rattle.rkyv_table.proofs.NestedItems.{above_same, items_kept, other_stays, own_before, sealed_parts}
 use Rattle.rkyv_index.specs.{EntriesIn, IndexRepresents, IsValidIndex, KeepsOuterIndexMap, decode_entries, entries_pos, entry_at, index_spec, indices_of, pair_pos, stored_index_spec}
-use Rattle.rkyv_index.specs.Lemmas.IndexLaws.{index_again, stored_index_element}
-use Rattle.rkyv_index.proofs.SameIndex.{controls_same, entry_before, entry_there, new_value_represents, positions_same, read_same, some_buckets, table_below, written_same}
-
--- a filter that keeps each number keeps the list
-every : (xs : List ℕ) → filter (λ x. true) xs ≡ xs
-every [] = refl
-every (x ∷ xs) = ap (λ (ys : List ℕ). x ∷ ys) (every xs)
+use Rattle.rkyv_index.specs.Lemmas.IndexLaws.{every, index_again, stored_index_element}
+use Rattle.rkyv_index.proofs.SameIndex.{controls_same, entry_before, new_value_represents, positions_same, read_same, some_buckets, table_below, written_same}
 
 module _ (w : Width) (kind : IsArchiveWord w) (k v : ElementSpec) (kl : IsElement k) (vl : IsElement v) (b : List ℕ) (p : ℕ) (view : Viewable (index_spec w (entry_spec k v)) b p)
     (c : List ℕ) (i : ℕ) (below : i < len_at w b p) (writes : WritesAmongParts v b c (value_pos k v (pair_pos w (entry_spec k v).size b p i))) where

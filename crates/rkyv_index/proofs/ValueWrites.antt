@@ -1,32 +1,28 @@
 -- A write of one value in place keeps the index map, and its list but for that value.
-use Rattle.std.proofs.Common.{◌≡◌, ◌≢◌, ℕ, suc, ◌+◌, ◌-◌, ◌*◌, ◌<◌, ◌≤◌, ◌^◌, ◌∙◌, inl, inr, refl, sym, ap, subst, arith, Bool, List, [], ◌∷◌, length, Option, Some, None}
+use Rattle.std.proofs.Common.{◌≡◌, ◌≢◌, ℕ, suc, ◌+◌, ◌-◌, ◌*◌, ◌<◌, ◌≤◌, ◌^◌, ◌∙◌, inl, inr, refl, sym, ap, subst, arith, Bool, List, Option, Some, None}
 use Rattle.std.specs.Prelude.{slice_get, slice_set, unsigned_abs}
 use Rattle.std.specs.Int.{Width, byte_len}
 use Rattle.std.specs.Option.{option_map}
 use Rattle.std.proofs.Math.Nat.{mul-le-mul_right}
 use Rattle.std.proofs.lemmas.Bool.{cases_eq, cases_lt}
-use Rattle.std.proofs.lemmas.List.{length-set}
-use Rattle.std.proofs.lemmas.Option.{slice_get_within}
-use Rattle.rkyv_scan.specs.{AllBelow, generic_kind}
+use Rattle.rkyv_scan.specs.{generic_kind}
 use Rattle.rkyv_scan.specs.Lemmas.KindLaws.{word_lawful}
 use Rattle.rkyv_base.specs.{AgreeOn, ElementSpec, IsArchiveWord, IsElement, ModifiesOnly, Outside, PairRepresents, RepresentsLocally, StaysValid, Viewable, entry_spec, number_at, value_pos, whole_size}
 use Rattle.rkyv_base.specs.Lemmas.Entry.{entry_element, key_and_value_inside, same_key, size_of_small}
 use Rattle.rkyv_base.specs.Lemmas.Entry.{viewable_key, viewable_value}
 use Rattle.rkyv_base.specs.Lemmas.Pairs.{pair_local}
-use Rattle.rkyv_base.proofs.Sealing.{entry_kept, same_outside, sealed_wider, valid_outside, viewable_kept}
+use Rattle.rkyv_base.proofs.Sealing.{entry_kept, same_outside, sealed_wider, viewable_kept}
 use Rattle.rkyv_keys.specs.{HashLocal, RestsOnKeys}
-use Rattle.rkyv_table.specs.{AreValidAt, IsValidWithin, IsWalked, RestsOnKey, SameValue}
-use Rattle.rkyv_table.specs.{WritesAmongParts, WritesValue, cap_at, capacity, found, item_at, len_at, table_controls}
+use Rattle.rkyv_table.specs.{IsValidWithin, IsWalked, RestsOnKey, SameValue}
+use Rattle.rkyv_table.specs.{WritesAmongParts, WritesValue, cap_at, found, item_at, len_at, table_controls}
 use Rattle.rkyv_table.specs.Lemmas.SameHeader.{cap_same, len_same}
 use Rattle.rkyv_table.specs.Lemmas.TableLaws.{table_element}
-use Rattle.rkyv_table.proofs.Lists.{set_each}
-use Rattle.rkyv_table.proofs.ValidTable.{controls_accepted, some_cap}
+use Rattle.rkyv_table.proofs.ValidTable.{controls_accepted}
 use Rattle.rkyv_table.proofs.Misplaced.{found_agree, found_walked}
+use Rattle.rkyv_table.proofs.SealedTable.{all_kept, parts_below}
 use Rattle.rkyv_table.proofs.Walks.{walked_full}
-use Rattle.rkyv_index.specs.{EntriesIn, IndexRepresents, IndexWrittenAt, IsPairPos, IsValidIndex, KeepsEntries, KeepsIndexMap, decode_entries, entries_pos, entry_at, fits_in, index_found, index_kind, index_spec, indices_of, pair_at, pair_pos, stored_index_spec}
-use Rattle.rkyv_index.specs.Lemmas.IndexLaws.{decoded_same, each_is_valid, entry_inside, head_same, index_again, index_same_at, indices_below, stored_index_element}
-use Rattle.rkyv_table.specs.Lemmas.SameControls.{same_controls}
-use Rattle.rkyv_index.specs.Lemmas.IndexLocal.{written_again}
+use Rattle.rkyv_index.specs.{EntriesIn, IndexRepresents, IsPairPos, IsValidIndex, KeepsEntries, KeepsIndexMap, decode_entries, entries_pos, entry_at, fits_in, index_found, index_kind, index_spec, indices_of, pair_pos, stored_index_spec}
+use Rattle.rkyv_index.specs.Lemmas.IndexLaws.{entry_inside, head_same, index_again, indices_below, stored_index_element}
 use Rattle.rkyv_index.proofs.SameIndex.{controls_same, entry_before, entry_parts, entry_there, new_value_represents, positions_same, read_same, some_buckets, table_below, written_same}
 use Rattle.rkyv_index.proofs.ValidIndexMap.{index_below, table_there}
 
@@ -43,27 +39,6 @@ entries_apart size begin i j ne = elim (cases_lt i j) [
       let m : (suc j) * size ≤ i * size = mul-le-mul_right size (omega arith) in
       inl (omega (arith, m))
 ]
-
--- Several valid values in order are valid after a write of one of them that keeps it valid.
--- That one shares no byte with the others, and its own bytes are behind all parts.
-all_kept : (s : ElementSpec) → IsElement s → (at : ℕ → ℕ) (b c : List ℕ) (n hi i : ℕ) → ModifiesOnly b (at i) s.size c → StaysValid s b c (at i) → hi ≤ at i
-    → ((j : ℕ) → j < n → j ≢ i → Outside (at i) s.size (at j) (at j + s.size)) → (is : List ℕ) (lo l : ℕ) → lo ≤ hi → AllBelow n is → AreValidAt s at b hi is lo l → AreValidAt s at c hi is lo l
-all_kept s law at b c n hi i sealed keeps above apart [] lo l o below h = h
-all_kept s law at b c n hi i sealed keeps above apart (j ∷ is) lo l o below h =
-    let k : (lo ≤ h.0) × (h.0 ≤ hi) = law.rest_in_range b (at j) lo hi h.0 o h.1 in
-    let here : s.is_valid c (at j) lo hi h.0 = elim (cases_eq j i) [
-      | inl e ↦ subst (λ z. s.is_valid c (at z) lo hi h.0) (sym e) (keeps lo hi h.0 o above (subst (λ z. s.is_valid b (at z) lo hi h.0) e h.1))
-      | inr ne ↦ valid_outside s law b c (at i) s.size sealed (at j) lo hi h.0 o (apart j below.0 ne) (inl (omega (arith, k.1, above))) h.1
-    ] in
-    (h.0, here, all_kept s law at b c n hi i sealed keeps above apart is h.0 l k.1 below.1 h.2)
-
--- a valid value whose parts are below `hi` leaves a lower end of at most `hi` in any range
-parts_below : (s : ElementSpec) → IsElement s → (b : List ℕ) (q lo hi rest l : ℕ) → lo ≤ hi → hi ≤ q → s.is_valid b q lo hi rest → s.is_valid b q 0 q l → l ≤ hi
-parts_below s law b q lo hi rest l o above valid h =
-    let d : (l' : ℕ) × s.is_valid b q 0 hi l' × (l' ≤ rest) = law.lower_lo b q lo 0 hi rest (omega arith) o valid in
-    let k = law.rest_in_range b q lo hi rest o valid in
-    let same : l ≡ d.0 = law.rest_unique b q 0 q l d.0 h (law.widen_hi b q 0 hi q d.0 above d.1) in
-    omega (arith, same, d.2, k.1)
 
 -- a found item is read alike if each item is
 read_alike : (f g f' g' : ℕ → ℕ) (o : Option ℕ) → ((i : ℕ) → o ≡ Some i → f (g i) ≡ f' (g' i)) → option_map f (option_map g o) ≡ option_map f' (option_map g' o)

@@ -1,5 +1,5 @@
 -- Lookups in the bytes of a written index map.
-use Rattle.std.proofs.Common.{◌≡◌, ℕ, ◌+◌, ◌<◌, ◌^◌, ◌∙◌, refl, ap, sym, arith, cond, Bool, true, false, length, map, List, [], ◌∷◌, Option, Some, slice_index}
+use Rattle.std.proofs.Common.{◌≡◌, ℕ, ◌<◌, ◌^◌, ◌∙◌, refl, ap, sym, arith, cond, Bool, true, false, length, map, List, [], ◌∷◌, Option, Some, slice_index}
 use Rattle.std.specs.Int.{Width, byte_len}
 use Rattle.std.specs.List.{find}
 use Rattle.std.specs.Option.{option_map}

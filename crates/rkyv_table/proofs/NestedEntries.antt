@@ -1,5 +1,5 @@
 -- An entry whose value is written among its parts, and unchanged entries.
-use Rattle.std.proofs.Common.{◌≡◌, ℕ, ◌+◌, ◌-◌, ◌≤◌, refl, arith, List}
+use Rattle.std.proofs.Common.{ℕ, ◌+◌, ◌-◌, ◌≤◌, refl, arith, List}
 use Rattle.rkyv_base.specs.Lemmas.Bytes.{agree_on_part}
 use Rattle.rkyv_base.specs.{ElementSpec, IsElement, ModifiesOnly, RepresentsLocally, entry_spec, value_pos}
 use Rattle.rkyv_base.specs.Lemmas.Entry.{same_key, same_value}

@@ -31,20 +31,31 @@ buckets_apart size begin cap i j li lj ne = elim (cases_lt i j) [
       inr (omega (arith, m))
 ]
 
+-- Several valid values in order are valid after a write of one of them that keeps it valid.
+-- That one shares no byte with the others, and its own bytes are behind all parts.
+pub all_kept : (s : ElementSpec) → IsElement s → (at : ℕ → ℕ) (b c : List ℕ) (n hi i : ℕ) → ModifiesOnly b (at i) s.size c → StaysValid s b c (at i) → hi ≤ at i
+    → ((j : ℕ) → j < n → j ≢ i → Outside (at i) s.size (at j) (at j + s.size)) → (is : List ℕ) (lo l : ℕ) → lo ≤ hi → AllBelow n is → AreValidAt s at b hi is lo l → AreValidAt s at c hi is lo l
+all_kept s law at b c n hi i sealed keeps above apart [] lo l o below h = h
+all_kept s law at b c n hi i sealed keeps above apart (j ∷ is) lo l o below h =
+    let k : (lo ≤ h.0) × (h.0 ≤ hi) = law.rest_in_range b (at j) lo hi h.0 o h.1 in
+    let here : s.is_valid c (at j) lo hi h.0 = elim (cases_eq j i) [
+      | inl e ↦ subst (λ z. s.is_valid c (at z) lo hi h.0) (sym e) (keeps lo hi h.0 o above (subst (λ z. s.is_valid b (at z) lo hi h.0) e h.1))
+      | inr ne ↦ valid_outside s law b c (at i) s.size sealed (at j) lo hi h.0 o (apart j below.0 ne) (inl (omega (arith, k.1, above))) h.1
+    ] in
+    (h.0, here, all_kept s law at b c n hi i sealed keeps above apart is h.0 l k.1 below.1 h.2)
+
+-- a valid value whose parts are below `hi` leaves a lower end of at most `hi` in any range
+pub parts_below : (s : ElementSpec) → IsElement s → (b : List ℕ) (q lo hi rest l : ℕ) → lo ≤ hi → hi ≤ q → s.is_valid b q lo hi rest → s.is_valid b q 0 q l → l ≤ hi
+parts_below s law b q lo hi rest l o above valid h =
+    let d : (l' : ℕ) × s.is_valid b q 0 hi l' × (l' ≤ rest) = law.lower_lo b q lo 0 hi rest (omega arith) o valid in
+    let k = law.rest_in_range b q lo hi rest o valid in
+    let same : l ≡ d.0 = law.rest_unique b q 0 q l d.0 h (law.widen_hi b q 0 hi q d.0 above d.1) in
+    omega (arith, same, d.2, k.1)
+
 module _ (s : ElementSpec) (law : IsElement s) (b c : List ℕ) (begin cap i : ℕ) (walked : i < cap)
     (sealed : ModifiesOnly b (bucket_at s.size begin cap i) s.size c) (keeps : StaysValid s b c (bucket_at s.size begin cap i)) where
   abbrev at : ℕ → ℕ
   at = bucket_at s.size begin cap
-
-  items_kept : (is : List ℕ) (lo l : ℕ) → lo ≤ begin → AllBelow cap is → AreValidAt s at b begin is lo l → AreValidAt s at c begin is lo l
-  items_kept [] lo l o below h = h
-  items_kept (j ∷ is) lo l o below h =
-      let k : (lo ≤ h.0) × (h.0 ≤ begin) = law.rest_in_range b (at j) lo begin h.0 o h.1 in
-      let here : s.is_valid c (at j) lo begin h.0 = elim (cases_eq j i) [
-        | inl e ↦ subst (λ z. s.is_valid c (at z) lo begin h.0) (sym e) (keeps lo begin h.0 o (omega arith) (subst (λ z. s.is_valid b (at z) lo begin h.0) e h.1))
-        | inr ne ↦ valid_outside s law b c (at i) s.size sealed (at j) lo begin h.0 o (buckets_apart s.size begin cap i j walked below.0 ne) (inl (omega (arith, k.1))) h.1
-      ] in
-      (h.0, here, items_kept is h.0 l k.1 below.1 h.2)
 
   pub controls_kept : controls_at s.size b begin cap ≡ controls_at s.size c begin cap
   controls_kept =
@@ -54,7 +65,7 @@ module _ (s : ElementSpec) (law : IsElement s) (b c : List ℕ) (begin cap i : �
   pub part_kept : (len lo : ℕ) → lo ≤ begin → IsPart s b cap len lo begin → IsPart s c cap len lo begin
   unfolding walk
   part_kept len lo o is =
-      let items = items_kept (walk (controls_at s.size b begin cap) cap) lo is.last o (range_below (λ k. is_full (slice_index (controls_at s.size b begin cap) k)) cap) is.items in
+      let items = all_kept s law at b c cap begin i sealed keeps (omega arith) (λ j less ne. buckets_apart s.size begin cap i j walked less ne) (walk (controls_at s.size b begin cap) cap) lo is.last o (range_below (λ k. is_full (slice_index (controls_at s.size b begin cap) k)) cap) is.items in
       record {
         controls = subst (AreValidControls cap len) controls_kept is.controls;
         last = is.last;
@@ -69,10 +80,7 @@ parts_before w s law b p e t j l walked h =
     let q = bucket_at s.size t.begin cap j in
     let full : slice_index (controls_at s.size b t.begin cap) j < 128 = subst (λ (xs : List ℕ). slice_index xs j < 128) (decoded_controls w s.size b p t.begin t.part.begins) walked.1 in
     let one = bucket_is_valid_within s law b t.begin cap 0 t.is.last j (omega arith) t.is.items walked.0 full in
-    let d : (l' : ℕ) × s.is_valid b q 0 t.begin l' × (l' ≤ one.rest) = law.lower_lo b q one.lower 0 t.begin one.rest (omega arith) one.below one.is_valid in
-    let k = law.rest_in_range b q one.lower t.begin one.rest one.below one.is_valid in
-    let same : l ≡ d.0 = law.rest_unique b q 0 q l d.0 h (law.widen_hi b q 0 t.begin q d.0 (omega arith) d.1) in
-    omega (arith, same, d.2, k.1)
+    parts_below s law b q one.lower t.begin one.rest l one.below (omega arith) one.is_valid h
 
 module _ (w : Width) (s : ElementSpec) (law : IsElement s) (b : List ℕ) (p i : ℕ) (view : Viewable (table_spec w s) b p) (walked : IsWalked w b p i)
     (c : List ℕ) (sealed : ModifiesOnly b (item_at w s.size b p i) s.size c) (keeps : StaysValid s b c (item_at w s.size b p i)) where

@@ -3,8 +3,7 @@ use Rattle.std.specs.Prelude.{◌≡◌, ℕ, zero, suc, ◌+◌, ◌*◌, ◌%�
 use Rattle.std.specs.Prelude.{◌∷◌, map}
 use Rattle.std.specs.Int.{Width, byte_len, cast_signed, from_le_bytes}
 use Rattle.std.specs.List.{All, range_with_len}
-use Rattle.std.proofs.lemmas.Bool.{cases_eq}
-use Rattle.std.proofs.Common.{get_or, refl, arith, subst, sym, ◌∙◌, ap, inl, inr}
+use Rattle.std.proofs.Common.{filter, get_or, refl, arith, subst, sym, true, ◌∙◌, ap, inl, inr}
 use Rattle.std.proofs.Math.Nat.{mul-le-mul_right}
 use Rattle.std.proofs.Props.{props}
 use Rattle.std.specs.Coded.{×_prop}
@@ -20,9 +19,9 @@ use Rattle.rkyv_base.specs.Lemmas.Parts.{part_wider}
 use Rattle.rkyv_base.specs.Lemmas.Text.{by_archive_word}
 use Rattle.rkyv_table.specs.{AreValidAt, FirstFails, IsValidTable, IsValidWithin, IsWalked, cap_at}
 use Rattle.rkyv_table.specs.{item_at, item_positions, len_at, table_controls, table_spec, walk}
-use Rattle.rkyv_table.specs.{within_lower}
+use Rattle.rkyv_table.specs.Lemmas.ItemPositions as items
 use Rattle.rkyv_table.specs.Lemmas.ItemPositions.{item_is_valid, valid_part}
-use Rattle.rkyv_table.specs.Lemmas.ValidItemLaws.{all_between, all_exclusive, all_local, all_lower}
+use Rattle.rkyv_table.specs.Lemmas.ValidItemLaws.{all_exclusive, all_local, all_lower}
 use Rattle.rkyv_table.specs.Lemmas.ValidItemLaws.{all_one, all_one_failure, all_prop}
 use Rattle.rkyv_table.specs.Lemmas.SameHeader.{item_same, len_same}
 use Rattle.rkyv_table.specs.Lemmas.TableLaws.{table_element}
@@ -66,29 +65,20 @@ entry_inside size begin n i h =
     let m : (suc i) * size ≤ n * size = mul-le-mul_right size (omega arith) in
     (omega arith, omega (arith, m))
 
+-- a filter that keeps each number keeps the list
+pub every : (xs : List ℕ) → filter (λ x. true) xs ≡ xs
+every [] = refl
+every (x ∷ xs) = ap (λ (ys : List ℕ). x ∷ ys) (every xs)
+
 -- each of several valid values in order is valid in a range of its own
 pub each_is_valid : (s : ElementSpec) → IsElement s → (at : ℕ → ℕ) (b : List ℕ) (hi a n lo l i : ℕ)
     → lo ≤ hi
     → AreValidAt s at b hi (range_with_len a n) lo l → a ≤ i → i < a + n
     → IsValidWithin s b (at i) lo hi l
-each_is_valid s law at b hi a zero lo l i o h from to = absurd (omega arith)
-each_is_valid s law at b hi a (suc n) lo l i o h from to =
-    let k : (lo ≤ h.0) × (h.0 ≤ hi) = law.rest_in_range b (at a) lo hi h.0 o h.1 in
-    let after = all_between s law at b hi (range_with_len (a + 1) n) h.0 l k.1 h.2 in
-    elim (cases_eq a i) [
-      | inl e ↦ subst (λ z. IsValidWithin s b (at z) lo hi l) e
-          (record {
-            lower = lo;
-            rest = h.0;
-            above = omega arith;
-            below = o;
-            ends = after.0;
-            is_valid = h.1;
-          })
-      | inr ne ↦
-          within_lower s b (at i) h.0 lo hi l k.0
-          (each_is_valid s law at b hi (a + 1) n h.0 l i k.1 h.2 (omega arith) (omega arith))
-    ]
+each_is_valid s law at b hi a n lo l i o h from to =
+    items.each_is_valid s law at (λ x. true) b hi a n lo l i o
+    (subst (λ (xs : List ℕ). AreValidAt s at b hi xs lo l) (sym (every (range_with_len a n))) h)
+    from to refl
 
 -- if all indices are below `n`, no position is the first whose index isn't
 not_below_exclusive : (w : Width) (b : List ℕ) (n : ℕ) (qs : List ℕ) (e : VerifyError)
