@@ -25,6 +25,7 @@ mod headers;
 mod in_place;
 mod interning;
 mod lookups;
+mod mixed;
 mod reading_back;
 mod recipes;
 mod requests;

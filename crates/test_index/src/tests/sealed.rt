@@ -192,7 +192,7 @@ fn unsuccessful_lookup_returns_no_seal(rt: HostRuntime) {
 }
 
 // Returns the index of a key, by a plain lookup in the map at `root`.
-fn index_of<K: KeyElement, V: Element, H: KeyHasher, W: Width, Q: Query<K>>(
+pub(crate) fn index_of<K: KeyElement, V: Element, H: KeyHasher, W: Width, Q: Query<K>>(
     bytes: &[u8],
     root: u64,
     key: &Q,
