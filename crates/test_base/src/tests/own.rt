@@ -12,7 +12,7 @@ use rkyv_base::access::access;
 use rkyv_base::element::HasSpec;
 use rkyv_base::{
     Archive, Element, Entry, Narrow, PartRange, Represents, ResolveResult, Scalar, Serialize,
-    VecWriter, VerifyError, Width, WriteError, WriteResult, Writer, to_bytes, whole_size,
+    VecWriter, VerifyError, Width, WriteError, WriteResult, Writer, laws, to_bytes, whole_size,
 };
 use std::alloc::Global;
 use test_support::written::is_archived_as;
@@ -132,6 +132,7 @@ fn write_fails<V: Serialize<VecWriter, Narrow>>(alloc: Global, value: &V) -> boo
 
 #[test]
 fn rejects_entries_that_are_too_large(rt: HostRuntime) {
+    laws::largest_element();
     let sizes = [
         <Entry<Huge, ()> as Element>::size(),
         whole_size::<Huge, u16>(),

@@ -5,6 +5,7 @@ use crate::tests::access_failures::{Failure, access_failure};
 use rkyv_base::access::access;
 use rkyv_base::entry::Entry;
 use rkyv_base::errors::WriteError;
+use rkyv_base::laws;
 use rkyv_base::root::to_bytes;
 use rkyv_base::width::Narrow;
 use rkyv_base::writer::NoMemory;
@@ -13,6 +14,8 @@ use test_support::written::is_archived_as;
 
 #[test]
 fn pairs_are_padded(rt: HostRuntime) {
+    laws::entries_are_keys_and_values::<Narrow, u8, u32>();
+    laws::units_are_empty::<Narrow>();
     let alloc = rt.alloc();
     let padded = [
         is_archived_as(alloc, &(1u8, 2u32), &[1, 0, 0, 0, 2, 0, 0, 0]),

@@ -1,7 +1,8 @@
 //! Tests of scalars, widths and entries at their limits.
 use crate::tests::access_failures::{Failure, access_failure};
 use rkyv_base::{
-    Element, Entry, Narrow, Scalar, Wide, Width, access_in, to_bytes_in, value_offset, whole_size,
+    Element, Entry, Narrow, Scalar, Wide, Width, access_in, laws, to_bytes_in, value_offset,
+    whole_size,
 };
 use std::alloc::Global;
 
@@ -28,6 +29,8 @@ fn represents_as<N: Scalar + PartialEq>(alloc: Global, value: N, bytes: &[u8]) -
 
 #[test]
 fn unsigned_numbers_at_their_limits(rt: HostRuntime) {
+    laws::integers_are_encoded_by_their_types();
+    laws::scalars_are_numbers::<Narrow, u32>();
     let alloc = rt.alloc();
     let right = [
         represents_as(alloc, 0u8, &[0]),
@@ -66,6 +69,7 @@ fn signed_numbers_at_their_limits(rt: HostRuntime) {
 
 #[test]
 fn bool_and_char_at_their_limits(rt: HostRuntime) {
+    laws::bools_and_chars_are_numbers();
     let alloc = rt.alloc();
     let right = [
         represents_as(alloc, false, &[0]),
@@ -88,6 +92,7 @@ fn bool_and_char_at_their_limits(rt: HostRuntime) {
 
 #[test]
 fn widths_have_their_constants(rt: HostRuntime) {
+    laws::widths_have_their_numbers();
     let limits = [Narrow::LIMIT, Narrow::MAX_CAPACITY, Narrow::TEXT_LIMIT];
     let sizes = [
         Narrow::ALIGN,

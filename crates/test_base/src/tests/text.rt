@@ -1,7 +1,8 @@
 //! Tests of text: its bytes, its errors, and reading it in place.
 use crate::tests::access_failures::{Failure, access_failure};
 use rkyv_base::{
-    Archive, Entry, Narrow, Text, TextResolver, VerifyError, Wide, Width, access_in, to_bytes_in,
+    Archive, Entry, Narrow, Text, TextResolver, VerifyError, Wide, Width, access_in, laws,
+    to_bytes_in,
 };
 use std::alloc::{AllocError, Global};
 use test_support::written::is_archived_as;
@@ -46,6 +47,7 @@ fn represents_as<W: Width>(alloc: Global, text: &str, bytes: &[u8]) -> bool {
 
 #[test]
 fn short_text_is_inline(rt: HostRuntime) {
+    laws::texts_are_their_bytes::<Narrow>();
     let alloc = rt.alloc();
     let wide = b"wonderful\xff\xff\xff\xff\xff\xff\xff";
     let right = [

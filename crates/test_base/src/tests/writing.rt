@@ -1,8 +1,8 @@
 //! Tests of writers: positions at the limit, faults, and writers with a limit.
 
 use rkyv_base::{
-    EntryAdapter, Lend, LimitFault, LimitWriter, NoMemory, VecWriter, Wide, WriteError, Writer,
-    align_for, align_for_in, append, append_in, write_root, write_root_in,
+    EntryAdapter, Lend, LimitFault, LimitWriter, Narrow, NoMemory, VecWriter, Wide, WriteError,
+    Writer, align_for, align_for_in, append, append_in, laws, write_root, write_root_in,
 };
 use std::alloc::Global;
 use test_support::writers::{Broken, BrokenWriter, LateWriter, NoRoom};
@@ -236,6 +236,7 @@ fn full_writer_does_not_call_the_inner_writer(rt: HostRuntime) {
 
 #[test]
 fn borrowed_parts_are_archived_as_a_pair(rt: HostRuntime) {
+    laws::adapters_are_pairs::<Narrow, u8, &u32, u8, u32, u8, u32>();
     let value = 2u32;
     let adapter = EntryAdapter::<u8, &u32, u8, u32>::new(1, &value);
     let archived = is_archived_as(rt.alloc(), &adapter, &[1, 0, 0, 0, 2, 0, 0, 0]);

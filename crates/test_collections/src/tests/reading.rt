@@ -13,7 +13,10 @@ use rkyv_base::errors::VerifyError;
 use rkyv_base::text::Text;
 use rkyv_base::view::View;
 use rkyv_base::width::{Narrow, Wide};
-use rkyv_collections::map::laws::{equal_maps_have_the_same_pairs, repeated_keys_are_misplaced};
+use rkyv_collections::map::laws::{
+    equal_maps_have_the_same_pairs, items_are_yielded, maps_are_laid_out,
+    repeated_keys_are_misplaced,
+};
 use rkyv_collections::map::{ArchivedHashMap, HashMapOf};
 use rkyv_scan::hash::FxHasher64;
 use std::alloc::Global;
@@ -78,6 +81,8 @@ fn an_empty_map_is_read(rt: HostRuntime) {
 
 #[test]
 fn one_pair_is_found(rt: HostRuntime) {
+    items_are_yielded::<i8, i8, FxHasher64, Narrow>();
+    maps_are_laid_out::<Narrow, FxHasher64, i8, i8, i8, i8>();
     let bytes = one_pair();
     let found = [small(&bytes, 1), small(&bytes, 2)];
     let pairs = [small_pair(&bytes, 1), small_pair(&bytes, 2)];

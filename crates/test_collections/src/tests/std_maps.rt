@@ -12,6 +12,7 @@ use rkyv_collections::map::{ArchivedHashMap, HashMapOf};
 use rkyv_collections::set::{ArchivedHashSet, HashSetOf};
 use rkyv_collections::std_maps::equality::EqArchived;
 use rkyv_collections::std_maps::hashed::Hashed;
+use rkyv_collections::std_maps::laws;
 use rkyv_collections::std_maps::round_trip::round_trips_equal;
 use rkyv_keys::deserialize::Deserialize;
 use rkyv_keys::equality::{EqualsWritten, MatchesNative, RepresentsUniquely};
@@ -196,6 +197,11 @@ fn of_one_pair(alloc: Global) -> Option<(bool, Option<(bool, bool)>, [Option<boo
 
 #[test]
 fn a_map_of_one_pair(rt: HostRuntime) {
+    laws::std_maps_are_represented::<i8, i8, i8, i8, RandomState, FxHasher64, Narrow>();
+    laws::std_maps_are_written::<Narrow, FxHasher64, i8, i8, i8, RandomState>();
+    laws::std_maps_fail_as_pairs::<i8, i8, i8, i8, FxHasher64, Narrow>();
+    laws::written_maps_are_looked_up::<i8, Narrow, FxHasher64, i8, i8, RandomState>();
+    laws::archives_round_trip::<Narrow, i8>();
     let one = of_one_pair(rt.alloc());
     let two = equals_two(rt.alloc(), &one_pair());
     expect_eq!(rt;
@@ -496,6 +502,10 @@ fn of_words(
 
 #[test]
 fn sets_of_texts(rt: HostRuntime) {
+    laws::std_sets_are_represented::<i8, i8, RandomState, FxHasher64, Narrow>();
+    laws::std_sets_are_written::<Narrow, FxHasher64, i8, i8, RandomState>();
+    laws::std_sets_fail_as_keys::<i8, i8, FxHasher64, Narrow>();
+    laws::written_sets_are_looked_up::<i8, Narrow, FxHasher64, i8, RandomState>();
     let words = ["hello", "world", "foo", "bar", "wonderful text"];
     expect_eq!(rt;
         of_words(rt.alloc(), &words),

@@ -9,9 +9,10 @@ use rkyv_base::width::Narrow;
 use rkyv_base::writer::{NoMemory, VecWriter};
 use rkyv_collections::MapPairs;
 use rkyv_collections::map::ArchivedHashMap;
-use rkyv_collections::map::laws::written::written_maps_represent;
+use rkyv_collections::map::laws::written::{listed_pairs_are_written, written_maps_represent};
 use rkyv_collections::set::ArchivedHashSet;
-use rkyv_collections::set::laws::written::written_sets_represent;
+use rkyv_collections::set::laws::written::{listed_items_are_written, written_sets_represent};
+use rkyv_collections::set::laws::{both_hashers_look_up_alike, sets_are_laid_out};
 use rkyv_keys::keys::{KeyElement, NativeKey};
 use rkyv_scan::hash::FxHasher64;
 use std::alloc::Global;
@@ -70,6 +71,7 @@ fn set_pos<
 
 #[test]
 fn maps_are_written(rt: HostRuntime) {
+    listed_pairs_are_written::<Narrow, FxHasher64, i8, i8, i8, i8>();
     written_maps_represent::<Narrow, FxHasher64, i8, i8, i8, i8>();
     let alloc = rt.alloc();
     let one = [1, 2, 0, 0, 0xff, 0x28, 0xff, 0x28];
@@ -98,6 +100,9 @@ fn four_pairs_in_reverse_order(rt: HostRuntime) {
 
 #[test]
 fn sets_are_written(rt: HostRuntime) {
+    both_hashers_look_up_alike::<i8, i8, Narrow>();
+    listed_items_are_written::<Narrow, FxHasher64, i8, i8>();
+    sets_are_laid_out::<Narrow, FxHasher64, i8, i8>();
     written_sets_represent::<Narrow, FxHasher64, u8, u8>();
     let alloc = rt.alloc();
     let three = [3, 2, 1, 0, 0xff, 0x28, 0x51, 0x7a, 0xff, 0x28, 0x51, 0x7a];

@@ -1,5 +1,5 @@
 //! Tests of the texts of errors, kinds and types.
-use rkyv_container::{ContainerError, ItemType, Kind, Width};
+use rkyv_container::{ContainerError, ItemType, Kind, Width, laws};
 use std::alloc::Global;
 use std::fmt::Display;
 
@@ -120,6 +120,7 @@ fn open_errors_have_messages(rt: HostRuntime) {
 
 #[test]
 fn types_have_names(rt: HostRuntime) {
+    laws::displayed_as_named();
     let alloc = rt.alloc();
     let named = [
         shows(alloc, ItemType::Unit, "()"),

@@ -6,7 +6,10 @@ use rkyv_base::access::access;
 use rkyv_base::element::Element;
 use rkyv_base::errors::VerifyError;
 use rkyv_base::view::View;
+use rkyv_base::width::Narrow;
+use rkyv_index::map::laws::{index_maps_are_laid_out, items_are_yielded, walks_visit_in_order};
 use rkyv_index::{ArchivedIndexMap, IndexMapOf, Iter, Keys, Values};
+use rkyv_scan::hash::FxHasher64;
 use rkyv_table::Strides;
 use std::alloc::Global;
 use std::cell::Cell;
@@ -17,6 +20,9 @@ type Small = IndexMapOf<i8, i8>;
 
 #[test]
 fn a_key_is_found_with_its_index(rt: HostRuntime) -> Result<(), Fail> {
+    index_maps_are_laid_out::<Narrow, i8, i8, i8, i8>();
+    items_are_yielded::<i8, i8>();
+    walks_visit_in_order::<i8, i8, i8, i8, FxHasher64, Narrow>();
     let bytes = four_entries();
     let map = ArchivedIndexMap::of(access::<Small>(&bytes)?);
     let found = match map.get_full(&7) {

@@ -4,7 +4,9 @@ use crate::tests::archives::{no_pairs, one_key_twice, wide_pair};
 use crate::tests::writing::set_archive;
 use rkyv_base::access::{access, access_in};
 use rkyv_base::width::{Narrow, Wide, Width};
+use rkyv_index::map::laws::pairs_read_back_are_listed;
 use rkyv_index::round_trip::{items_round_trip, pairs_round_trip};
+use rkyv_index::set::laws::items_read_back_are_listed;
 use rkyv_index::{
     ArchivedIndexMap, ArchivedIndexSet, IndexMapOf, IndexSetOf, OrderedItems, OrderedPairs,
 };
@@ -31,6 +33,7 @@ fn is_read<W: Width>(alloc: Global, bytes: &[u8], pairs: &[(i8, i8)]) -> bool {
 
 #[test]
 fn pairs_are_read_back_in_their_order(rt: HostRuntime) {
+    pairs_read_back_are_listed::<i8, i8, i8, i8, FxHasher64, Narrow>();
     let alloc = rt.alloc();
     let read = [
         is_read::<Narrow>(alloc, &four_entries(), &[(1, 2), (3, 4), (5, 6), (7, 8)]),
@@ -60,6 +63,7 @@ fn are_items(alloc: Global, bytes: &[u8], expected: &[i8]) -> bool {
 
 #[test]
 fn items_are_read_back_in_their_order(rt: HostRuntime) -> Result<(), Fail> {
+    items_read_back_are_listed::<i8, i8, FxHasher64, Narrow>();
     let alloc = rt.alloc();
     let written = set_archive(alloc, &[4, 1, 3])?;
     let read = [

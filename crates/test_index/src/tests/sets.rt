@@ -7,7 +7,10 @@ use rkyv_base::access::access;
 use rkyv_base::errors::{VerifyError, WriteError};
 use rkyv_base::width::Narrow;
 use rkyv_base::writer::{NoMemory, VecWriter};
-use rkyv_index::set::laws::both_hashers_look_up_alike;
+use rkyv_index::set::laws::{
+    both_hashers_look_up_alike, index_sets_are_laid_out, listed_items_are_written,
+    ordered_items_are_written, walks_visit_in_order,
+};
 use rkyv_index::{ArchivedIndexMap, ArchivedIndexSet, IndexSetOf};
 use rkyv_scan::hash::FxHasher64;
 use std::alloc::Global;
@@ -19,6 +22,10 @@ type Keys = IndexSetOf<i8>;
 #[test]
 fn one_item_is_written(rt: HostRuntime) -> Result<(), Fail> {
     both_hashers_look_up_alike::<i8, i8, Narrow>();
+    index_sets_are_laid_out::<Narrow, i8, i8>();
+    listed_items_are_written::<Narrow, FxHasher64, i8, i8>();
+    ordered_items_are_written::<Narrow, i8, i8>();
+    walks_visit_in_order::<i8, i8, FxHasher64, Narrow>();
     let alloc = rt.alloc();
     let bytes = set_archive(alloc, &[1])?;
     expect_eq!(rt; bytes.as_slice(), one_index_key().as_slice());

@@ -11,6 +11,9 @@ use rkyv_base::limit::{LimitFault, LimitWriter};
 use rkyv_base::root::{to_bytes, to_bytes_in, write_root};
 use rkyv_base::width::{Narrow, Wide};
 use rkyv_base::writer::{NoMemory, VecWriter};
+use rkyv_index::map::laws::written::{
+    listed_pairs_are_written, ordered_pairs_are_written, written_index_maps_represent,
+};
 use rkyv_index::width::IndexMapWidth;
 use rkyv_index::{ArchivedIndexMap, IndexMapOf, OrderedItems, OrderedPairs};
 use rkyv_keys::keys::{KeyElement, NativeKey};
@@ -66,6 +69,9 @@ pub(crate) fn set_archive(alloc: Global, items: &[i8]) -> Result<Vec<u8>, Fail> 
 
 #[test]
 fn pairs_are_written(rt: HostRuntime) -> Result<(), Fail> {
+    listed_pairs_are_written::<Narrow, FxHasher64, i8, i8, i8, i8>();
+    ordered_pairs_are_written::<Narrow, i8, i8, i8, i8>();
+    written_index_maps_represent::<Narrow, FxHasher64, i8, i8, i8, i8>();
     let alloc = rt.alloc();
     let none = narrow(alloc, &[])?;
     let one = narrow(alloc, &[(1, 2)])?;

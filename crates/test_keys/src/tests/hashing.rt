@@ -1,6 +1,6 @@
 //! Tests of the hashes of native values.
 
-use rkyv_keys::{KeyHash, hash_value};
+use rkyv_keys::{KeyHash, hash_value, laws};
 use rkyv_scan::{FxHasher64, FxHasher64Wide, KeyHasher};
 
 const OF_ONE: u64 = 0x517c_c1b7_2722_0a95;
@@ -11,6 +11,7 @@ const OF_MINUS_ONE: u64 = 0xae83_3e48_d8dd_f56b;
 
 #[test]
 fn a_number_is_one_word(rt: HostRuntime) {
+    laws::numbers_hash_by_their_types();
     let ones = [
         hash_value::<u8, FxHasher64>(&1),
         hash_value::<u16, FxHasher64>(&1),
@@ -33,6 +34,7 @@ fn a_number_is_one_word(rt: HostRuntime) {
 
 #[test]
 fn text_ends_with_ff(rt: HostRuntime) {
+    laws::texts_hash_by_their_bytes();
     let mut state = FxHasher64::default();
     state.write(&[]);
     state.write_u8(0xff);
@@ -47,6 +49,7 @@ fn text_ends_with_ff(rt: HostRuntime) {
 
 #[test]
 fn the_unit_value_feeds_nothing(rt: HostRuntime) {
+    laws::bools_chars_and_units_hash_by_their_calls();
     let hashes = [
         hash_value::<(), FxHasher64>(&()),
         hash_value::<((), u8), FxHasher64>(&((), 1)),
@@ -57,6 +60,7 @@ fn the_unit_value_feeds_nothing(rt: HostRuntime) {
 
 #[test]
 fn a_pair_feeds_its_parts_in_order(rt: HostRuntime) {
+    laws::pairs_hash_in_order::<u8, u32>();
     let mut state = FxHasher64::default();
     state.write_u8(1);
     state.write_u32(2);

@@ -2,7 +2,7 @@
 use rkyv_base::access::access;
 use rkyv_base::{Entry, ReadError, Text, VerifyError, View, Wide};
 use rkyv_keys::{
-    Deserialize, ElementDebug, ElementEq, KeyElement, MatchesNative, Query, Shown, hash_value,
+    Deserialize, ElementDebug, ElementEq, KeyElement, MatchesNative, Query, Shown, hash_value, laws,
 };
 use rkyv_scan::{FxHasher64, KeyHasher};
 use std::alloc::Global;
@@ -111,6 +111,9 @@ fn owned_hello(alloc: Global) -> Option<[Option<bool>; 4]> {
 
 #[test]
 fn str_queries_match_texts(rt: HostRuntime) {
+    laws::native_keys_hash_as_written::<Text, &str>();
+    laws::queries_fit_by_value::<Text, &str, &str>();
+    laws::queries_rest_on_keys::<Text, &str>();
     let (yes, no) = (Some(true), Some(false));
     let compared = [
         query_matches::<Text, &str>(&"hello", &HELLO).ok(),
@@ -193,6 +196,7 @@ fn values_are_compared_in_place(rt: HostRuntime) {
 
 #[test]
 fn values_are_read_back(rt: HostRuntime) {
+    laws::errors_of_deserializing::<u32, Wide, u8, u32, u8, u32>();
     let alloc = rt.alloc();
     let text = reads_text(alloc, &WONDERFUL, "wonderful");
     let pair = reads_pair(alloc, &HELLO_SEVEN, ("hello", 7)).ok();

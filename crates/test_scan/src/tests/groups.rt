@@ -95,6 +95,7 @@ fn each_kind_matches(eight: [u8; 8], byte: u8, marked: &Marked) -> [bool; 4] {
 
 #[test]
 fn marks_a_byte(rt: HostRuntime) {
+    laws::kinds_mark_as_defined();
     let controls = [0x28, 0x29, 0xff, 0xff, 0xff, 0xff, 0xff, 0xff];
     let marked = Marked {
         byte: &[0],

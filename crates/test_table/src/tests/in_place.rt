@@ -12,7 +12,7 @@ use rkyv_base::scalars::Scalar;
 use rkyv_base::seal::Seal;
 use rkyv_base::view::View;
 use rkyv_base::width::{Narrow, Width};
-use rkyv_table::table::{ArchivedHashTable, TableOf};
+use rkyv_table::table::{ArchivedHashTable, TableOf, laws};
 
 // Sets each item of a table, which stays valid.
 fn set_all<N: Scalar, W: Width>(archive: &mut [u8], pos: u64, value: N)
@@ -58,6 +58,8 @@ fn set_twice(bytes: &mut [u8; 48]) -> Result<([u8; 48], [u8; 48]), VerifyError> 
 
 #[test]
 fn each_item_is_set(rt: HostRuntime) {
+    laws::in_place::items_written_represent::<u32, u32, Narrow>();
+    laws::in_place::writes_keep_the_table::<u32, Narrow>();
     let mut bytes = two_archived();
     let written = set_twice(&mut bytes).ok();
     let mut sevens = two_archived();
@@ -114,6 +116,8 @@ fn set_number(
 
 #[test]
 fn found_item_is_written_in_place(rt: HostRuntime) {
+    laws::in_place::value_writes_keep_the_table::<u8, u32, Narrow>();
+    laws::in_place::writes_keep_lookups::<u32, Narrow>();
     let mut bytes = two_archived();
     let found = set_number(&mut bytes, 2, 20, 30).ok();
     let mut expected = two_archived();

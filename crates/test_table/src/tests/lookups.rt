@@ -13,7 +13,7 @@ use rkyv_base::width::Narrow;
 use rkyv_scan::hash::{FxHasher64, FxHasher64Wide};
 use rkyv_scan::simd::{GroupKind, bytewise, generic, lanes};
 use rkyv_table::controls::find::Strides;
-use rkyv_table::table::{ArchivedHashTable, TableOf};
+use rkyv_table::table::{ArchivedHashTable, TableOf, laws};
 use std::alloc::Global;
 use std::cell::Cell;
 use test_support::archives::{four_pairs, no_items, one_key_twice, one_number, one_unit};
@@ -173,6 +173,7 @@ fn count_calls<T: Element>(bytes: &[u8], hash: u64) -> Result<usize, VerifyError
 
 #[test]
 fn the_first_of_a_repeated_key_is_found(rt: HostRuntime) {
+    laws::lookups_find_the_first::<Narrow, u32, u32>();
     let archive = one_key_twice();
     let (bytes, hash): (&[u8], u64) = (&archive, hash_of_i8(1));
     // in a small table each control byte is there twice, and so each item is compared twice

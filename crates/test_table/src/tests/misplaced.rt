@@ -5,7 +5,7 @@ use rkyv_base::access::access;
 use rkyv_base::entry::Entry;
 use rkyv_base::errors::VerifyError;
 use rkyv_table::controls::find::Strides;
-use rkyv_table::table::{ArchivedHashTable, TableOf};
+use rkyv_table::table::{ArchivedHashTable, TableOf, laws};
 use test_support::archives::{four_pairs, no_items, one_key_twice, one_number, two_units};
 
 // Returns the number of misplaced pairs of a table. Pairs with one key are the same.
@@ -37,6 +37,7 @@ fn pairs_that_were_written_are_in_their_places(rt: HostRuntime) {
 
 #[test]
 fn a_repeated_key_is_misplaced(rt: HostRuntime) {
+    laws::misplaced::repeated_are_misplaced();
     assert_eq!(rt; misplaced_small(&one_key_twice()).ok(), Some(1));
 }
 
@@ -53,6 +54,7 @@ fn one_of_two_units_is_misplaced(rt: HostRuntime) {
 
 #[test]
 fn a_changed_key_is_misplaced(rt: HostRuntime) {
+    laws::misplaced::none_misplaced_is_complete();
     let mut bytes = one_number();
     bytes[0] = 5;
     expect_eq!(rt; misplaced(&bytes).ok(), Some(1));

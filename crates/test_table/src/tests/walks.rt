@@ -8,7 +8,7 @@ use rkyv_base::entry::Entry;
 use rkyv_base::errors::VerifyError;
 use rkyv_base::width::Narrow;
 use rkyv_table::table::raw_iter::RawIter;
-use rkyv_table::table::{ArchivedHashTable, TableOf};
+use rkyv_table::table::{ArchivedHashTable, TableOf, laws};
 use test_support::archives::{four_pairs, no_items, one_key_twice, two_units};
 
 // Returns `true` if a walk over a table of numbers returns `items` and then `None`. The number
@@ -32,6 +32,7 @@ fn walks(bytes: &[u8], items: &[u8]) -> Result<bool, VerifyError> {
 
 #[test]
 fn items_are_walked_by_ascending_bucket(rt: HostRuntime) {
+    laws::positions_are_yielded::<u32>();
     let sixteen = [2, 3, 4, 5, 6, 7, 8, 9, 10, 11, 12, 13, 14, 15, 16, 1];
     let walked = [
         walks(&two_archived(), &[20, 10]).ok(),

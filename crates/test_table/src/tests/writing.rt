@@ -11,7 +11,7 @@ use rkyv_base::width::Narrow;
 use rkyv_base::writer::{NoMemory, VecWriter, append};
 use rkyv_scan::hash::{FxHasher64, FxHasher64Wide, KeyHasher};
 use rkyv_scan::simd::{GroupKind, bytewise, generic, lanes};
-use rkyv_table::table::ArchivedHashTable;
+use rkyv_table::table::{ArchivedHashTable, laws};
 use std::alloc::Global;
 use test_support::archives::{
     four_pairs, no_items, one_key_twice, one_number, one_unit, two_units,
@@ -67,6 +67,7 @@ fn is_written<U: Serialize<VecWriter, Narrow>>(
 
 #[test]
 fn one_pair_is_written(rt: HostRuntime) {
+    laws::ready_elements_are_written_one_way::<Narrow, u32, u8, u32>();
     let alloc = rt.alloc();
     let front = [1, 2, 0, 0, 0xff, 0x28, 0xff, 0x28];
     let (small, large) = ([(1i8, 2i8)], [(1u32, 2u32)]);
@@ -101,6 +102,9 @@ fn items_of_no_bytes_are_written(rt: HostRuntime) {
 
 #[test]
 fn three_numbers_are_written(rt: HostRuntime) {
+    laws::tables_are_laid_out::<Narrow, u32>();
+    laws::tables_are_written_one_way::<Narrow, u32, u32>();
+    laws::written::tables_represent_locally::<Narrow, u32, u32>();
     let front = [3, 2, 1, 0, 0xff, 0x28, 0x51, 0x7a, 0xff, 0x28, 0x51, 0x7a];
     // a number of eight bits has the same hash with a sign and without
     let hashes = [hash_of_i8(1), hash_of_i8(2), hash_of_i8(3)];
