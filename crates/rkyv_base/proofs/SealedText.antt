@@ -117,11 +117,3 @@ module _ (w : Width) (b : List ℕ) (p : ℕ) (inside : p + text_size w ≤ leng
     pub uppercased_text : (inline : Bool) → Uppercases w b p c inline → IsUtf8IfInline w b p → IsUtf8IfInline w c p
     uppercased_text true h text = subst (λ x. IsUtf8IfInline w x p) (sym h.1) (λ inline. inline_utf8_uppercase (text h.0))
     uppercased_text false h text = subst (λ x. IsUtf8IfInline w x p) (sym h.1) text
-
--- the fixed bytes of a valid text
-pub valid_sealed : (w : Width) (b : List ℕ) (p lo hi l : ℕ) → (text_spec w).is_valid b p lo hi l → IsUtf8IfInline w b p
-valid_sealed w b p lo hi l (inl h) inline = h.1
-valid_sealed w b p lo hi l (inr h) inline = cc (inline, h.0)
-
-pub viewable_sealed : (w : Width) (b : List ℕ) (p : ℕ) → Viewable (text_spec w) b p → IsUtf8IfInline w b p
-viewable_sealed w b p h = valid_sealed w b p 0 p h.valid.0 h.valid.1

@@ -14,3 +14,4 @@ pub mod Parts
 pub mod Scalar
 pub mod Text
 pub mod TextWriting
+pub mod Words

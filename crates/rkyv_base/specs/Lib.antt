@@ -7,6 +7,7 @@ pub mod Formats
 pub mod Scalar
 pub mod Numbers
 pub mod Layout
+pub mod Words
 pub mod ClosureWrites
 pub mod Entries
 pub mod Elements
@@ -45,6 +46,7 @@ pub use Scalar.{Encodes, Encoding, IsScalar}
 unfoldable pub use Numbers.{bool_encoding, char_encoding, signed, unsigned}
 unfoldable pub use Layout.{narrow_limit, wide_limit}
 pub use Layout.{IsIndexEncoding, IsLayout}
+unfoldable pub use Words.{CountsReadBack, DistancesReadBack, WideDistancesFit}
 unfoldable pub use ClosureWrites.{MayWrite}
 pub use ClosureWrites.{Wrote}
 unfoldable pub use Entries.{EntryFails, IsSmall, IsValidEntry, entry_spec, round_up, size_of_whole}
@@ -82,5 +84,5 @@ pub use Sealing.{ModifiesOnly}
 unfoldable pub use Seals.{ArchiveAt, ArchiveStays, LendsFrontAndBack, LiesIn, SealAt, SealStays}
 unfoldable pub use Seals.{archive_in, bytes_in, pos_in, seal_pos}
 pub use Seals.{BorrowsAt, IsSameBorrow}
-unfoldable pub use SealedText.{IsInline, IsOutOfLine, IsUtf8IfInline, ReadsInline, Uppercases}
-unfoldable pub use SealedText.{inline_at, with_uppercase}
+unfoldable pub use SealedText.{IsInline, IsOutOfLine, IsUtf8IfInline, LacksInlineText, ReadsInline}
+unfoldable pub use SealedText.{Uppercases, inline_at, with_uppercase}

@@ -1,5 +1,5 @@
 -- Text that is written in place.
-use Rattle.std.specs.Prelude.{◌≡◌, ℕ, Bool, true, false, MatchBool, List, length, map}
+use Rattle.std.specs.Prelude.{◌≡◌, ◌⊎◌, ℕ, Bool, true, false, MatchBool, List, length, map}
 use Rattle.std.specs.Char.{to_ascii_uppercase}
 use Rattle.std.specs.Int.{Width}
 use Rattle.std.specs.Str.{IsUtf8}
@@ -21,6 +21,10 @@ inline_at w b p = inline_text (fixed_bytes w b p)
 -- the text at `p` is inline, and is `text`
 abbrev pub ReadsInline : Width → List ℕ → ℕ → List ℕ → Type 0
 ReadsInline w b p text = IsInline w b p × (text ≡ text_at w b p)
+
+-- the text at `p` is out of line, or isn't UTF-8
+abbrev pub LacksInlineText : Width → List ℕ → ℕ → Type 0
+LacksInlineText w b p = IsOutOfLine w b p ⊎ ¬ (IsUtf8 (inline_at w b p))
 
 -- the text at `p` is UTF-8 if it is inline
 abbrev pub IsUtf8IfInline : Width → List ℕ → ℕ → Type 0

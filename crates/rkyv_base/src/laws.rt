@@ -5,8 +5,9 @@
 
 ghost use Rattle.std.specs.Int.{w16, w32, w64, w8};
 ghost use Rattle.std.specs.Prelude.{string_bytes, ◌≡◌};
-ghost use Rattle.rkyv_base.specs.{IsScalar, IsTextOf, PairRepresents, RepresentsAs, SameEncoding};
-ghost use Rattle.rkyv_base.specs.{SameFormat, SameSpec, SameValues, ScalarRepresents};
+ghost use Rattle.rkyv_base.specs.{CountsReadBack, DistancesReadBack, IsScalar, IsTextOf};
+ghost use Rattle.rkyv_base.specs.{PairRepresents, RepresentsAs, SameEncoding, SameFormat, SameSpec};
+ghost use Rattle.rkyv_base.specs.{SameValues, ScalarRepresents, WideDistancesFit};
 ghost use Rattle.rkyv_base.specs.{bool_encoding, char_encoding, entry_spec, narrow_limit};
 ghost use Rattle.rkyv_base.specs.{pair_format, pair_of, scalar_format, signed, text_format};
 ghost use Rattle.rkyv_base.specs.{text_spec, unit_format, unit_represents, unit_spec, unsigned};
@@ -104,6 +105,19 @@ pub fn widths_have_their_numbers()
     ensures wide_word { ⟦<Wide as Word>⟧.word ≡ w64 }
     ensures wide_limit { ⟦<Wide as Width>⟧.LIMIT ≡ wide_limit }
     ensures wide_capacity { ⟦<Wide as Width>⟧.MAX_CAPACITY ≡ 4611686018427387904 }
+{}
+
+/// States that a count and a distance are read back as written, wherever their bytes are.
+pub fn words_read_back<W: Width>()
+    ensures counts { CountsReadBack W.word }
+    ensures distances { DistancesReadBack W.word }
+{}
+
+/// States that the distance between two positions of a wide archive fits in its word.
+///
+/// So a wide header is written unless it ends after the limit.
+pub fn wide_distances_fit()
+    ensures { WideDistancesFit }
 {}
 
 /// States that the greatest size of an element is 1,073,741,824 bytes.

@@ -5,9 +5,9 @@
 
 ghost use Rattle.std.specs.Prelude.{◌≡◌, ◌+◌, ◌≤◌, length, map, MatchOption};
 ghost use Rattle.std.specs.Char.{to_ascii_uppercase};
-ghost use Rattle.rkyv_base.specs.{IsInline, IsOutOfLine, IsUtf8IfInline, LiesIn, ModifiesOnly};
-ghost use Rattle.rkyv_base.specs.{ReadsInline, SealStays, StaysValid, Uppercases, bytes_in};
-ghost use Rattle.rkyv_base.specs.{inline_at, seal_pos, text_at, text_size, text_spec};
+ghost use Rattle.rkyv_base.specs.{IsInline, IsOutOfLine, IsUtf8IfInline, LacksInlineText, LiesIn};
+ghost use Rattle.rkyv_base.specs.{ModifiesOnly, ReadsInline, SealStays, StaysValid, Uppercases};
+ghost use Rattle.rkyv_base.specs.{bytes_in, inline_at, seal_pos, text_at, text_size, text_spec};
 
 use crate::seal::Seal;
 use crate::text::{Text, fixed_at, inline_part, is_out_of_line};
@@ -64,22 +64,22 @@ pub fn uppercase_at<W: Width>(bytes: &mut [u8], pos: usize) -> bool
 }
 
 impl<'a, W: Width> Seal<'a, Text<W>> {
-    /// Returns the text, or `None` if it is out of line, outside its fixed bytes.
+    /// Returns the text, or `None` if it is out of line, outside its fixed bytes, or isn't UTF-8.
+    ///
+    /// The inline text of a valid value is UTF-8.
     ///
     /// # Requires
     ///
     /// - The fixed bytes end inside the borrowed bytes.
-    /// - The text is UTF-8 if it is inline.
     #[inline]
     pub fn as_str(&self) -> Option<&str>
-        requires inside { LiesIn (text_spec W.word) self.now }
-        requires text { IsUtf8IfInline W.word (bytes_in self.now) (seal_pos self.now) }
+        requires { LiesIn (text_spec W.word) self.now }
         ensures { MatchOption result
-            (IsOutOfLine W.word (bytes_in self.now) (seal_pos self.now))
+            (LacksInlineText W.word (bytes_in self.now) (seal_pos self.now))
             (λ text. ReadsInline W.word (bytes_in self.now) (seal_pos self.now) text.now) }
     {
         let text = inline_text_at::<W>(&*self.bytes, self.pos)?;
-        Some(unsafe { str::from_utf8_unchecked(text) })
+        str::from_utf8(text).ok()
     }
 
     /// Writes each letter from a to z of inline text in upper case, and returns `true`.

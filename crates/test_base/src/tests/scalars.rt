@@ -93,6 +93,8 @@ fn bool_and_char_at_their_limits(rt: HostRuntime) {
 #[test]
 fn widths_have_their_constants(rt: HostRuntime) {
     laws::widths_have_their_numbers();
+    laws::words_read_back::<Narrow>();
+    laws::wide_distances_fit();
     let limits = [Narrow::LIMIT, Narrow::MAX_CAPACITY, Narrow::TEXT_LIMIT];
     let sizes = [
         Narrow::ALIGN,

@@ -175,7 +175,6 @@ fn access_mut_rejects_invalid_roots(rt: HostRuntime) {
 }
 
 // Returns `true` if a seal of the text at the root has this text.
-#[tactic(auto, using(rkyv_base::proofs::SealedText::viewable_sealed))]
 fn shows_in_place<W: Width>(bytes: &mut [u8], text: &str) -> Result<bool, VerifyError> {
     let whole = access_mut_in::<W, Text<W>>(bytes)?;
     let root = whole.pos();
@@ -190,6 +189,13 @@ fn inline_text_is_read_in_place(rt: HostRuntime) {
         shows_in_place::<Narrow>(&mut bytes, "hello").ok(),
         Some(true)
     );
+}
+
+#[test]
+fn bytes_that_are_not_utf8_have_no_text(rt: HostRuntime) {
+    let mut bytes = *b"\xc3(\xff\xff\xff\xff\xff\xff";
+    let seal = Seal::<Text>::over(&mut bytes, 0);
+    expect_eq!(rt; seal.as_str(), None);
 }
 
 #[test]
@@ -214,7 +220,6 @@ fn inline_text_is_uppercased_in_place(rt: HostRuntime) {
 }
 
 // Returns two flags: a seal of the text at the root has no text, and it converts the text.
-#[tactic(auto, using(rkyv_base::proofs::SealedText::viewable_sealed))]
 fn uppercases_elsewhere<W: Width>(bytes: &mut [u8]) -> Result<(bool, bool), VerifyError> {
     let whole = access_mut_in::<W, Text<W>>(bytes)?;
     let root = whole.pos();
