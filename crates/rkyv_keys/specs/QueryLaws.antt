@@ -18,13 +18,14 @@ FitsByValue {V = V} {Q = Q} s represents reads can_read fits =
     (q : Q) (v : V) (b c : List ℕ) (p r : ℕ) → can_read q → reads v → ValidAt s b p
     → ValidAt s c r → represents b p v → represents c r v → fits q b p ≡ fits q c r
 
--- the keys that a query fits depend only on the bytes on which their validity depends
+-- whether a query fits a key depends only on the bytes of the key and on those of its parts
 abbrev pub RestsOnKeys : {Q : Type 0} → ElementSpec → (Q → Type 0) → (Q → List ℕ → ℕ → Bool)
     → Type 0
 RestsOnKeys {Q = Q} s can_read fits =
-    (q : Q) (b c : List ℕ) (p l : ℕ) → can_read q → s.is_valid b p 0 p l
+    (q : Q) (b c : List ℕ) (p lo hi l : ℕ) → can_read q → lo ≤ hi → hi ≤ p
+    → s.is_valid b p lo hi l
     → AgreeOn b c p (p + s.size)
-    → AgreeOn b c 0 l → fits q c p ≡ fits q b p
+    → AgreeOn b c lo l → fits q c p ≡ fits q b p
 
 -- the hash of a key depends only on the bytes on which the validity of the key depends
 abbrev pub HashLocal : ElementSpec → (List ℕ → ℕ → ℕ) → Type 0

@@ -1,5 +1,5 @@
 -- Lemmas: laws of native keys and queries on written keys.
-use Rattle.std.specs.Prelude.{◌≡◌, ℕ, Bool, true, List}
+use Rattle.std.specs.Prelude.{◌≡◌, ℕ, ◌≤◌, Bool, true, List}
 use Rattle.std.proofs.Common.{sym, ◌∙◌, ap, arith}
 use Rattle.std.proofs.lemmas.Bool.Decides.{same_from_decides}
 use Rattle.rkyv_scan.specs.{Hasher, HasherCall, hash_of_calls}
@@ -54,16 +54,25 @@ pub native_once : {V : Type 0} (s : ElementSpec) (represents : List ℕ → ℕ 
 native_once s represents equal fits native itself v x b p h st st' = sym (native v x b p h st')
     ∙ native v v b p h st ∙ itself v
 
+-- a value whose parts are in a range before it is valid
+valid_before : {s : ElementSpec} → IsElement s → (b : List ℕ) (p lo hi l : ℕ) → lo ≤ hi → hi ≤ p
+    → s.is_valid b p lo hi l → ValidAt s b p
+valid_before laws b p lo hi l o before h =
+    let t = laws.lower_lo b p lo 0 p l (omega arith) (omega arith)
+    (laws.widen_hi b p lo hi p l before h) in
+    (t.0, t.1)
+
 -- a query depends on the keys alone, since a copy of a key is the same as the key
 pub rests_on_keys : {Q : Type 0} {s : ElementSpec} {same : Comparison}
     {key_calls : List ℕ → ℕ → List HasherCall} {can_read : Q → Type 0} {calls : Q → List HasherCall}
     {fits : Q → List ℕ → ℕ → Bool} → IsElement s → IsEquivalence s same → IsKey s same key_calls
     → IsQuery s same key_calls can_read calls fits → RestsOnKeys s can_read fits
-rests_on_keys {s = s} {same = same} {fits = fits} laws equivalence key query q b c p l ready h fixed
-    part =
-    let st : ValidAt s b p = (l, h) in
-    let st' : ValidAt s c p = (l, laws.local b c p 0 p l (omega arith) fixed part h) in
-    let there : same b p c p ≡ true = key.copied b c p 0 p l (omega arith) h fixed part in
+rests_on_keys {s = s} {same = same} {fits = fits} laws equivalence key query q b c p lo hi l ready o
+    before h fixed part =
+    let st : ValidAt s b p = valid_before laws b p lo hi l o before h in
+    let st' : ValidAt s c p = valid_before laws c p lo hi l o before
+    (laws.local b c p lo hi l o fixed part h) in
+    let there : same b p c p ≡ true = key.copied b c p lo hi l o h fixed part in
     let back : same c p b p ≡ true = equivalence.symmetric b c p p st st' there in
     same_from_decides (fits q c p) (fits q b p) (
       λ x. query.respects_same q c b p p ready st' st x ∙ back,
