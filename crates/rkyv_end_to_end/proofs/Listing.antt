@@ -16,7 +16,7 @@ use Rattle.rkyv_base.specs.declared.width.Word.{Ghosts as Words}
 use Rattle.rkyv_base.proofs.WritingSteps.{appends_after, end-appends}
 use Rattle.rkyv_table.specs.Lemmas.TableLaws.{table_element}
 use Rattle.rkyv_table.specs.{IsFirstOf, IsHeader, IsValidAround, IsWrittenOf, RepresentedWereWritten, TableIn, TableRepresents, TableResolver, VisitsHomes, WalkVisitsHomes, WrittenTablesPass, cap_at, capacity, hashes_of, items_of, len_at, resolved_capacity, table_controls, table_format, table_spec}
-use Rattle.rkyv_table.proofs.FirstItem.{accepted_under, first_at_home}
+use Rattle.rkyv_table.proofs.FirstItem.{accepted_under, first_at_home, first_home_pos}
 use Rattle.rkyv_table.proofs.WalkedHomes.{none_visits}
 use Rattle.rkyv_end_to_end.specs.{Encoding, IsWrittenList, ListBytes, ListInput, ListsAreValid, LookOverFails, ReportsList, ReportsTable, VisitsItems, WriteAndFindFails, WroteList, table_of}
 use Rattle.rkyv_end_to_end.specs.declared.looking.LookError.{LookError}
@@ -166,10 +166,13 @@ module _ {T X R : Type 0} (list : ListInput X R) (post : View T → Bool → Typ
         ends = whole ∙ sym (end-appends o o' wrote.2 wrote.3.1.0);
         written = valid;
         first = λ accept accept_at compares agrees under.
-            subst (IsFirstOf list.items.represents o'.bytes accept (items_of pairs))
-            (sym (there.looks.first (hashes_of pairs) valid.items.homes accept_at valid.items.written compares
-            (accepted_under t.word t.spec.size list.items.represents t.bytes t.pos pairs items hash accept accept_at agrees under)))
-            (first_at_home t.word t.spec.size list.items.represents t.bytes t.pos pairs items hash accept accept_at agrees);
+            let found =
+            there.looks.first (hashes_of pairs) valid.items.homes accept_at valid.items.written compares
+            (accepted_under t.word t.spec.size list.items.represents t.bytes t.pos pairs items hash accept accept_at agrees under) in (
+              subst (IsFirstOf list.items.represents o'.bytes accept (items_of pairs)) (sym found)
+                  (first_at_home t.word t.spec.size list.items.represents t.bytes t.pos pairs items hash accept accept_at agrees),
+              found ∙ first_home_pos t.word t.spec.size list.items.represents t.bytes t.pos pairs items hash accept accept_at agrees,
+            );
         reports = there;
       }
 

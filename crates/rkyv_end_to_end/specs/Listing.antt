@@ -13,7 +13,8 @@ use Rattle.rkyv_base.specs.declared.view.View.{View}
 use Rattle.rkyv_table.specs.{AgreesAt, AreUnder, ComparesByOf, HasCapacity, Input, IsFirstOf}
 use Rattle.rkyv_table.specs.{IsValidAround, OwnCause, TableIn, TableRepresents, TableResolver}
 use Rattle.rkyv_table.specs.{VisitsHomes, WrittenAt, YieldsExactly, cap_at, from_both, hashes_of}
-use Rattle.rkyv_table.specs.{home_positions, items_of, table_controls, table_format, table_spec}
+use Rattle.rkyv_table.specs.{first_pos, home_positions, items_of, table_controls, table_format}
+use Rattle.rkyv_table.specs.{table_spec}
 use Rattle.rkyv_end_to_end.specs.Report.{ReportsTable}
 use Rattle.rkyv_end_to_end.specs.declared.looking.LookError.TheVariants.{Memory, Verify}
 use Rattle.rkyv_end_to_end.specs.declared.looking.TableReport.{TableReport}
@@ -169,7 +170,7 @@ ListsAreValid {X} w items load_factor =
     items.represents load_factor begin end pairs
     × (p + 3 * byte_len w ≡ begin + length bytes)
 
--- the lookup finds the first accepted item, or none if no item is accepted.
+-- the lookup finds the first accepted item at its position, or none if no item is accepted.
 -- The comparison must be a function of the position, agree with `accept` at the position of each
 -- item, and accept only items with the hash `hash`
 abbrev pub FindsFirstItem : {T X : Type 0} {t : TableIn} {represents : List ℕ → ℕ → X → Type 0}
@@ -180,6 +181,7 @@ FindsFirstItem {X = X} {t = t} {represents = represents} {pairs = pairs} visits 
     → ComparesByOf post t.word t.spec t.bytes t.pos accept_at
     → AgreesAt (positions_of visits) (items_of pairs) accept accept_at → AreUnder hash accept pairs
     → IsFirstOf represents t.bytes accept (items_of pairs) found
+    × (found ≡ first_pos (positions_of visits) accept (items_of pairs))
 
 -- the table of the list in the output `o`, with its header at `p`
 abbrev pub table_of : {X R : Type 0} → ListInput X R → Output → ℕ → TableIn

@@ -1,7 +1,8 @@
-//! A list as a hash table: written, validated, walked and looked up, with one contract.
+//! A hash table from end to end: written, validated, walked over and looked up.
 //!
-//! `write_and_look_over` does this from a list of items, and `look_over` from untrusted bytes.
-//! `write_list` writes a list with any `Writer`.
+//! - `write_and_look_over` does all of this, with a list of items and a `VecWriter`.
+//! - `write_list` does the first step, with any `Writer`.
+//! - `look_over` does the other steps, over untrusted bytes.
 #![tactic(auto)]
 
 mod laws;

@@ -56,8 +56,8 @@ impl From<LookError> for ListError {
 /// - The appended bytes are the table, zeros up to the header's alignment, and the header.
 /// - They are valid.
 /// - The walk visits each item once, and nothing else.
-/// - The lookup finds the first inserted item that the comparison accepts.
-///   This is under two conditions: the comparison depends on the item alone,
+/// - The lookup finds the first inserted item that the comparison accepts, and none if there is
+///   no such item. This is under two conditions: the comparison depends on the item alone,
 ///   and accepts only items with the hash `hash`.
 /// - The lookup reads at most ceil(buckets / 16) strides of sixteen control bytes.
 ///
@@ -71,6 +71,23 @@ impl From<LookError> for ListError {
 /// - `Write`: the list can't be written. It has the error of the write.
 /// - `Look(LookError::Memory)`: the list has items, and memory for their positions could not be
 ///   allocated.
+///
+/// # Examples
+///
+/// ```rust
+/// let items = [10u8, 20, 30];
+/// let hashes = [2u64, 2, 5];
+/// let result = write_and_look_over::<W, u8, &u8, _, _, _>(
+///     alloc,
+///     items.iter(),
+///     hashes.iter().copied(),
+///     3,
+///     (1, 1),
+///     &mut writer,
+///     2,
+///     |item| item.to_native() > 10,
+/// );
+/// ```
 pub fn write_and_look_over<
     W: Width,
     U: Serialize<VecWriter, W>,

@@ -34,6 +34,19 @@ pub struct WrittenList {
 /// - The error of appending zeros up to the header's alignment.
 /// - `DistanceTooLarge`: the distance to the table doesn't fit in the width.
 /// - The error of appending the header.
+///
+/// # Examples
+///
+/// ```rust
+/// let wrote = write_list::<W, _, u8, &u8, _, _>(
+///     alloc,
+///     items.iter(),
+///     hashes.iter().copied(),
+///     3,
+///     (1, 1),
+///     &mut writer,
+/// );
+/// ```
 pub fn write_list<
     W: Width,
     S: Writer,

@@ -4,14 +4,14 @@ use Rattle.std.specs.List.{find, flat_map, list_any, range_with_len, slice_get}
 use Rattle.std.specs.Option.{option_map}
 use Rattle.std.proofs.lemmas.List.Folds.{find-append}
 use Rattle.std.proofs.lemmas.List.{length-set, set_past}
-use Rattle.std.proofs.lemmas.Bool.{and_from, and_left, and_right, both_ways, cases_Bool, cases_lt, eq-eqb, false_from_ne_true, le-ltb, lt-ltb, or_left, or_right}
+use Rattle.std.proofs.lemmas.Bool.{and_from, and_left, and_right, both_ways, cases_Bool, cases_lt, eq-eqb, false_from_ne_true, le-leb, le-ltb, lt-ltb, or_left, or_right}
 use Rattle.rkyv_scan.specs.{indices_where}
-use Rattle.rkyv_table.specs.{IsWrapped, buckets_at, control_count, empty_index, is_empty_at, probe_capacity, probed, start, strides, with_control}
-use Rattle.rkyv_table.proofs.Coverage.{covered}
-use Rattle.rkyv_table.proofs.Search.{control_of, strides_head, tail_shows_all}
+use Rattle.rkyv_table.specs.{HasRoom, IsWrapped, buckets_at, control_count, empty_index, is_empty_at, probe_capacity, probed, start, stride_has_empty, strides, with_control}
+use Rattle.rkyv_table.proofs.Coverage.{covered, stride_below}
+use Rattle.rkyv_table.proofs.Search.{cases_option, control_of, strides_head, tail_shows_all}
 use Rattle.rkyv_table.proofs.Groups.{range_append, same_control}
 use Rattle.rkyv_table.proofs.Written.{find_buckets, taken_at}
-use Rattle.rkyv_table.proofs.Lists.{any_flat_map, any_map_filter, any_member, any_range, find_none, first_range, none_find, none_range, range_first}
+use Rattle.rkyv_table.proofs.Lists.{any_flat_map, any_map_filter, any_member, any_range, find_none, first_range, none_find, none_range, range_first, some_find}
 
 -- ---- one stride
 
@@ -177,3 +177,48 @@ no_range P p n e = rw e refl
 -- without a mirrored index, one write of a control byte is enough
 pub one_write : (controls : List ℕ) (cap b t : ℕ) → length controls ≤ cap + b → set controls b t ≡ with_control controls cap b t
 one_write controls cap b t h = let l = length-set controls b t in sym (set_past (set controls b t) (cap + b) t (omega arith))
+
+-- ---- the first empty index of all strides
+
+find_skip : (P : ℕ → Bool) (x : ℕ) (xs : List ℕ) → P x ≡ false → find P (x ∷ xs) ≡ find P xs
+find_skip P x xs e = rw e refl
+
+find_front : (P : ℕ → Bool) (x : ℕ) (xs : List ℕ) → P x ≡ true → find P (x ∷ xs) ≡ Some x
+find_front P x xs e = rw e refl
+
+has_empty_is : (controls : List ℕ) (p : ℕ) → stride_has_empty controls p ≡ list_any (is_empty_at controls) (range_with_len p 16)
+unfolding stride_has_empty
+has_empty_is controls p = refl
+
+-- `qs`: strides from some number on, before which no free bucket is shown
+first_from : (h cap b : ℕ) (controls qs : List ℕ) → IsWrapped cap controls → b < cap → is_empty_at controls b ≡ true
+    → ((p : ℕ) → list_any (eqb p) qs ≡ true → list_any (eqb p) (strides h cap) ≡ true)
+    → (qs ≡ strides h cap) ⊎ (list_any (is_empty_at controls) (buckets_at cap (start h cap)) ≡ false)
+    → find (is_empty_at controls) (probed h cap) ≡ find (is_empty_at controls) (flat_map (buckets_at cap) qs)
+    → (p : ℕ) × (q : ℕ) × (find (stride_has_empty controls) qs ≡ Some p) × (empty_index controls p ≡ Some q) × (q < 2 * cap) × (find (is_empty_at controls) (probed h cap) ≡ Some (q % cap))
+first_from h cap b controls [] r hb fb members c same = absurd (runs_out h cap b (is_empty_at controls) [] hb fb refl same)
+first_from h cap b controls (p ∷ ps) r hb fb members c same =
+    let free = is_empty_at controls in
+    let pos : 0 < cap = omega arith in
+    let hp = members p (member_front p ps (p ∷ ps) refl) in
+    let lp = stride_below h cap p pos hp in
+    let st = begun h cap p free ps (p ∷ ps) pos c refl in
+    elim (cases_option (find free (range_with_len p 16))) [
+      | inl none ↦
+          let shown = none_shown cap controls p pos r lp none in
+          let ih = first_from h cap b controls ps r hb fb (λ x m. members x (member_rest p x ps (p ∷ ps) refl m))
+          (inr (later_started h cap p free st shown)) (passes_on h cap p free ps (p ∷ ps) refl shown same) in
+          let e = has_empty_is controls p ∙ none_find free (range_with_len p 16) none in
+          (ih.0, ih.1, find_skip (stride_has_empty controls) p ps e ∙ ih.2, ih.3, ih.4, ih.5)
+      | inr some ↦
+          let q = some.0 in
+          let s = some_shown h cap controls p q b r hb fb hp lp st some.1 in
+          let e = has_empty_is controls p ∙ (some_find free (range_with_len p 16) q some.1).0 in
+          (p, q, find_front (stride_has_empty controls) p ps e, empty_index_is controls p ∙ some.1, s.0, first_at h cap p (q % cap) free ps (p ∷ ps) refl s.1 same)
+    ]
+
+-- the first empty index of all strides is that of the first free bucket that a hash shows
+pub first_of_all : (h cap : ℕ) (controls : List ℕ) → IsWrapped cap controls → HasRoom cap controls
+    → (p : ℕ) × (q : ℕ) × (find (stride_has_empty controls) (strides h cap) ≡ Some p) × (empty_index controls p ≡ Some q) × (q < 2 * cap) × (find (is_empty_at controls) (probed h cap) ≡ Some (q % cap))
+first_of_all h cap controls r w =
+    first_from h cap w.0 controls (strides h cap) r w.1 (le-leb 128 (get_or controls w.0 0) w.2) (λ p m. m) (inl refl) refl

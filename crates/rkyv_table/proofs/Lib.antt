@@ -30,6 +30,7 @@ pub mod BucketSteps
 pub mod TableSteps
 pub mod TableResults
 pub mod RawWalks
+pub mod SameLookups
 pub mod SameTable
 pub mod FirstItem
 pub mod Passing

@@ -1,10 +1,10 @@
 -- An entry whose value is written among its parts, and unchanged entries.
-use Rattle.std.proofs.Common.{ℕ, ◌+◌, ◌-◌, ◌≤◌, refl, arith, List}
+use Rattle.std.proofs.Common.{ℕ, ◌+◌, ◌-◌, ◌≤◌, refl, arith, Bool, List}
 use Rattle.rkyv_base.specs.Lemmas.Bytes.{agree_on_part}
 use Rattle.rkyv_base.specs.{ElementSpec, IsElement, ModifiesOnly, RepresentsLocally, entry_spec, value_pos}
 use Rattle.rkyv_base.specs.Lemmas.Entry.{same_key, same_value}
 use Rattle.rkyv_base.proofs.Sealing.{sealed_wider}
-use Rattle.rkyv_table.specs.{IsValidBefore, StaysAt, WritesAmongParts}
+use Rattle.rkyv_table.specs.{IsValidBefore, RestsOnKey, RestsOnParts, StaysAt, WritesAmongParts}
 use Rattle.rkyv_table.proofs.NestedItems.{same_above, same_below}
 
 module _ (k v : ElementSpec) (kl : IsElement k) (vl : IsElement v) (b c : List ℕ) (q : ℕ) where
@@ -74,3 +74,11 @@ represents_on s represents local x b c q h st = local x b c q h.valid.lower h.va
 -- without a write, nothing changes
 pub unwritten : (s : ElementSpec) (b : List ℕ) (p : ℕ) → WritesAmongParts s b b p
 unwritten s b p = record { is_valid = λ lo hi l o o' h. h; sealed = λ lo hi l o o' h. record { same_length = refl; before = refl; after = refl } }
+
+-- a comparison that depends only on a key and its parts depends only on the key
+pub rests_on_key : (k : ElementSpec) (fits : List ℕ → ℕ → Bool) → RestsOnParts k fits → RestsOnKey k fits
+rests_on_key k fits rests b c q valid same = rests b c q (record {
+  valid = record { lower = 0; upper = q; rest = valid.0; order = omega arith; before = omega arith; is_valid = valid.1 };
+  fixed = same.fixed;
+  parts = same.parts valid.0 valid.1;
+})

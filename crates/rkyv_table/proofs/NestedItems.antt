@@ -117,7 +117,7 @@ module _ (s : ElementSpec) (law : IsElement s) (at : ℕ → ℕ) where
     pub above_same : (x y : ℕ) → x ≤ y → hi ≤ x → AgreeOn b c x y
     above_same x y less h = same_above b c own.lower own.rest own_between.0 (sealed_at own) x y less (omega (arith, own_between.1))
 
-    pub item_fixed : (j : ℕ) → AgreeOn b c (at j) (at j + s.size)
+    item_fixed : (j : ℕ) → AgreeOn b c (at j) (at j + s.size)
     item_fixed j = above_same (at j) (at j + s.size) (omega arith) (up j)
 
     -- all items stay valid, and the bytes before all parts are the same

@@ -1,5 +1,5 @@
 -- A write of one item in place keeps the table.
-use Rattle.std.specs.Prelude.{◌≡◌, ◌≢◌, ℕ, suc, ◌+◌, ◌-◌, ◌*◌, ◌<◌, ◌≤◌, List, [], ◌∷◌, Bool, slice_index, slice_range}
+use Rattle.std.specs.Prelude.{◌≡◌, ◌≢◌, ℕ, suc, ◌+◌, ◌-◌, ◌*◌, ◌<◌, ◌≤◌, List, [], ◌∷◌, slice_index, slice_range}
 use Rattle.std.specs.Int.{Width, byte_len}
 use Rattle.std.proofs.Common.{arith, subst, sym, ◌∙◌, ap, inl, inr}
 use Rattle.std.proofs.lemmas.Bool.{cases_eq, cases_lt}
@@ -11,10 +11,10 @@ use Rattle.rkyv_base.proofs.Sealing.{entry_kept, same_outside, sealed_wider, val
 use Rattle.rkyv_table.proofs.SameTable.{written_there}
 use Rattle.rkyv_table.proofs.ValidTable.{item_viewable, part_of}
 use Rattle.rkyv_table.specs.{AreValidAt, AreValidControls, IsPart, IsWalked, KeepsTable, SameValue}
-use Rattle.rkyv_table.specs.{TableAt, ValidPart, WrittenAt, bucket_at, bucket_found, cap_at}
-use Rattle.rkyv_table.specs.{control_count, controls_at, controls_pos, decode_begin, found, item_at}
-use Rattle.rkyv_table.specs.{len_at, table_controls, table_spec, walk}
-use Rattle.rkyv_scan.specs.{AllBelow, Kind, is_full}
+use Rattle.rkyv_table.specs.{TableAt, ValidPart, WrittenAt, bucket_at, cap_at}
+use Rattle.rkyv_table.specs.{control_count, controls_at, controls_pos, decode_begin, item_at}
+use Rattle.rkyv_table.specs.{len_at, table_spec, walk}
+use Rattle.rkyv_scan.specs.{AllBelow, is_full}
 use Rattle.rkyv_scan.proofs.Indices.{range_below}
 use Rattle.rkyv_table.specs.Lemmas.ItemPositions.{bucket_is_valid_within, decoded_controls}
 use Rattle.rkyv_table.specs.Lemmas.ItemPositions.{decoded_item, decoded_pos}
@@ -146,13 +146,6 @@ module _ (w : Width) (s : ElementSpec) (law : IsElement s) (b : List ℕ) (p i :
 module _ (w : Width) (s : ElementSpec) (b c : List ℕ) (p i : ℕ) (kept : KeepsTable w s b c p i) where
   pub item_stays : (j : ℕ) → item_at w s.size c p j ≡ item_at w s.size b p j
   item_stays j = sym (item_same w b c p kept.header s.size j)
-
-  pub lookup_kept : (kind : Kind) (hash : ℕ) (accept : ℕ → Bool) → bucket_found kind w s.size c p hash accept ≡ bucket_found kind w s.size b p hash accept
-  lookup_kept kind hash accept =
-      ap (λ x. found kind x (cap_at w c p) (len_at w c p) hash (λ j. accept (item_at w s.size c p j))) kept.controls
-      ∙ ap (λ n. found kind (table_controls w b p) n (len_at w c p) hash (λ j. accept (item_at w s.size c p j))) (sym (cap_same w b c p kept.header))
-      ∙ ap (λ n. found kind (table_controls w b p) (cap_at w b p) n hash (λ j. accept (item_at w s.size c p j))) (sym (len_same w b c p kept.header))
-      ∙ ap (λ n. found kind (table_controls w b p) (cap_at w b p) (len_at w b p) hash (λ j. accept (n - (j + 1) * s.size))) (sym (pos_same w b c p kept.header))
 
   pub written_kept : (hashes homes : List ℕ) → WrittenAt w b p hashes homes → WrittenAt w c p hashes homes
   written_kept hashes homes x = written_there w b c p kept.header (λ some. sym kept.controls) hashes homes x

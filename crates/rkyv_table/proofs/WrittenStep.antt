@@ -33,7 +33,7 @@ find_ext : (P Q : ℕ → Bool) (xs : List ℕ) → ((x : ℕ) → P x ≡ Q x) 
 find_ext P Q [] h = refl
 find_ext P Q (x ∷ xs) h = rw (h x, find_ext P Q xs h) refl
 
-probed_agree : (P Q : ℕ → Bool) (cap : ℕ) (ps : List ℕ) → 0 < cap → ((b : ℕ) → b < cap → P b ≡ Q b) → find P (flat_map (buckets_at cap) ps) ≡ find Q (flat_map (buckets_at cap) ps)
+pub probed_agree : (P Q : ℕ → Bool) (cap : ℕ) (ps : List ℕ) → 0 < cap → ((b : ℕ) → b < cap → P b ≡ Q b) → find P (flat_map (buckets_at cap) ps) ≡ find Q (flat_map (buckets_at cap) ps)
 probed_agree P Q cap [] pos h = refl
 probed_agree P Q cap (p ∷ ps) pos h =
     let one : find P (buckets_at cap p) ≡ find Q (buckets_at cap p) =

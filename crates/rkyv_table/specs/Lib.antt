@@ -21,9 +21,10 @@ unfoldable pub use Controls.Walking.{first_index, full_from, left}
 pub use Controls.Walking.{IsWalk}
 unfoldable pub use Controls.Wrapping.{IsWrappedAt}
 pub use Controls.Wrapping.{FirstUnwrapped}
-unfoldable pub use Controls.Laws.{AreHashes, BucketsAreProbed, FoundOnWritten, HomesAreOneList}
-unfoldable pub use Controls.Laws.{HomesExist, IsUnderHash, MarkedAreWalked, SearchIsBounded}
-unfoldable pub use Controls.Laws.{StridesCover, WalkedAreFull, WrittenAreOneList, WrittenAreValid}
+unfoldable pub use Controls.Laws.{AreHashes, BucketsAreProbed, FirstEmptyIsNextHome, FoundOnWritten}
+unfoldable pub use Controls.Laws.{HomesAreFirstEmpty, HomesAreOneList, HomesExist, IsUnderHash}
+unfoldable pub use Controls.Laws.{MarkedAreWalked, SearchIsBounded, StridesCover, WalkedAreFull}
+unfoldable pub use Controls.Laws.{WrittenAreOneList, WrittenAreValid}
 pub use Controls.Laws.{IsCover}
 unfoldable pub use Table.Header.{HeaderOverflows, cap_at, controls_pos, decode_begin, header_bytes}
 unfoldable pub use Table.Header.{len_at}
@@ -74,6 +75,7 @@ unfoldable pub use Table.WalkLaws.{WalkVisitsHomes}
 pub use Table.WalkLaws.{VisitsHomes}
 unfoldable pub use Table.SealedTable.{KeptByValueWrites, KeptByWrites, RestsOnKey}
 pub use Table.SealedTable.{KeepsTable, SameLookups, SameValue, WritesValue}
+unfoldable pub use Table.NestedWrites.{RestsOnParts}
 pub use Table.NestedWrites.{IsValidBefore, StaysAt, WritesAmongParts}
 unfoldable pub use Table.SealedLookup.{AcceptedAt, CanCompareAt, ComparesByAt, IsReadAt}
 unfoldable pub use Table.SealedLookup.{IsTableSeal, SealsFirst, SealsFound, pos_of_seal}
@@ -85,8 +87,8 @@ unfoldable pub use Table.Misplaced.{repeated, repeats_earlier}
 pub use Table.Misplaced.{AcceptsSame, AloneAccepted, IsSameness}
 unfoldable pub use Table.WrittenTables.{ItemsWrittenRepresent, RepresentedWereWritten}
 pub use Table.WrittenTables.{IsWrittenOf}
-unfoldable pub use Table.FirstItem.{AgreesAt, AreUnder, IsFirstOf, LookupFindsFirst, TestsAgree}
-unfoldable pub use Table.FirstItem.{first_of}
+unfoldable pub use Table.FirstItem.{AgreesAt, AreUnder, IsFirstOf, LookupFindsFirst, first_of}
+unfoldable pub use Table.FirstItem.{first_pos}
 unfoldable pub use Table.Passing.{IsValidAround, WrittenTablesPass}
 pub use Table.OneWay.{WritesOneWay}
 unfoldable pub use Table.Bare.{AcceptedOf, CanCompareOf, ComparesByOf, ReadsExactly, WritesFound}

@@ -26,7 +26,7 @@ fn is_looked_over<W: Width>(alloc: Global, end: u64) -> bool {
     }
     let items = [10u8, 20, 30];
     let hashes = [2u64, 2, 5];
-    match write_and_look_over::<W, u8, &u8, _, _, _>(
+    let result = write_and_look_over::<W, u8, &u8, _, _, _>(
         alloc,
         items.iter(),
         hashes.iter().copied(),
@@ -35,7 +35,8 @@ fn is_looked_over<W: Width>(alloc: Global, end: u64) -> bool {
         &mut writer,
         2,
         |item| item.to_native() > 10,
-    ) {
+    );
+    match result {
         Ok(report) => is_report(&report, &[3, 2, 1], Some(1), 1) && writer.pos() == end,
         Err(_) => false,
     }

@@ -1,14 +1,14 @@
 -- Laws of the probe sequence and of written control bytes.
 use Rattle.std.specs.Prelude.{◌≡◌, ℕ, ◌+◌, ◌*◌, ◌%◌, ◌/◌, ◌<◌, ◌≤◌, ◌^◌, ◌↔◌, List, Bool, true, eqb}
-use Rattle.std.specs.Prelude.{length, slice_index}
+use Rattle.std.specs.Prelude.{[], ◌∷◌, ◌++◌, Some, length, slice_index}
 use Rattle.std.specs.List.{All, Contains, IsDistinct, find}
 use Rattle.rkyv_scan.specs.{IsKind, Kind}
-use Rattle.rkyv_table.specs.Controls.ControlBytes.{IsFullBucket}
+use Rattle.rkyv_table.specs.Controls.ControlBytes.{HasRoom, IsFullBucket, empty_index, is_empty_at}
 use Rattle.rkyv_table.specs.Controls.Numbers.{probe_capacity, start}
 use Rattle.rkyv_table.specs.Controls.Probe.{probed, strides}
 use Rattle.rkyv_table.specs.Controls.Placing.{AreHomes, AreValidControls, AreWrittenControls}
-use Rattle.rkyv_table.specs.Controls.Placing.{homes, walk, written_controls}
-use Rattle.rkyv_table.specs.Controls.Finding.{found, marked, probe_length}
+use Rattle.rkyv_table.specs.Controls.Placing.{IsWrapped, homes, walk, written_controls}
+use Rattle.rkyv_table.specs.Controls.Finding.{found, marked, probe_length, stride_has_empty}
 
 -- `indices`: all indices below the probe capacity that are congruent to the start modulo 16,
 -- each once
@@ -34,6 +34,24 @@ AreHashes = All (λ hash. hash < 2 ^ 64)
 abbrev pub HomesExist : Type 0
 HomesExist = (cap : ℕ) (hashes : List ℕ) → length hashes < cap
     → AreHomes cap hashes (homes cap hashes)
+
+-- the index `q` of the first empty control byte in the order of the strides is below `2 * cap`,
+-- and its bucket is the first probed one that is empty
+abbrev pub HomesAreFirstEmpty : Type 0
+HomesAreFirstEmpty = (hash cap : ℕ) (controls : List ℕ) → IsWrapped cap controls
+    → HasRoom cap controls → (p : ℕ) × (q : ℕ)
+    × (find (stride_has_empty controls) (strides hash cap) ≡ Some p)
+    × (empty_index controls p ≡ Some q) × (q < 2 * cap)
+    × (find (is_empty_at controls) (probed hash cap) ≡ Some (q % cap))
+
+-- in written control bytes of fewer items than buckets, the bucket of the first empty control
+-- byte in the order of the strides of `hash` is the home bucket of the next item, under `hash`
+abbrev pub FirstEmptyIsNextHome : Type 0
+FirstEmptyIsNextHome = (hash cap : ℕ) (hashes xs controls : List ℕ) → length hashes < cap
+    → AreHashes hashes → AreWrittenControls cap hashes xs controls → (p : ℕ) × (q : ℕ)
+    × (find (stride_has_empty controls) (strides hash cap) ≡ Some p)
+    × (empty_index controls p ≡ Some q) × (q < 2 * cap)
+    × AreHomes cap (hashes ++ hash ∷ []) (xs ++ q % cap ∷ [])
 
 -- the capacity and the hashes determine the home buckets
 abbrev pub HomesAreOneList : Type 0

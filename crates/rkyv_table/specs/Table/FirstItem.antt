@@ -2,10 +2,11 @@
 use Rattle.std.specs.Prelude.{◌≡◌, ℕ, ◌^◌, ◌<◌, Bool, true, List, slice_get, slice_index, Option}
 use Rattle.std.specs.Prelude.{MatchOption, None, Some}
 use Rattle.std.specs.Int.{Width}
-use Rattle.std.specs.List.{All, find}
+use Rattle.std.specs.List.{All, find, position}
+use Rattle.std.specs.Option.{option_map}
 use Rattle.rkyv_base.specs.{ElementSpec}
 use Rattle.rkyv_scan.specs.{IsKind, Kind}
-use Rattle.rkyv_table.specs.Table.Positions.{pos_found}
+use Rattle.rkyv_table.specs.Table.Positions.{home_positions, pos_found}
 use Rattle.rkyv_table.specs.Table.WrittenTables.{IsWrittenOf}
 use Rattle.rkyv_table.specs.Table.PlacedItems.{items_of}
 
@@ -16,12 +17,6 @@ first_of accept items = find accept items
 -- each accepted item is under `hash`
 abbrev pub AreUnder : {X : Type 0} → ℕ → (X → Bool) → List (ℕ × X) → Type 0
 AreUnder hash accept pairs = All (λ pair. accept pair.1 ≡ true → pair.0 ≡ hash) pairs
-
--- the test of positions and `accept` agree on each item and its position
-abbrev pub TestsAgree : {X : Type 0} → (List ℕ → ℕ → X → Type 0) → List ℕ → (X → Bool) → List X
-    → (ℕ → Bool) → Type 0
-TestsAgree {X} represents c accept items accept_at =
-    (i q : ℕ) (x : X) → slice_get items i ≡ Some x → represents c q x → accept_at q ≡ accept x
 
 -- `accept_at` returns at the position of each item what `accept` returns for the item
 abbrev pub AgreesAt : {X : Type 0} → List ℕ → List X → (X → Bool) → (ℕ → Bool) → Type 0
@@ -35,13 +30,20 @@ IsFirstOf {X} represents c accept items result =
     MatchOption result (first_of accept items ≡ None)
     (λ q. (x : X) × (first_of accept items ≡ Some x) × represents c q x)
 
--- a lookup in a table that was written from the pairs finds the first accepted item,
--- if each accepted item is under `hash`
+-- the position of the first accepted item, or `None` if no item is accepted.
+-- `positions`: those of the items, in the same order
+abbrev pub first_pos : {X : Type 0} → List ℕ → (X → Bool) → List X → Option ℕ
+first_pos positions accept items = option_map (slice_index positions) (position accept items)
+
+-- a lookup in a table that was written from the pairs finds the first accepted item, at the
+-- position of its home bucket, if each accepted item is under `hash`
 abbrev pub LookupFindsFirst : {X : Type 0} → Width → ElementSpec → (List ℕ → ℕ → X → Type 0)
     → Type 0
 LookupFindsFirst {X} w s represents =
     (kind : Kind) (c : List ℕ) (p hash : ℕ) (pairs : List (ℕ × X)) (accept : X → Bool)
     (accept_at : ℕ → Bool) → IsKind kind → hash < 2 ^ 64
-    → IsWrittenOf w s.size represents c p pairs
-    → AreUnder hash accept pairs → TestsAgree represents c accept (items_of pairs) accept_at
+    → (of : IsWrittenOf w s.size represents c p pairs) → AreUnder hash accept pairs
+    → AgreesAt (home_positions w s.size c p of.homes) (items_of pairs) accept accept_at
     → IsFirstOf represents c accept (items_of pairs) (pos_found kind w s.size c p hash accept_at)
+    × (pos_found kind w s.size c p hash accept_at
+    ≡ first_pos (home_positions w s.size c p of.homes) accept (items_of pairs))

@@ -1,5 +1,5 @@
 -- Values that are written among their parts, as a map that is the value of another map.
-use Rattle.std.specs.Prelude.{ℕ, ◌+◌, ◌-◌, ◌≤◌, List}
+use Rattle.std.specs.Prelude.{◌≡◌, ℕ, ◌+◌, ◌-◌, ◌≤◌, Bool, List}
 use Rattle.rkyv_base.specs.{AgreeOn, ElementSpec, ModifiesOnly, StaysValid}
 
 -- `c`: bytes `b` after a write among the parts of the value at `q`. A valid value
@@ -23,3 +23,7 @@ pub record StaysAt (s : ElementSpec) (b c : List ℕ) (q : ℕ) : Type 0 where
   pub valid : IsValidBefore s b q
   pub fixed : AgreeOn b c q (q + s.size)
   pub parts : AgreeOn b c valid.lower valid.rest
+
+-- `fits` of a key depends only on the bytes of the key and on those of its parts
+abbrev pub RestsOnParts : ElementSpec → (List ℕ → ℕ → Bool) → Type 0
+RestsOnParts k fits = (b c : List ℕ) (q : ℕ) → StaysAt k b c q → fits c q ≡ fits b q

@@ -1,5 +1,6 @@
 //! Laws of the probe sequence and of written control bytes, over their definitions alone.
-ghost use Rattle.rkyv_table.specs.{BucketsAreProbed, FoundOnWritten, HomesAreOneList, HomesExist};
+ghost use Rattle.rkyv_table.specs.{BucketsAreProbed, FirstEmptyIsNextHome, FoundOnWritten};
+ghost use Rattle.rkyv_table.specs.{HomesAreFirstEmpty, HomesAreOneList, HomesExist};
 ghost use Rattle.rkyv_table.specs.{MarkedAreWalked, SearchIsBounded, StridesCover, WalkedAreFull};
 ghost use Rattle.rkyv_table.specs.{WrittenAreOneList, WrittenAreValid};
 
@@ -19,6 +20,22 @@ pub fn buckets_are_probed()
 /// States that each of fewer items than buckets has a home bucket.
 pub fn homes_exist()
     ensures { HomesExist }
+{}
+
+/// States that the first empty control byte of the strides is in the first empty probed bucket.
+///
+/// There is one if some bucket is empty and the control bytes mirror those of the buckets. Its
+/// index is below twice the capacity.
+pub fn homes_are_first_empty()
+    ensures { HomesAreFirstEmpty }
+{}
+
+/// States that the first empty control byte of the strides is in the home bucket of the next item.
+///
+/// The control bytes are those of a written table with fewer items than buckets. The home buckets
+/// of all items are `homes` of all hashes, by `homes_are_one_list`.
+pub fn first_empty_is_next_home()
+    ensures { FirstEmptyIsNextHome }
 {}
 
 /// States that the home buckets are determined by the capacity and the hashes.

@@ -37,8 +37,10 @@ pub fn positions_are_yielded<'a, T: 'a>()
 
 /// States that a lookup in a written table finds the first accepted item of its list.
 ///
-/// It returns `None` if and only if no item is accepted. Each accepted item must be under the hash
-/// of the lookup. After a write in place, the list is that of `items_written_represent`.
+/// The result is the position of that very item, in its home bucket. It is `None` if and only if
+/// no item is accepted. At the position of each item, the comparison must return what `accept`
+/// returns for the item. Each accepted item must be under the hash of the lookup. After a write in
+/// place, the list is that of `items_written_represent`.
 pub fn lookups_find_the_first<W: Width, U: Archive<W>, X: Lend<U>>()
     ensures { LookupFindsFirst W.word U.Archived.spec (RepresentsAs X.lent U.Archived.represents) }
 {}

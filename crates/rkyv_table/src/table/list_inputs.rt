@@ -1,6 +1,6 @@
 //! Iterators over the items of a list, as the input of a call that writes a table.
 //!
-//! They return pairs by halves, items by reference, and keys with the unit value.
+//! They return a pair as two references, an item by reference, and a key with the unit value.
 
 ghost use Rattle.std.specs.Iterator.{YieldsFirstBy, at_most};
 ghost use Rattle.std.specs.Prelude.{length, ◌≡◌};

@@ -4,8 +4,8 @@
 //! - `get_counted` also counts the strides that are read.
 //! - `get_by` takes the kind of group, and the others use `simd::paired::Group`.
 //!
-//! A lookup in an untrusted table may read every group of its control bytes once. In any table
-//! it reads at most ceil(capacity / 16) strides.
+//! A lookup in an untrusted table may read all of its control bytes. In any table it reads
+//! at most ceil(capacity / 16) strides, each of sixteen control bytes.
 ghost use Rattle.std.specs.Prelude.{◌^◌, ◌≤◌};
 ghost use Rattle.rkyv_base.specs.declared.view.View.{View};
 ghost use Rattle.rkyv_scan.specs.{generic_kind};
@@ -61,7 +61,7 @@ impl<'a, T: Element, W: Width> ArchivedHashTable<'a, T, W> {
     /// which item it is. In a written table, it is the first accepted item in insertion order
     /// if each accepted item is under `hash`.
     ///
-    /// A lookup in an untrusted table may read every group of its control bytes once.
+    /// A lookup in an untrusted table may read all of its control bytes.
     ///
     /// # Requires
     ///

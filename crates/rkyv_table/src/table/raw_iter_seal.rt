@@ -268,6 +268,8 @@ impl<'a, N: Scalar> RawIterSeal<'a, N> {
 impl<'a, T: Element, W: Width> ArchivedHashTable<'a, T, W> {
     /// Returns a cursor over the items of a sealed table, in bucket order.
     ///
+    /// The contract of `raw_iter_over` also covers the bytes of the archive afterwards.
+    ///
     /// # Requires
     ///
     /// - The archive has a valid table at the position of the seal.

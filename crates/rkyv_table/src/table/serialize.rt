@@ -168,7 +168,7 @@ impl<'a, T: HasSpec, W: Width> ArchivedHashTable<'a, T, W> {
     ///
     /// - `InvalidLoadFactor`: the load factor isn't above 0 and at most 1.
     /// - `CapacityTooLarge`: the capacity is above `W::MAX_CAPACITY`.
-    /// - `Memory`: memory for placing the items could not be allocated.
+    /// - `Memory`: `len` isn't 0, and memory for placing the items could not be allocated.
     /// - `IteratorLengthMismatch`: the number of items isn't `len`, or else the number of hashes
     ///   isn't. The number is counted up to `len + 1`.
     /// - The error of the first item or piece that fails.

@@ -263,6 +263,8 @@ fn all_write(alloc: Global, cap: usize, hashes: &[u64], homes: &[usize], front: 
 #[test]
 fn items_are_placed(rt: HostRuntime) {
     laws::homes_exist();
+    laws::homes_are_first_empty();
+    laws::first_empty_is_next_home();
     laws::homes_are_one_list();
     laws::written_are_one_list();
     laws::written_are_valid();
