@@ -16,6 +16,7 @@ pub mod StdFinding
 pub mod StdListing
 pub mod WrittenRoots
 pub mod FoundPairs
+pub mod ListedLookups
 pub mod FoundValues
 pub mod WalkedPairs
 pub mod FoundEntries

@@ -15,6 +15,7 @@ use Rattle.rkyv_table.specs.{IsWalked, StaysAt, WritesAmongParts, WritesValue, h
 use Rattle.rkyv_table.specs.Lemmas.ItemPositions.{item_is_valid, valid_part}
 use Rattle.rkyv_table.specs.Lemmas.SameHeader.{item_same}
 use Rattle.rkyv_table.proofs.ValidTable.{item_viewable}
+use Rattle.rkyv_table.proofs.SameLookups.{pos_found_same}
 use Rattle.rkyv_table.proofs.SameTable.{written_there}
 use Rattle.rkyv_table.proofs.SealedTable.{value_kept}
 use Rattle.rkyv_table.proofs.NestedEntries.{entry_written, key_of_other, key_of_own, represents_on, value_of_other}
@@ -60,6 +61,9 @@ module _ (w : Width) (k v : ElementSpec) (kl : IsElement k) (vl : IsElement v) (
     keys = key_stays;
     values = λ j there ne. value_of_other k v kl vl b c (at j) (kept.others j there ne);
     hashes = hash_stays;
+    lookups = λ hash fits small rests.
+        pos_found_same w b c p kept.header kept.controls E (entry_element k v kl vl) view hash small (fits c) (fits b)
+        (λ j there. rests b c (at j) (key_stays j there));
     written = λ homes written.
         written_again w E key_hash b c p pos_stays hash_stays homes written
         (written_there w b c p kept.header (λ some. sym kept.controls) (map (key_hash b) (home_positions w E.size b p homes)) homes written);

@@ -2,6 +2,7 @@
 use Rattle.rkyv_base.specs.declared.element.HasSpec.{Ghosts as Specs}
 use Rattle.rkyv_base.specs.declared.width.Word.{Ghosts as Words}
 use Rattle.std.proofs.Common.{◌≡◌, ℕ, ◌+◌, ◌≤◌, ◌∙◌, sym, ap, subst, Bool, List, None, Option, Some, length}
+use Rattle.std.proofs.lemmas.Option.{IfSome_then}
 use Rattle.std.specs.Borrow.{Bor}
 use Rattle.std.specs.Int.{Width}
 use Rattle.std.specs.Prelude.{IfSome}
@@ -12,7 +13,7 @@ use Rattle.rkyv_table.proofs.ValidTable.{item_viewable}
 use Rattle.rkyv_table.proofs.Moved.{moved}
 use Rattle.rkyv_table.proofs.SealedTable.{value_kept}
 use Rattle.rkyv_base.specs.declared.entry.Entry.{Entry}
-use Rattle.rkyv_collections.specs.{AreUnderHashAt, ComparesKeysBy, ComparesKeysByAt, FindsBy, FindsByAt, FindsFirstBy, FindsFirstByAt, FindsFirstKey, FindsFirstKeyAt, FindsKey, FindsKeyAt, FindsOneKey, FindsOneKeyAt, FoundByHasAt, FoundKeyHasAt, IsAcceptedKey, IsAcceptedKeyAt, IsEntryIn, IsKeyAt, IsKeyIn, IsKeyPosAt, IsPairPos, IsValueIn, IsViewAt, MapAt, map_at, map_bytes, map_pos, map_spec}
+use Rattle.rkyv_collections.specs.{AreUnderHashAt, ComparesKeysBy, ComparesKeysByAt, FindsBy, FindsFirstBy, FindsFirstKey, FindsFirstKeyAt, FindsKey, FindsKeyAt, FindsOneKey, FindsOneKeyAt, FoundByHasAt, FoundKeyHasAt, IsAcceptedKey, IsEntryIn, IsKeyAt, IsKeyIn, IsKeyPosAt, IsPairPos, IsValueIn, IsViewAt, MapAt, map_at, map_bytes, map_pos, map_spec}
 use Rattle.rkyv_keys.specs.{KeyLookup}
 use Rattle.rkyv_collections.specs.declared.map.ArchivedHashMap.{ArchivedHashMap}
 
@@ -72,11 +73,6 @@ module _ {K V H W : Type 0} {ks : Specs K} {vs : Specs V} {wt : Words W} (m : Ar
     compares_read : (post : View K → Bool → Type 0) (accept : ℕ → Bool) → ComparesKeysByAt wt.word ks.spec vs.spec b p post accept → ComparesKeysBy m post accept
     compares_read post accept compares key r is compared = compares key r (key_at key is) compared
 
-    -- an accepted key, by its position
-    pub accepted_read : (post : View K → Bool → Type 0) (key_pos : Option ℕ) → IfSome key_pos (IsAcceptedKey m post) → IfSome key_pos (IsAcceptedKeyAt wt.word ks.spec vs.spec b p post)
-    accepted_read post None accepted = tt
-    accepted_read post (Some q) accepted = (accepted.0, key_at accepted.0 accepted.1, accepted.2, accepted.3)
-
     -- a found entry has its key in the map, and a found value is behind a key
     pub entry_read : (result : Option (View (Entry K V))) (pos : Option ℕ) → IsViewAt result pos → IfSome result (IsEntryIn m) → IfSome pos (IsKeyPosAt wt.word ks.spec vs.spec b p)
     entry_read result pos at found =
@@ -96,12 +92,14 @@ module _ {K V H W : Type 0} {ks : Specs K} {vs : Specs V} {wt : Words W} (m : Ar
       pub first_key_read : (key_hash : List ℕ → ℕ → ℕ) (fits : List ℕ → ℕ → Bool) → FindsFirstKey m key_hash (fits (map_bytes m)) Fact → FindsFirstKeyAt wt.word ks.spec vs.spec b p key_hash (fits b) Implied
       first_key_read key_hash fits found = λ homes written. implies _ (as_read (λ c q. FindsFirstKeyAt wt.word ks.spec vs.spec c q key_hash (fits c) Fact) found homes written)
 
-      pub by_read : (post : View K → Bool → Type 0) (hash : ℕ) → FindsBy m post hash Fact → FindsByAt wt.word ks.spec vs.spec b p post hash Implied
-      by_read post hash found = λ accept compares. key_read hash (λ c. accept) (found accept (compares_read post accept compares))
-
-      pub first_by_read : (post : View K → Bool → Type 0) (hash : ℕ) (key_hash : List ℕ → ℕ → ℕ) → FindsFirstBy m post hash key_hash Fact → FindsFirstByAt wt.word ks.spec vs.spec b p post hash key_hash Implied
-      first_by_read post hash key_hash found = λ accept compares under.
-          first_key_read key_hash (λ c. accept) (found accept (compares_read post accept compares) (moved (λ c q. AreUnderHashAt wt.word ks.spec vs.spec c q hash key_hash accept) b (map_bytes m) p (map_pos m) (sym bytes) (sym same_pos) under))
+      pub found_by_read : (hash : ℕ) (key_hash : List ℕ → ℕ → ℕ) (post : View K → Bool → Type 0) → ((key_pos : Option ℕ) × Fact key_pos × IfSome key_pos (IsAcceptedKey m post)) → FindsBy m post hash Fact → FindsFirstBy m post hash key_hash Fact
+          → FoundByHasAt (map_at wt ks vs b p) hash key_hash post Implied
+      found_by_read hash key_hash post accepted finds first = record {
+        accepted = (accepted.0, implies accepted.0 accepted.1, IfSome_then accepted.0 accepted.2 (λ q a. (a.0, key_at a.0 a.1, a.2, a.3)));
+        finds = λ accept compares. key_read hash (λ c. accept) (finds accept (compares_read post accept compares));
+        first = λ accept compares under.
+            first_key_read key_hash (λ c. accept) (first accept (compares_read post accept compares) (moved (λ c q. AreUnderHashAt wt.word ks.spec vs.spec c q hash key_hash accept) b (map_bytes m) p (map_pos m) (sym bytes) (sym same_pos) under));
+      }
 
       pub satisfies_read : (a : KeyLookup) → FindsKey m a.hash (a.fits (map_bytes m)) Fact → FindsFirstKey m a.key_hash (a.fits (map_bytes m)) Fact → FindsOneKey m a.key_hash a.same (a.fits (map_bytes m)) Fact → FoundKeyHasAt (map_at wt ks vs b p) a Implied
       satisfies_read a finds first complete = record {

@@ -1,35 +1,16 @@
--- Archives that were written of a map or a set of std represent the list of its entries.
-use Rattle.std.proofs.Common.{ℕ, Bool, List, true, ◌≡◌}
+-- Root maps that were written of a map or a set of std represent the list of its entries.
+use Rattle.std.proofs.Common.{ℕ, List}
 use Rattle.std.specs.Int.{Width}
-use Rattle.rkyv_scan.specs.{Hasher, HasherCall}
-use Rattle.rkyv_base.specs.{ElementSpec, Format, IsArchiveWord, IsElement, IsFormat, RootBytes, written_as}
-use Rattle.rkyv_base.specs.Lemmas.Pairs.{written_as-format}
-use Rattle.rkyv_keys.specs.{Comparison, FitsItsEqual, IsQuery, hash_at, hash_of}
-use Rattle.rkyv_table.specs.{listed}
-use Rattle.rkyv_collections.specs.Lemmas.MapSound.{listed_map_sound}
-use Rattle.rkyv_collections.specs.{MapRepresents, map_format, map_root, map_spec, of_entries}
+use Rattle.rkyv_base.specs.{ElementSpec, Format, IsArchiveWord, IsElement, IsFormat, RootBytes}
+use Rattle.rkyv_collections.specs.{MapRepresents, map_root, map_spec}
 use Rattle.rkyv_collections.specs.Lemmas.MapElement.{map_element}
 use Rattle.rkyv_collections.proofs.WrittenRoots.{root_keeps}
 
--- a relation that the format of a list keeps is kept for entries with distinct keys
-distinct_keep : {A B R : Type 0} (s : ElementSpec) (keeps : List ℕ → ℕ → List (A × B) → Type 0) (equal : A → A → Bool) (f : Format (List (A × B)) R) → IsFormat s keeps f → IsFormat s keeps (of_entries equal f)
-distinct_keep s keeps equal f law = record {
-  size_exact = law.size_exact;
-  exclusive = law.exclusive;
-  sound = λ entries r c p0 p part out parts. law.sound entries r c p0 p part out parts.1;
-}
-
-pub entries_listed : {State : Type 0} (hasher : Hasher State) (limit : ℕ) (w : Width) (kind : IsArchiveWord w) (max : ℕ) {k v : ElementSpec} (kl : IsElement k) (vl : IsElement v)
-    {A B X R S : Type 0} {key : List ℕ → ℕ → A → Type 0} {value : List ℕ → ℕ → B → Type 0} {same : Comparison} {key_calls : List ℕ → ℕ → List HasherCall}
-    {own_read : A → Type 0} {own_calls : A → List HasherCall} {own_fits : A → List ℕ → ℕ → Bool} (own : IsQuery k same key_calls own_read own_calls own_fits)
-    {equal : A → A → Bool} (native : FitsItsEqual k key equal own_fits) (itself : (a : A) → equal a a ≡ true) (reads : (a : A) → own_read a)
-    {key_format : Format A R} {value_format : Format B S} (key_law : IsFormat k key key_format) (value_law : IsFormat v value value_format) (entries : X → List (A × B)) (b : List ℕ) (x : X)
-    → RootBytes (map_spec w k v).align (written_as entries (of_entries equal (listed max (7, 8) (map_format w k v key_format value_format (hash_of hasher own_calls) (7, 8))))) x 0 b (map_root w k v b)
-    → MapRepresents w k v key value (hash_at hasher key_calls) (7, 8) b (map_root w k v b) (entries x)
-entries_listed hasher limit w kind max {k} {v} kl vl {key = key} {value = value} {key_calls = key_calls} {own_calls = own_calls} own {equal} native itself reads {key_format} {value_format} key_law value_law entries b x made =
-    let f = listed max (7, 8) (map_format w k v key_format value_format (hash_of hasher own_calls) (7, 8)) in
-    let keeps = MapRepresents w k v key value (hash_at hasher key_calls) (7, 8) in
-    root_keeps limit (map_spec w k v) (map_element w kind k v kl vl) (λ b p x. keeps b p (entries x)) (written_as entries (of_entries equal f))
-    (written_as-format entries (map_spec w k v) keeps (of_entries equal f)
-    (distinct_keep (map_spec w k v) keeps equal f (listed_map_sound hasher w kl vl (7, 8) max kind own native itself reads key_law value_law)))
-    x b (map_root w k v b) made
+-- the root map, if each map with the written bytes represents the list
+pub root_listed : (limit : ℕ) (w : Width) (kind : IsArchiveWord w) {k v : ElementSpec} (kl : IsElement k) (vl : IsElement v)
+    {A B X R : Type 0} {key : List ℕ → ℕ → A → Type 0} {value : List ℕ → ℕ → B → Type 0} {hash : List ℕ → ℕ → ℕ} (entries : X → List (A × B)) (f : Format X R)
+    → IsFormat (map_spec w k v) (λ b p x. MapRepresents w k v key value hash (7, 8) b p (entries x)) f
+    → (b : List ℕ) (x : X) → RootBytes (map_spec w k v).align f x 0 b (map_root w k v b)
+    → MapRepresents w k v key value hash (7, 8) b (map_root w k v b) (entries x)
+root_listed limit w kind {k} {v} kl vl {key = key} {value = value} {hash = hash} entries f law b x made =
+    root_keeps limit (map_spec w k v) (map_element w kind k v kl vl) (λ b p x. MapRepresents w k v key value hash (7, 8) b p (entries x)) f law x b (map_root w k v b) made

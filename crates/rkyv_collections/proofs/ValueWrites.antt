@@ -1,29 +1,22 @@
 -- A write of one value in place keeps the map. In the list that the map represents,
 -- only that value changes.
-use Rattle.std.proofs.Common.{◌≡◌, ℕ, ◌<◌, ◌^◌, ◌∙◌, inl, inr, refl, sym, ap, subst, arith, Bool, List, map, Option, Some, None, slice_index}
+use Rattle.std.proofs.Common.{◌≡◌, ℕ, ◌<◌, ◌^◌, ◌∙◌, inl, inr, sym, ap, subst, arith, Bool, List, map, Some, slice_index}
 use Rattle.std.specs.Prelude.{slice_get, slice_set}
 use Rattle.std.specs.Int.{Width}
-use Rattle.std.specs.Option.{option_map}
-use Rattle.std.proofs.lemmas.Bool.{cases_eq, eq-eqb}
+use Rattle.std.proofs.lemmas.Bool.{cases_eq}
 use Rattle.rkyv_scan.specs.{generic_kind}
-use Rattle.rkyv_scan.specs.Lemmas.KindLaws.{word_lawful}
 use Rattle.rkyv_base.specs.Lemmas.Bytes.{agree_on_part}
 use Rattle.rkyv_base.specs.{ElementSpec, IsElement, ModifiesOnly, RepresentsLocally, StaysValid, Viewable, entry_spec, value_pos}
 use Rattle.rkyv_base.specs.Lemmas.Entry.{entry_element, same_key, viewable_key}
 use Rattle.rkyv_base.specs.Lemmas.Pairs.{pair_local}
 use Rattle.rkyv_base.proofs.Sealing.{viewable_kept}
 use Rattle.rkyv_keys.specs.{HashLocal, RestsOnKeys}
-use Rattle.rkyv_table.specs.{IsWalked, KeepsTable, RestsOnKey, SameValue, WritesValue, bucket_found, cap_at, home_positions, item_at, len_at, pos_found, table_controls}
-use Rattle.rkyv_table.proofs.ValidTable.{controls_accepted, item_viewable, some_cap}
-use Rattle.rkyv_table.proofs.Misplaced.{found_agree}
-use Rattle.rkyv_table.proofs.SealedTable.{item_stays, lookup_kept, value_kept, written_kept}
-use Rattle.rkyv_table.proofs.Walks.{walked_full}
+use Rattle.rkyv_table.specs.{IsWalked, KeepsTable, RestsOnKey, RestsOnParts, SameValue, WritesValue, home_positions, item_at, pos_found}
+use Rattle.rkyv_table.proofs.SameLookups.{pos_found_same}
+use Rattle.rkyv_table.proofs.ValidTable.{item_viewable}
+use Rattle.rkyv_table.proofs.SealedTable.{item_stays, value_kept, written_kept}
 use Rattle.rkyv_collections.specs.{IsKeyPosAt, KeepsMap, MapRepresents, MapWrittenAt, entry_at, map_spec}
 use Rattle.rkyv_collections.proofs.NewValues.{home, new_value_represents, own_pos, own_walked, written_again}
-
-map_of_found : (f g : ℕ → ℕ) → ((i : ℕ) → f i ≡ g i) → (o : Option ℕ) → option_map f o ≡ option_map g o
-map_of_found f g same None = refl
-map_of_found f g same (Some i) = ap Some (same i)
 
 module _ (k v : ElementSpec) (kl : IsElement k) (vl : IsElement v) where
   -- an unchanged entry has an unchanged key
@@ -69,24 +62,11 @@ module _ (k v : ElementSpec) (kl : IsElement k) (vl : IsElement v) where
     pos_same : (j : ℕ) → item_at w S.size c p j ≡ item_at w S.size b p j
     pos_same = item_stays w S b c p i kept.0
 
-    bucket_same : (hash : ℕ) (fits : List ℕ → ℕ → Bool) → hash < 2 ^ 64 → RestsOnKey k fits
-        → bucket_found generic_kind w S.size b p hash (fits c) ≡ bucket_found generic_kind w S.size b p hash (fits b)
-    bucket_same hash fits small rests = elim (cases_eq (len_at w b p) 0) [
-      | inl none ↦ rw (eq-eqb (len_at w b p) 0 none) refl
-      | inr some ↦
-          let cap = some_cap w S law b p view (omega arith) in
-          found_agree generic_kind (cap_at w b p) (len_at w b p) hash (table_controls w b p) word_lawful (controls_accepted w S law b p view cap) small
-          (λ j. fits c (item_at w S.size b p j)) (λ j. fits b (item_at w S.size b p j))
-          (λ j there.
-          let full = walked_full (cap_at w b p) (table_controls w b p) j there in
-          rests b c (item_at w S.size b p j) (viewable_key k v kl vl b (item_at w S.size b p j) (entry_viewable j full)).valid (key_same j full))
-    ]
-
     lookup_same : (hash : ℕ) (fits : List ℕ → ℕ → Bool) → hash < 2 ^ 64 → RestsOnKey k fits
         → pos_found generic_kind w S.size c p hash (fits c) ≡ pos_found generic_kind w S.size b p hash (fits b)
     lookup_same hash fits small rests =
-        ap (option_map (item_at w S.size c p)) (lookup_kept w S b c p i kept.0 generic_kind hash (fits c) ∙ bucket_same hash fits small rests)
-        ∙ map_of_found (item_at w S.size c p) (item_at w S.size b p) pos_same (bucket_found generic_kind w S.size b p hash (fits b))
+        pos_found_same w b c p kept.0.header kept.0.controls S law view hash small (fits c) (fits b)
+        (λ j full. rests b c (item_at w S.size b p j) (viewable_key k v kl vl b (item_at w S.size b p j) (entry_viewable j full)).valid (key_same j full))
 
     written_same : (homes : List ℕ) → MapWrittenAt w S key_hash b p homes → MapWrittenAt w S key_hash c p homes
     written_same homes written =
@@ -104,9 +84,9 @@ module _ (k v : ElementSpec) (kl : IsElement k) (vl : IsElement v) where
       written = written_same;
     }
 
--- a comparison that depends only on the keys depends only on each key
-pub rests_on_each : {Q : Type 0} (k : ElementSpec) (can_read : Q → Type 0) (fits : Q → List ℕ → ℕ → Bool) → RestsOnKeys k can_read fits → (q : Q) → can_read q → RestsOnKey k (fits q)
-rests_on_each k can_read fits rests q ready b c p valid same = rests q b c p valid.0 ready valid.1 same.fixed (same.parts valid.0 valid.1)
+-- a comparison that depends only on the keys depends only on each key and its parts
+pub rests_on_parts : {Q : Type 0} (k : ElementSpec) (can_read : Q → Type 0) (fits : Q → List ℕ → ℕ → Bool) → RestsOnKeys k can_read fits → (q : Q) → can_read q → RestsOnParts k (fits q)
+rests_on_parts k can_read fits rests q ready b c p h = rests q b c p h.valid.lower h.valid.upper h.valid.rest ready h.valid.order h.valid.before h.valid.is_valid h.fixed h.parts
 
 -- the same for a key at `q` and its value at `pos`
 pub map_kept_at : (k v : ElementSpec) (kl : IsElement k) (vl : IsElement v) (w : Width) (key_hash : List ℕ → ℕ → ℕ) → HashLocal k key_hash → (b c : List ℕ) (p q pos : ℕ) → Viewable (map_spec w k v) b p

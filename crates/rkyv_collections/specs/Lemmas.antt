@@ -4,6 +4,7 @@ pub mod MapSound
 pub mod SetSound
 pub mod DistinctEntries
 pub mod PairHomes
+pub mod StdLists
 pub mod StdMapLaws
 pub mod StdEqualLaws
 pub mod StdOnce

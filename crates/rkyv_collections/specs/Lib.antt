@@ -16,8 +16,9 @@ unfoldable pub use StdMaps.StdLookups.{FindsEntries, FindsFirstAccepted, FindsFi
 unfoldable pub use StdMaps.StdLookups.{FindsInWrittenMap, FindsInWrittenSet, FindsMembers}
 unfoldable pub use StdMaps.StdLookups.{IsValueBehind}
 unfoldable pub use StdMaps.RoundTrips.{ArchivesRoundTrip}
-unfoldable pub use StdMaps.ListArchives.{IsNarrowWritten, IsWideWritten, WrittenMapsAreLists}
-unfoldable pub use StdMaps.ListArchives.{WrittenSetsAreLists}
+unfoldable pub use StdMaps.ListArchives.{IsListOfEntries, IsListOfKeys, IsNarrowWritten}
+unfoldable pub use StdMaps.ListArchives.{IsWideWritten, WrittenMapsAreLists, WrittenMapsListEntries}
+unfoldable pub use StdMaps.ListArchives.{WrittenSetsAreLists, with_relation}
 pub use StdMaps.ListArchives.{IsWrittenArchive}
 unfoldable pub use Map.{AreUnderHash, AreUnderHashAt, CanCompareKeys, ComparesKeysBy, FindsBy}
 unfoldable pub use Map.{FindsFirstBy, FindsFirstKey, FindsFirstKeyAt, FindsKey, FindsKeyAt}
@@ -64,8 +65,8 @@ unfoldable pub use Map.ListArchives.{FoundAreListed, IsTextMapUnder, OpensTextMa
 unfoldable pub use Map.ListArchives.{TextMapRepresents, TextMapResult, TextPairs, first_of_text}
 unfoldable pub use Map.ListArchives.{map_root, text_found, text_map_format, text_map_spec}
 pub use Map.ListArchives.{IsTextMap}
-unfoldable pub use Map.NestedWrites.{NestedWritesKeepMaps, NestedWritesRepresent}
-unfoldable pub use Map.NestedWrites.{ValueWritesAreNested}
+unfoldable pub use Map.NestedWrites.{NestedWritesKeepLookups, NestedWritesKeepMaps}
+unfoldable pub use Map.NestedWrites.{NestedWritesRepresent, ValueWritesAreNested}
 pub use Map.NestedWrites.{KeepsOuterMap}
 unfoldable pub use Map.InPlaceText.{UppercasesFirst, UppercasesFound, UppercasesText}
 unfoldable pub use Map.InPlaceText.{list_after_uppercase, map_to_texts_at, map_to_texts_spec}
@@ -73,7 +74,7 @@ unfoldable pub use Map.InPlaceText.{uppercase_text, with_first_uppercase}
 unfoldable pub use Set.{FoundMemberHas, GetsMember, IsSetAt, member_positions, set_archive}
 unfoldable pub use Set.{set_bytes, set_cap, set_equal, set_len, set_misplaced, set_pos, set_spec}
 unfoldable pub use Set.{set_view}
-unfoldable pub use Set.ListArchives.{MembersFoundAreListed, set_root}
+unfoldable pub use Set.ListArchives.{MembersFoundAreListed, SetLookupsFindListed, set_root}
 unfoldable pub use Set.SetFormat.{SetRepresents, WrittenSetsRepresent, set_format}
 unfoldable pub use Listed.{map_list, map_list_format, pairs_under, set_list, set_list_format}
 unfoldable pub use Listed.{std_map_format}

@@ -3,6 +3,7 @@
 //! - `hashed` has the wrapper for archiving them.
 //! - `equality` compares them with archived maps and sets.
 //! - `round_trip` writes, opens and compares them, and `laws` has the laws of their archives.
+//! - `nested` has the laws of maps and sets of std that are values of maps of std.
 
 mod deserialize;
 pub mod equality;
@@ -10,4 +11,5 @@ mod hash_map;
 mod hash_set;
 pub mod hashed;
 pub mod laws;
+pub mod nested;
 pub mod round_trip;

@@ -1,1 +1,2 @@
 pub mod InMaps
+pub mod InStdMaps

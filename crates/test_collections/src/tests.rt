@@ -22,6 +22,7 @@ mod in_place;
 mod lists;
 mod lookups;
 mod nested;
+mod nested_std;
 mod opened;
 mod query_results;
 mod reading;

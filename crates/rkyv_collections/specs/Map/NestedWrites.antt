@@ -1,9 +1,11 @@
 -- Maps with a value that is written among its parts, as a map that is a value.
-use Rattle.std.specs.Prelude.{◌≡◌, ◌≢◌, ℕ, ◌+◌, ◌*◌, List, Some}
+use Rattle.std.specs.Prelude.{◌≡◌, ◌≢◌, ℕ, ◌+◌, ◌*◌, ◌<◌, ◌^◌, Bool, List, Some}
 use Rattle.std.specs.Int.{Width, byte_len}
 use Rattle.std.specs.Option.{option_map}
+use Rattle.rkyv_scan.specs.{generic_kind}
 use Rattle.rkyv_base.specs.{AgreeOn, ElementSpec, Viewable, entry_spec, value_pos}
-use Rattle.rkyv_table.specs.{IsWalked, StaysAt, WritesAmongParts, WritesValue, table_controls}
+use Rattle.rkyv_table.specs.{IsWalked, RestsOnParts, StaysAt, WritesAmongParts, WritesValue}
+use Rattle.rkyv_table.specs.{pos_found, table_controls}
 use Rattle.rkyv_collections.specs.Map.InPlace.{with_first}
 use Rattle.rkyv_collections.specs.Map.{FindsFirstKeyAt, MapWrittenAt}
 use Rattle.rkyv_collections.specs.Map.MapSpec.{IsKeyPosAt, map_spec}
@@ -14,7 +16,8 @@ use Rattle.rkyv_collections.specs.Map.ValueWrites.{entry_at}
 module _ (w : Width) (k v : ElementSpec) where
   -- The map at `p` in `b`, after a write among the parts of the value in bucket `i`, is a map
   -- in `c`. Its header, its control bytes, the positions of its entries,
-  -- all keys and all other values are unchanged. A written map is still one,
+  -- all keys and all other values are unchanged. Each lookup that depends only on the key
+  -- and its parts finds the same key. A written map is still one,
   -- and the write is among the parts of the map
   pub record KeepsOuterMap (key_hash : List ℕ → ℕ → ℕ) (b c : List ℕ) (p i : ℕ) : Type 0 where
     pub valid : Viewable (map_spec w k v) c p
@@ -27,6 +30,9 @@ module _ (w : Width) (k v : ElementSpec) where
         → StaysAt v b c (value_pos k v (entry_at w k v b p j))
     pub hashes : (j : ℕ) → IsWalked w b p j
         → key_hash c (entry_at w k v b p j) ≡ key_hash b (entry_at w k v b p j)
+    pub lookups : (hash : ℕ) (fits : List ℕ → ℕ → Bool) → hash < 2 ^ 64 → RestsOnParts k fits
+        → pos_found generic_kind w (entry_spec k v).size c p hash (fits c)
+        ≡ pos_found generic_kind w (entry_spec k v).size b p hash (fits b)
     pub written : (homes : List ℕ) → MapWrittenAt w (entry_spec k v) key_hash b p homes
         → MapWrittenAt w (entry_spec k v) key_hash c p homes
 
@@ -41,6 +47,16 @@ module _ (w : Width) (k v : ElementSpec) where
   NestedWritesKeepMaps key_hash =
       (b c : List ℕ) (p q : ℕ) → Viewable (map_spec w k v) b p → (at : IsKeyPosAt w k v b p q)
       → WritesAmongParts v b c (value_pos k v q) → KeepsOuterMap key_hash b c p at.0
+
+  -- after a write among the parts of the value of a key, each query `q` finds the same key.
+  -- `hash q`: its hash
+  abbrev pub NestedWritesKeepLookups : {Q : Type 0} → (Q → Type 0) → (Q → ℕ)
+      → (Q → List ℕ → ℕ → Bool) → Type 0
+  NestedWritesKeepLookups {Q} can_read hash fits =
+      (b c : List ℕ) (p pos : ℕ) → Viewable (map_spec w k v) b p → IsKeyPosAt w k v b p pos
+      → WritesAmongParts v b c (value_pos k v pos) → (q : Q) → can_read q
+      → pos_found generic_kind w (entry_spec k v).size c p (hash q) (fits q c)
+      ≡ pos_found generic_kind w (entry_spec k v).size b p (hash q) (fits q b)
 
   -- The map represents a list of pairs, and the value of the first pair with a key
   -- equal to `query` is written among its parts. The map then represents

@@ -1,6 +1,6 @@
 -- Archives that were written of a map or a set of std, as archives of the list of its entries.
-use Rattle.rkyv_base.specs.{ElementMembers, Format, IsValidArchive, RootBytes, narrow_limit}
-use Rattle.rkyv_base.specs.{wide_limit}
+use Rattle.rkyv_base.specs.{ElementMembers, Format, IsFormat, IsValidArchive, RootBytes}
+use Rattle.rkyv_base.specs.{narrow_limit, wide_limit}
 use Rattle.std.specs.Prelude.{ℕ, ◌-◌, List, length}
 use Rattle.std.specs.HashMap.{HashMap}
 use Rattle.std.specs.HashSet.{HashSet}
@@ -46,3 +46,27 @@ WrittenSetsAreLists {A} {S} {H} w k hash format =
     (b : List ℕ) (x : Hashed (HashSet A S) H)
     → RootBytes (set_spec w k.spec).align format x 0 b (set_root w k.spec b)
     → SetRepresents w k.spec k.represents hash (7, 8) b (set_root w k.spec b) x.map.keys
+
+-- the element, whose values have the relation `related` to the native values
+abbrev pub with_relation : {B C : Type 0} → ElementMembers B → (List ℕ → ℕ → C → Type 0)
+    → ElementMembers C
+with_relation v related = record { spec = v.spec; laws = v.laws; represents = related }
+
+-- the map at `p` represents the list of the entries of a map of std, under the load factor 7 / 8
+abbrev pub IsListOfEntries : {A B S H : Type 0} → Width → ElementMembers A → ElementMembers B
+    → (List ℕ → ℕ → ℕ) → List ℕ → ℕ → Hashed (HashMap A B S) H → Type 0
+IsListOfEntries w k v hash b p x =
+    MapRepresents w k.spec v.spec k.represents v.represents hash (7, 8) b p x.map.entries
+
+-- the set at `p` represents the list of the keys of a set of std, under the load factor 7 / 8
+abbrev pub IsListOfKeys : {A S H : Type 0} → Width → ElementMembers A → (List ℕ → ℕ → ℕ)
+    → List ℕ → ℕ → Hashed (HashSet A S) H → Type 0
+IsListOfKeys w k hash b p x =
+    SetRepresents w k.spec k.represents hash (7, 8) b p x.map.keys
+
+-- In any archive with the written bytes of a map of std, the map represents the list
+-- of its entries. `k`, `v`: its keys and values, `hash`: hash of the key at a position
+abbrev pub WrittenMapsListEntries : {A B S H R : Type 0} → Width → ElementMembers A
+    → ElementMembers B → (List ℕ → ℕ → ℕ) → Format (Hashed (HashMap A B S) H) R → Type 0
+WrittenMapsListEntries w k v hash format =
+    IsFormat (map_spec w k.spec v.spec) (IsListOfEntries w k v hash) format

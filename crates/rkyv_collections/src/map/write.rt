@@ -50,7 +50,7 @@ impl<'a, K: KeyElement, V: HasSpec, H: KeyHasher, W: Width> ArchivedHashMap<'a, 
     ///
     /// - `InvalidLoadFactor`: the load factor isn't above 0 and at most 1.
     /// - `CapacityTooLarge`: the capacity is above `W::MAX_CAPACITY`.
-    /// - `Memory`: memory for placing the pairs could not be allocated.
+    /// - `Memory`: `len` isn't 0, and memory for placing the pairs could not be allocated.
     /// - `IteratorLengthMismatch`: the number of pairs isn't `len`. The number is counted up
     ///   to `len + 1`.
     /// - The error of the first key, value or piece that fails.

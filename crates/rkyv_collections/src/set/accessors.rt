@@ -3,7 +3,7 @@
 //! `get` returns a view of the key that a query finds, and `contains` returns `true`
 //! if there is one.
 //!
-//! A lookup in an untrusted set may read every group of its control bytes once.
+//! A lookup in an untrusted set may read all of its control bytes.
 //! `FxHasher64` takes no secret key, so it doesn't protect from chosen input.
 
 ghost use Rattle.std.specs.Prelude.{IsTrue, length, ◌↔◌, ◌≡◌};
@@ -171,7 +171,7 @@ impl<'a, K: KeyElement, H: KeyHasher, W: Width> ArchivedHashSet<'a, K, H, W> {
     /// No key is missed if `misplaced` is 0. The lookup then finds the one key that the query
     /// matches, and `None` if and only if it matches none.
     ///
-    /// A lookup in an untrusted set may read every group of its control bytes once.
+    /// A lookup in an untrusted set may read all of its control bytes.
     ///
     /// # Requires
     ///
@@ -204,7 +204,7 @@ impl<'a, K: KeyElement, H: KeyHasher, W: Width> ArchivedHashSet<'a, K, H, W> {
 
     /// Returns `true` if and only if the query finds a key.
     ///
-    /// A lookup in an untrusted set may read every group of its control bytes once.
+    /// A lookup in an untrusted set may read all of its control bytes.
     ///
     /// # Requires
     ///

@@ -38,7 +38,7 @@ impl<'a, K: KeyElement, H: KeyHasher, W: Width> ArchivedHashSet<'a, K, H, W> {
     /// In a written set, it is the number of keys that are the same as an earlier key
     /// in insertion order. An untrusted set may have other misplaced keys.
     ///
-    /// Each key is looked up once, and each lookup may read every group of the control bytes.
+    /// Each key is looked up once, and each lookup may read all control bytes.
     /// Keys that share a hash cost a number of comparisons that is quadratic in their number.
     /// `FxHasher64` takes no secret key, so chosen keys can share one.
     #[inline]
@@ -57,8 +57,9 @@ impl<'a, K: KeyElement, H: KeyHasher, W: Width> ArchivedHashSet<'a, K, H, W> {
     /// The result is `None` if and only if the lookups of all keys read more than `limit` strides
     /// of sixteen control bytes, or more than 2^63.
     ///
-    /// It reads at most `limit` strides and those of one more lookup, so its cost on an untrusted
-    /// set is bounded.
+    /// By its code alone, it reads at most `limit` strides and those of one more lookup, so its
+    /// cost on an untrusted set is bounded. The contract of `misplaced_up_to_by` of tables also
+    /// says so.
     #[inline]
     pub fn misplaced_up_to(self, limit: u64) -> Option<usize>
         ensures { let key_hash = hash_at H.hasher K.key_calls in

@@ -3,7 +3,8 @@
 //! They are about iterations and lookups. `written` is about the bytes of written sets.
 
 ghost use Rattle.rkyv_collections.specs.{ComparedAlike, MembersFoundAreListed, QueriedAlike};
-ghost use Rattle.rkyv_collections.specs.{SetWalksVisitEach, WrittenAlike, set_list, set_spec};
+ghost use Rattle.rkyv_collections.specs.{SetLookupsFindListed, SetWalksVisitEach, WrittenAlike};
+ghost use Rattle.rkyv_collections.specs.{set_list, set_spec};
 ghost use Rattle.rkyv_base.specs.{SameSpec, SameValues, unit_spec};
 ghost use Rattle.rkyv_keys.specs.{hash_at, native_keys};
 
@@ -22,6 +23,20 @@ use rkyv_scan::hash::KeyHasher;
 /// The positions of a walk have the keys of the list, each once, in some order.
 pub fn walks_visit_each<A, K: KeyElement + Represents<A>, H: KeyHasher, W: Width>()
     ensures { SetWalksVisitEach W.word K.spec K.represents (hash_at H.hasher K.key_calls) }
+{}
+
+/// States that `contains` is `true` if and only if the represented list has an equal key.
+///
+/// The set may be the value of a map.
+pub fn lookups_find_listed<
+    A,
+    Q: NativeQuery<A, K>,
+    K: KeyElement + Represents<A>,
+    H: KeyHasher,
+    W: Width,
+>()
+    ensures { SetLookupsFindListed H W.Word K.HasSpec
+        (native_keys K.represents (hash_at H.hasher K.key_calls) Q.fits Q.equals) }
 {}
 
 /// States that `contains` in a root set is `true` if and only if the list has an equal key.

@@ -31,7 +31,8 @@ impl<'a, K: KeyElement, H: KeyHasher, W: Width> ArchivedHashSet<'a, K, H, W> {
     /// to the unit value. Equal keys are kept, and a lookup finds the first.
     ///
     /// By tests alone: the iterator is called at most `len + 1` times,
-    /// and not after it returned `None`.
+    /// and not after it returned `None`. No key is taken before an allocation failure
+    /// of this call.
     ///
     /// # Requires
     ///
@@ -41,7 +42,7 @@ impl<'a, K: KeyElement, H: KeyHasher, W: Width> ArchivedHashSet<'a, K, H, W> {
     ///
     /// - `InvalidLoadFactor`: the load factor isn't above 0 and at most 1.
     /// - `CapacityTooLarge`: the capacity is above `W::MAX_CAPACITY`.
-    /// - `Memory`: memory for placing the keys could not be allocated.
+    /// - `Memory`: `len` isn't 0, and memory for placing the keys could not be allocated.
     /// - `IteratorLengthMismatch`: the number of keys isn't `len`. The number is counted up
     ///   to `len + 1`.
     /// - The error of the first key or piece that fails.

@@ -71,8 +71,8 @@ impl<'a, K: KeyElement, V: HasSpec, H: KeyHasher, W: Width> ArchivedHashMap<'a, 
     /// They are equal if they have the same length, and a lookup of each key of `other` finds
     /// an equal value in this map.
     ///
-    /// Each pair of `other` costs a lookup. In an untrusted map, a lookup may read every group
-    /// of control bytes once.
+    /// Each pair of `other` costs a lookup. In an untrusted map, a lookup may read all control
+    /// bytes.
     ///
     /// # Examples
     ///

@@ -169,8 +169,8 @@ impl<'a, K: KeyElement, H: KeyHasher, W: Width> ArchivedHashSet<'a, K, H, W> {
     /// They are equal if they have the same length, and a lookup finds each key
     /// of `other` in this set.
     ///
-    /// Each key of `other` costs a lookup. In an untrusted set, a lookup may read every group
-    /// of control bytes once.
+    /// Each key of `other` costs a lookup. In an untrusted set, a lookup may read all control
+    /// bytes.
     #[inline]
     pub fn eq_std<A: NativeKey<K> + Hash, T: BuildHasher>(self, other: &HashSet<A, T>) -> bool
     where

@@ -17,7 +17,9 @@ use rkyv_base::scalars::Scalar;
 use rkyv_base::seal::set_at;
 use rkyv_base::view::View;
 use rkyv_base::width::{Narrow, Width};
-use rkyv_collections::map::laws::in_place::{value_writes_keep_maps, values_written_represent};
+use rkyv_collections::map::laws::in_place::{
+    value_writes_keep_lookups, value_writes_keep_maps, values_written_represent,
+};
 use rkyv_collections::map::{ArchivedHashMap, HashMapOf};
 use rkyv_keys::keys::{KeyElement, Query};
 use rkyv_scan::hash::{FxHasher64, KeyHasher};
@@ -153,6 +155,7 @@ fn replace_beside_key(
 #[test]
 fn a_found_value_is_written_in_place(rt: HostRuntime) {
     value_writes_keep_maps::<u32, u32, FxHasher64, Narrow>();
+    value_writes_keep_lookups::<u32, u32, u32, FxHasher64, Narrow>();
     values_written_represent::<u32, u32, u32, u32, FxHasher64, Narrow>();
     let mut bytes = one_number();
     let replaced = replace(&mut bytes, 1, 16_909_060).ok();
@@ -420,6 +423,25 @@ fn uppercase_three(bytes: &mut [u8]) -> Result<Option<usize>, VerifyError> {
     Ok(Some(uppercased))
 }
 
+// Returns whether a text is one of three.
+fn is_one_of(text: Option<&str>, texts: [&str; 3]) -> bool {
+    text == Some(texts[0]) || text == Some(texts[1]) || text == Some(texts[2])
+}
+
+// Returns the number of values that a cursor reads as one of three texts.
+fn texts_read(bytes: &mut [u8], texts: [&str; 3]) -> Result<usize, VerifyError> {
+    let mut rest = ArchivedHashMap::values_seal(text_seal(bytes)?);
+    let mut count = 0usize;
+    for _ in 0..rest.len() {
+        if let Some(seal) = rest.next_seal() {
+            if is_one_of(seal.as_str(), texts) {
+                count = count.wrapping_add(1);
+            }
+        }
+    }
+    Ok(count)
+}
+
 // Compares a value, writes it in upper case, and compares it again. Returns the three results.
 fn uppercase_and_read(bytes: &mut [u8]) -> [Option<Option<bool>>; 3] {
     [
@@ -454,6 +476,17 @@ fn each_uppercased(alloc: Global) -> Option<(Option<Option<usize>>, bool)> {
 #[test]
 fn each_text_is_uppercased_in_place(rt: HostRuntime) {
     expect_eq!(rt; each_uppercased(rt.alloc()), Some((Some(Some(3)), true)));
+}
+
+// Returns the number of texts of an archive of three that a cursor reads.
+fn read_in_place(alloc: Global) -> Option<usize> {
+    let mut bytes = archive_of(alloc, ["world", "bar", "wonderful"])?;
+    texts_read(bytes.as_mut_slice(), ["world", "bar", "wonderful"]).ok()
+}
+
+#[test]
+fn each_inline_text_is_read_by_a_cursor(rt: HostRuntime) {
+    expect_eq!(rt; read_in_place(rt.alloc()), Some(2));
 }
 
 // Writes a text out of line in upper case. Returns the result, and whether the archive is the same.

@@ -261,6 +261,8 @@ impl<'a, K: Element, N: Scalar, H, W> ValuesMut<'a, K, N, H, W> {
 impl<'a, K: Element, V: Element, H, W: Width> ArchivedHashMap<'a, K, V, H, W> {
     /// Returns a cursor over the pairs of a sealed map, in bucket order, for writing their values.
     ///
+    /// Once the cursor is dropped, no contract covers the bytes; that of `set_value_of` does.
+    ///
     /// # Requires
     ///
     /// - The archive has a valid map at the position of the seal.
@@ -295,7 +297,8 @@ impl<'a, K: Element, V: Element, H, W: Width> ArchivedHashMap<'a, K, V, H, W> {
 
     /// Returns a cursor over the pairs of the map at `pos` of an archive, for writing their values.
     ///
-    /// The pairs are in bucket order.
+    /// The pairs are in bucket order. Once the cursor is dropped, no contract covers the bytes;
+    /// that of `set_value_of` does.
     ///
     /// # Requires
     ///
@@ -315,6 +318,8 @@ impl<'a, K: Element, V: Element, H, W: Width> ArchivedHashMap<'a, K, V, H, W> {
     }
 
     /// Returns a cursor over the values of a sealed map, in bucket order, for writing them.
+    ///
+    /// Once the cursor is dropped, no contract covers the bytes; that of `set_value_of` does.
     ///
     /// # Requires
     ///
@@ -351,7 +356,8 @@ impl<'a, K: Element, V: Element, H, W: Width> ArchivedHashMap<'a, K, V, H, W> {
 
     /// Returns a cursor over the values of the map at `pos` of an archive, for writing them.
     ///
-    /// The values are in bucket order.
+    /// The values are in bucket order. Once the cursor is dropped, no contract covers the bytes;
+    /// that of `set_value_of` does.
     ///
     /// # Requires
     ///

@@ -6,7 +6,7 @@
 //! Take `found_with` of `map::in_place` if the contract must cover the bytes afterwards.
 //! That module has a table of all calls that write values.
 //!
-//! A lookup in an untrusted map may read every group of its control bytes once.
+//! A lookup in an untrusted map may read all of its control bytes.
 ghost use Rattle.std.specs.Prelude.{IfSome, length, ◌+◌, ◌≡◌, ◌≤◌};
 ghost use Rattle.rkyv_base.specs.{IsValidView, LiesIn, SealAt, Viewable, archive_in, bytes_in};
 ghost use Rattle.rkyv_base.specs.{pos_in, seal_pos, value_pos};
@@ -160,6 +160,8 @@ impl<'a, K: KeyElement, V: Element, H: KeyHasher, W: Width> ArchivedHashMap<'a, 
     ///
     /// The archive is cut in two at the start of the value. The view is of the front,
     /// and the seal is at the start of the back.
+    ///
+    /// The contract of `found_with` also covers the bytes of the archive afterwards.
     ///
     /// # Requires
     ///

@@ -24,7 +24,7 @@ use rkyv_scan::hash::KeyHasher;
 /// - `Some(false)`: the text is out of line. Nothing is written.
 /// - `None`: no key is found. Nothing is written.
 ///
-/// In an untrusted archive, the lookup may read every group of control bytes once.
+/// In an untrusted archive, the lookup may read all control bytes.
 ///
 /// # Requires
 ///

@@ -1,11 +1,11 @@
 //! Laws of writes among the parts of a value, as to a map that is the value of another map.
-ghost use Rattle.rkyv_keys.specs.{hash_at, native_keys};
-ghost use Rattle.rkyv_collections.specs.{NestedWritesKeepMaps, NestedWritesRepresent};
-ghost use Rattle.rkyv_collections.specs.{ValueWritesAreNested};
+ghost use Rattle.rkyv_keys.specs.{hash_at, hash_of, native_keys};
+ghost use Rattle.rkyv_collections.specs.{NestedWritesKeepLookups, NestedWritesKeepMaps};
+ghost use Rattle.rkyv_collections.specs.{NestedWritesRepresent, ValueWritesAreNested};
 
 use rkyv_base::element::{Element, Represents};
 use rkyv_base::width::Width;
-use rkyv_keys::keys::{KeyElement, NativeQuery};
+use rkyv_keys::keys::{KeyElement, NativeQuery, Query};
 use rkyv_scan::hash::KeyHasher;
 
 /// States that a write of one value that keeps it valid is a write among its map's parts.
@@ -18,10 +18,17 @@ pub fn value_writes_are_nested<K: KeyElement, V: Element, W: Width>()
 /// States that a write among the parts of a value that keeps it valid keeps the map.
 ///
 /// - The map is valid. All keys and all other values are unchanged.
+/// - Each lookup whose comparison depends only on the key and its parts finds the same key.
 /// - A written map is still one.
 /// - The write is one among the parts of the map.
 pub fn nested_writes_keep_maps<K: KeyElement, V: Element, H: KeyHasher, W: Width>()
     ensures { NestedWritesKeepMaps W.word K.spec V.spec (hash_at H.hasher K.key_calls) }
+{}
+
+/// States that each query finds the same key after a write among the parts of a value.
+pub fn nested_writes_keep_lookups<K: KeyElement, V: Element, Q: Query<K>, H: KeyHasher, W: Width>()
+    ensures { let hash = hash_of H.hasher Q.calls in
+        NestedWritesKeepLookups W.word K.spec V.spec Q.can_read hash Q.fits }
 {}
 
 /// States that a write among the parts of a found value replaces it in the represented list.

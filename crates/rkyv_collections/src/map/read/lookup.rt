@@ -4,7 +4,7 @@
 //! - `contains_key` returns `true` if a key is found. `index` takes a key that must be found.
 //! - `get_with` and `get_key_value_with` take a comparison in place of the query's own.
 //!
-//! A lookup in an untrusted map may read every group of its control bytes once.
+//! A lookup in an untrusted map may read all of its control bytes.
 //! `FxHasher64` takes no secret key, so it doesn't protect from chosen input.
 ghost use Rattle.std.specs.Prelude.{IfSome, IsSome, Option, Some, ◌<◌, ◌^◌, ◌≡◌, ℕ};
 ghost use Rattle.rkyv_scan.specs.{hash_of_calls};
@@ -90,7 +90,7 @@ impl<'a, K: KeyElement, V: Element, H: KeyHasher, W: Width> ArchivedHashMap<'a, 
     /// it is. In a written map, it is the first accepted pair in insertion order
     /// if each accepted key is under the hash of `key`.
     ///
-    /// A lookup in an untrusted map may read every group of its control bytes once.
+    /// A lookup in an untrusted map may read all of its control bytes.
     ///
     /// # Requires
     ///
@@ -112,7 +112,7 @@ impl<'a, K: KeyElement, V: Element, H: KeyHasher, W: Width> ArchivedHashMap<'a, 
     ///
     /// It looks up as `get_key_value_with` does.
     ///
-    /// A lookup in an untrusted map may read every group of its control bytes once.
+    /// A lookup in an untrusted map may read all of its control bytes.
     ///
     /// # Requires
     ///
@@ -155,7 +155,7 @@ impl<'a, K: KeyElement, V: Element, H: KeyHasher, W: Width> ArchivedHashMap<'a, 
     /// No key is missed if `misplaced` is 0. The lookup then finds the one key that the query
     /// matches, and `None` if and only if it matches none.
     ///
-    /// A lookup in an untrusted map may read every group of its control bytes once.
+    /// A lookup in an untrusted map may read all of its control bytes.
     /// `FxHasher64` takes no secret key, so it doesn't protect from chosen input.
     ///
     /// # Requires
@@ -174,7 +174,7 @@ impl<'a, K: KeyElement, V: Element, H: KeyHasher, W: Width> ArchivedHashMap<'a, 
     ///
     /// It looks up as `get_key_value` does.
     ///
-    /// A lookup in an untrusted map may read every group of its control bytes once.
+    /// A lookup in an untrusted map may read all of its control bytes.
     ///
     /// # Requires
     ///
@@ -203,7 +203,7 @@ impl<'a, K: KeyElement, V: Element, H: KeyHasher, W: Width> ArchivedHashMap<'a, 
 
     /// Returns `true` if and only if the query finds a key.
     ///
-    /// A lookup in an untrusted map may read every group of its control bytes once.
+    /// A lookup in an untrusted map may read all of its control bytes.
     ///
     /// # Requires
     ///
@@ -220,7 +220,7 @@ impl<'a, K: KeyElement, V: Element, H: KeyHasher, W: Width> ArchivedHashMap<'a, 
 
     /// Returns the value of the key that the query finds.
     ///
-    /// A lookup in an untrusted map may read every group of its control bytes once.
+    /// A lookup in an untrusted map may read all of its control bytes.
     ///
     /// # Requires
     ///

@@ -1,0 +1,194 @@
+//! Maps and sets of std that are values of maps of std.
+//!
+//! By `Represents`, an archived map has the pairs of a map of std. Only a written map also has them
+//! where lookups find them. The laws of this module keep this fact of inner maps: they are about
+//! values under any `WrittenRelation`, and `EntriesRelation` is that of written maps of std.
+
+ghost use Rattle.std.specs.Prelude.{List, ℕ};
+ghost use Rattle.rkyv_base.specs.{IsFormat, SameValues};
+ghost use Rattle.rkyv_base.specs.Lemmas.Empty.{unit_element, unit_is_format};
+ghost use Rattle.rkyv_keys.specs.{found_views, hash_at, native_keys, native_pairs, queried};
+ghost use Rattle.rkyv_table.specs.{with_units};
+ghost use Rattle.rkyv_collections.specs.{FindsInWrittenMap, FoundAreListed, IsListOfEntries};
+ghost use Rattle.rkyv_collections.specs.{IsListOfKeys, LookupsFindListed, WalksVisitEach};
+ghost use Rattle.rkyv_collections.specs.{WalksVisitPairs, WrittenMapsAreLists};
+ghost use Rattle.rkyv_collections.specs.{WrittenMapsListEntries, with_relation};
+ghost use Rattle.rkyv_collections.specs.Lemmas.StdLists.{entries_listed};
+
+use crate::std_maps::hashed::Hashed;
+use rkyv_base::archive::Archive;
+use rkyv_base::element::Represents;
+use rkyv_base::width::Width;
+use rkyv_keys::keys::{KeyElement, NativeKey, NativeQuery, Query};
+use rkyv_scan::hash::KeyHasher;
+use std::collections::{HashMap, HashSet};
+use std::hash::{BuildHasher, Hash};
+use std::marker::PhantomData;
+
+/// A relation between bytes and values of the type `B`, in archives of the width `W`.
+///
+/// The written bytes of a value have the relation to it.
+pub trait WrittenRelation<W: Width, B: Archive<W>> {
+    // The bytes at a position are related to a value.
+    ghost related: { List ℕ → ℕ → B → Type 0 };
+
+    // In each archive that has the bytes of a written value, these are related to it.
+    ghost written: { IsFormat B.Archived.spec related B.format };
+}
+
+/// The relation by which archived values represent native values.
+pub struct ValueRelation {}
+
+impl<W: Width, B: Archive<W>> WrittenRelation<W, B> for ValueRelation {
+    ghost related = { B.Archived.represents };
+
+    ghost written = { B.laws };
+}
+
+/// The relation of maps that represent the list of the entries of a map of std.
+///
+/// Each value has the relation `R`, so these relations nest to any depth. For a map of maps of std,
+/// the relation is `EntriesRelation<EntriesRelation<ValueRelation>>`.
+pub struct EntriesRelation<R> {
+    values: PhantomData<R>,
+}
+
+impl<
+    W: Width,
+    H: KeyHasher,
+    A: Archive<W> + Hash,
+    B: Archive<W>,
+    T: BuildHasher,
+    R: WrittenRelation<W, B>,
+> WrittenRelation<W, Hashed<HashMap<A, B, T>, H>> for EntriesRelation<R>
+where
+    A::Archived: KeyElement,
+    A: NativeKey<A::Archived>,
+{
+    ghost related = { IsListOfEntries W.word A.Archived.Represents
+        (with_relation B.Archived.Represents R.related) (hash_at H.hasher A.Archived.key_calls) };
+
+    ghost written = { entries_listed H.hasher W.word W.layout.kind W.MAX_CAPACITY A.Archived.laws
+        B.Archived.laws A.query A.native A.Eq.laws.refl A.reads A.Archive.laws R.written
+        (λ x. x.map.entries) };
+}
+
+/// The relation of sets that represent the list of the keys of a set of std.
+pub struct KeysRelation {}
+
+impl<W: Width, H: KeyHasher, A: Archive<W> + Hash, T: BuildHasher> WrittenRelation<
+    W,
+    Hashed<HashSet<A, T>, H>,
+> for KeysRelation
+where
+    A::Archived: KeyElement,
+    A: NativeKey<A::Archived>,
+{
+    ghost related = { IsListOfKeys W.word A.Archived.Represents
+        (hash_at H.hasher A.Archived.key_calls) };
+
+    ghost written = { entries_listed H.hasher W.word W.layout.kind W.MAX_CAPACITY A.Archived.laws
+        unit_element A.query A.native A.Eq.laws.refl A.reads A.Archive.laws unit_is_format
+        (λ x. with_units x.map.keys) };
+}
+
+/// States that a lookup in an archive of a map of std finds a value with the relation `R`.
+///
+/// It finds the value of the accepted key, and no key if and only if the map of std has none.
+/// With `ValueRelation`, this is the law `written_maps_are_looked_up`.
+pub fn nested_maps_are_looked_up<
+    Q: Query<A::Archived>,
+    W: Width,
+    H: KeyHasher,
+    A: Archive<W> + Hash,
+    B: Archive<W>,
+    T: BuildHasher,
+    R: WrittenRelation<W, B>,
+>()
+where
+    A::Archived: KeyElement,
+    A: NativeKey<A::Archived>,
+    ensures { FindsInWrittenMap W.word A.Archived.Represents
+        (with_relation B.Archived.Represents R.related) (queried H.hasher Q.calls Q.fits)
+        Q.can_read ⟦<Hashed<HashMap<A, B, T>, H> as Archive<W>>⟧.format }
+{}
+
+/// States that a written map of std represents the list of its entries, each value by `R`.
+///
+/// - `root`: the root of an archive. With `ValueRelation`, this is `written_maps_are_lists`.
+/// - `written`: a map anywhere in an archive that has the written bytes of the map of std.
+pub fn nested_maps_are_lists<
+    W: Width,
+    H: KeyHasher,
+    A: Archive<W> + Hash,
+    B: Archive<W>,
+    T: BuildHasher,
+    R: WrittenRelation<W, B>,
+>()
+where
+    A::Archived: KeyElement,
+    A: NativeKey<A::Archived>,
+    ensures root { WrittenMapsAreLists W.word A.Archived.Represents
+        (with_relation B.Archived.Represents R.related) (hash_at H.hasher A.Archived.key_calls)
+        ⟦<Hashed<HashMap<A, B, T>, H> as Archive<W>>⟧.format }
+    ensures written { WrittenMapsListEntries W.word A.Archived.Represents
+        (with_relation B.Archived.Represents R.related) (hash_at H.hasher A.Archived.key_calls)
+        ⟦<Hashed<HashMap<A, B, T>, H> as Archive<W>>⟧.format }
+{}
+
+/// States that a lookup finds the first pair of the represented list, whose value has relation `R`.
+///
+/// - `maps`: any map that represents a list with values by `R`, as in `map::laws`.
+/// - `root`: `get` in a root map, as in `map::laws::list_archives`.
+pub fn nested_lookups_find_listed<
+    Q: NativeQuery<A, A::Archived>,
+    W: Width,
+    H: KeyHasher,
+    A: Archive<W>,
+    B: Archive<W>,
+    R: WrittenRelation<W, B>,
+>()
+where
+    A::Archived: KeyElement,
+    ensures maps { LookupsFindListed H W.Word A.Archived.HasSpec B.Archived.HasSpec
+        (native_pairs A.Archived.represents R.related H.hasher A.Archived.key_calls) }
+    ensures root { FoundAreListed H W.Word A.Archived.HasSpec B.Archived.HasSpec
+        (native_keys A.Archived.represents (hash_at H.hasher A.Archived.key_calls) Q.fits Q.equals)
+        (found_views R.related) }
+{}
+
+/// States that a walk visits each pair of the represented list once, whose value has relation `R`.
+///
+/// The clauses are as in `walks_visit_each` of `map::laws`.
+pub fn nested_walks_visit_each<
+    W: Width,
+    H: KeyHasher,
+    A: Archive<W>,
+    B: Archive<W>,
+    R: WrittenRelation<W, B>,
+>()
+where
+    A::Archived: KeyElement,
+    ensures homes { WalksVisitPairs W.word A.Archived.spec B.Archived.spec A.Archived.represents
+        R.related (hash_at H.hasher A.Archived.key_calls) }
+    ensures pairs { WalksVisitEach W.word A.Archived.spec B.Archived.spec A.Archived.represents
+        R.related (hash_at H.hasher A.Archived.key_calls) }
+{}
+
+/// States the definitions of the relations of values, of maps of std and of sets of std.
+pub fn written_relations_are_defined<W: Width, H: KeyHasher, K, V, A, B, T: BuildHasher, R>()
+where
+    K: KeyElement + Represents<A>,
+    V: Represents<B>,
+    A: NativeKey<K> + Archive<W, Archived = K> + Hash,
+    B: Archive<W, Archived = V>,
+    R: WrittenRelation<W, B>,
+    ensures values { SameValues ⟦<ValueRelation as WrittenRelation<W, B>>⟧.related V.represents }
+    ensures maps { SameValues
+        ⟦<EntriesRelation<R> as WrittenRelation<W, Hashed<HashMap<A, B, T>, H>>>⟧.related
+        (IsListOfEntries W.word K.Represents (with_relation V.Represents R.related)
+        (hash_at H.hasher K.key_calls)) }
+    ensures sets { SameValues
+        ⟦<KeysRelation as WrittenRelation<W, Hashed<HashSet<A, T>, H>>>⟧.related
+        (IsListOfKeys W.word K.Represents (hash_at H.hasher K.key_calls)) }
+{}

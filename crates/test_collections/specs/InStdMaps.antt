@@ -1,0 +1,22 @@
+-- Lookups in maps and sets of std that are values of maps of std.
+use Rattle.std.specs.Prelude.{ℕ, ◌==◌, Bool, Option}
+use Rattle.std.specs.HashMap.{HashMap}
+use Rattle.std.specs.HashSet.{HashSet}
+use Rattle.std.specs.List.{list_any}
+use Rattle.std.specs.Option.{option_and_then, option_map}
+use Rattle.rkyv_keys.specs.{first_value}
+use Rattle.rkyv_collections.specs.declared.std_maps.hashed.Hashed.{Hashed}
+
+-- the value under `inner` of the map under `outer`
+abbrev pub value_under : {S T H G : Type 0} → ℕ → ℕ
+    → Hashed (HashMap ℕ (Hashed (HashMap ℕ ℕ S) H) T) G → Option ℕ
+value_under outer inner maps =
+    option_and_then (λ m. first_value (λ other. inner == other) m.map.entries)
+    (first_value (λ other. outer == other) maps.map.entries)
+
+-- whether the set under `outer` has the key `inner`
+abbrev pub has_under : {S T H G : Type 0} → ℕ → ℕ
+    → Hashed (HashMap ℕ (Hashed (HashSet ℕ S) H) T) G → Option Bool
+has_under outer inner sets =
+    option_map (λ s. list_any (λ other. inner == other) s.map.keys)
+    (first_value (λ other. outer == other) sets.map.entries)

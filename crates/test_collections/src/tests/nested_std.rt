@@ -1,0 +1,177 @@
+//! Lookups in maps and sets of std that are values of maps of std.
+
+ghost use Rattle.std.specs.Prelude.{◌==◌, ◌≡◌, Ok};
+ghost use Rattle.rkyv_collections.specs.{IsNarrowWritten, map_bytes, map_pos};
+ghost use Rattle.rkyv_keys.specs.{first_value};
+ghost use Rattle.test_collections.specs.InStdMaps.{has_under, value_under};
+
+use rkyv_base::access::access;
+use rkyv_base::archive::Archive;
+use rkyv_base::element::Represents;
+use rkyv_base::errors::VerifyError;
+use rkyv_base::root::to_bytes;
+use rkyv_base::width::Narrow;
+use rkyv_collections::map::laws::lookups_find_listed;
+use rkyv_collections::map::{ArchivedHashMap, HashMapOf};
+use rkyv_collections::set::laws::lookups_find_listed as set_lookups_find_listed;
+use rkyv_collections::set::{ArchivedHashSet, HashSetOf};
+use rkyv_collections::std_maps::hashed::Hashed;
+use rkyv_collections::std_maps::nested::{
+    EntriesRelation, KeysRelation, ValueRelation, WrittenRelation, nested_lookups_find_listed,
+    nested_maps_are_lists, nested_maps_are_looked_up, nested_walks_visit_each,
+    written_relations_are_defined,
+};
+use rkyv_scan::hash::FxHasher64;
+use std::alloc::Global;
+use std::collections::{HashMap, HashSet};
+use std::hash::{BuildHasherDefault, FoldHasher, RandomState};
+use std::test::Fail;
+
+type Fares = HashMapOf<u32, u64>;
+
+type FareMap = Hashed<HashMap<u32, u64>>;
+
+type Cities = HashMapOf<u32, Fares>;
+
+type CityMap = Hashed<HashMap<u32, FareMap>>;
+
+type FareRelation = EntriesRelation<ValueRelation>;
+
+// Returns the value that a map of std has under the key, if the archived map is one.
+fn fare_in(fares: ArchivedHashMap<'_, u32, u64>, line: u32) -> Option<u64>
+    ensures { let r = ⟦<FareRelation as WrittenRelation<Narrow, FareMap>>⟧ in
+        (map : _) → r.related (map_bytes fares.entry) (map_pos fares.entry) map
+        → result ≡ first_value (λ other. line == other) map.map.entries }
+{
+    lookups_find_listed::<u32, u64, u32, u64, FxHasher64, Narrow>();
+    match fares.get(&line) {
+        Some(fare) => Some(fare.to_native()),
+        None => None,
+    }
+}
+
+// Returns the value that an archived map of maps of std has under the two keys.
+fn fare_of(table: &[u8], city: u32, line: u32) -> Result<Option<u64>, VerifyError>
+    ensures { (cities : _) → IsNarrowWritten ⟦<Cities as Represents<CityMap>>⟧
+        ⟦<CityMap as Archive<Narrow>>⟧.format table.now cities
+        → result ≡ Ok (value_under city line cities) }
+{
+    nested_maps_are_lists::<
+        Narrow,
+        FxHasher64,
+        u32,
+        FareMap,
+        BuildHasherDefault<FoldHasher>,
+        FareRelation,
+    >();
+    nested_lookups_find_listed::<u32, Narrow, FxHasher64, u32, FareMap, FareRelation>();
+    let cities = ArchivedHashMap::of(access::<Cities>(table)?);
+    match cities.get(&city) {
+        Some(fares) => Ok(fare_in(ArchivedHashMap::of(fares), line)),
+        None => Ok(None),
+    }
+}
+
+// Archives the map of 1 to the map of 2 to 3.
+fn write_fare(alloc: Global) -> Result<Vec<u8>, Fail> {
+    let mut fares = HashMap::new(alloc);
+    fares.insert(2, 3)?;
+    let fares: FareMap = Hashed::new(fares);
+    let mut cities = HashMap::new(alloc);
+    cities.insert(1, fares)?;
+    let cities: CityMap = Hashed::new(cities);
+    Ok(to_bytes(alloc, &cities)?)
+}
+
+// Returns the results of lookups under both keys, and under other ones.
+fn fares_found(alloc: Global) -> Result<[Option<u64>; 3], Fail> {
+    let table = write_fare(alloc)?;
+    Ok([
+        fare_of(table.as_slice(), 1, 2)?,
+        fare_of(table.as_slice(), 1, 1)?,
+        fare_of(table.as_slice(), 2, 2)?,
+    ])
+}
+
+#[test]
+fn a_fare_of_a_city(rt: HostRuntime) -> Result<(), Fail> {
+    let found = fares_found(rt.alloc())?;
+    expect_eq!(rt; found, [Some(3), None, None]);
+    Ok(())
+}
+
+type LineSet = Hashed<HashSet<u32>>;
+
+type Lines = HashMapOf<u32, HashSetOf<u32>>;
+
+type LineMap = Hashed<HashMap<u32, LineSet>>;
+
+// Returns whether the set that an archived map of sets of std has under `city` has the line.
+fn has_line(table: &[u8], city: u32, line: u32) -> Result<Option<bool>, VerifyError>
+    ensures { (cities : _) → IsNarrowWritten ⟦<Lines as Represents<LineMap>>⟧
+        ⟦<LineMap as Archive<Narrow>>⟧.format table.now cities
+        → result ≡ Ok (has_under city line cities) }
+{
+    nested_maps_are_lists::<
+        Narrow,
+        FxHasher64,
+        u32,
+        LineSet,
+        BuildHasherDefault<FoldHasher>,
+        KeysRelation,
+    >();
+    nested_lookups_find_listed::<u32, Narrow, FxHasher64, u32, LineSet, KeysRelation>();
+    set_lookups_find_listed::<u32, u32, u32, FxHasher64, Narrow>();
+    let cities = ArchivedHashMap::of(access::<Lines>(table)?);
+    match cities.get(&city) {
+        Some(lines) => Ok(Some(ArchivedHashSet::of(lines).contains(&line))),
+        None => Ok(None),
+    }
+}
+
+// Archives the map of 1 to the set of 2.
+fn write_line(alloc: Global) -> Result<Vec<u8>, Fail> {
+    let mut lines = HashSet::new(alloc);
+    lines.insert(2)?;
+    let lines: LineSet = Hashed::new(lines);
+    let mut cities = HashMap::new(alloc);
+    cities.insert(1, lines)?;
+    let cities: LineMap = Hashed::new(cities);
+    Ok(to_bytes(alloc, &cities)?)
+}
+
+// Returns the results of lookups under both keys, and under other ones.
+fn lines_found(alloc: Global) -> Result<[Option<bool>; 3], Fail> {
+    let table = write_line(alloc)?;
+    Ok([
+        has_line(table.as_slice(), 1, 2)?,
+        has_line(table.as_slice(), 1, 1)?,
+        has_line(table.as_slice(), 2, 2)?,
+    ])
+}
+
+#[test]
+fn a_line_of_a_city(rt: HostRuntime) -> Result<(), Fail> {
+    let found = lines_found(rt.alloc())?;
+    expect_eq!(rt; found, [Some(true), Some(false), None]);
+    Ok(())
+}
+
+type Deep = EntriesRelation<FareRelation>;
+
+#[test]
+fn laws_of_deeper_maps(_rt: HostRuntime) {
+    nested_maps_are_looked_up::<u32, Narrow, FxHasher64, u32, CityMap, RandomState, Deep>();
+    nested_maps_are_lists::<Narrow, FxHasher64, u32, CityMap, RandomState, Deep>();
+    nested_walks_visit_each::<Narrow, FxHasher64, u32, CityMap, Deep>();
+    written_relations_are_defined::<
+        Narrow,
+        FxHasher64,
+        u32,
+        Fares,
+        u32,
+        FareMap,
+        RandomState,
+        FareRelation,
+    >();
+}
