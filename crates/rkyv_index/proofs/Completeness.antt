@@ -13,7 +13,8 @@ use Rattle.rkyv_keys.specs.{Comparison, IsQuery, hash_at}
 use Rattle.rkyv_keys.specs.Lemmas.OfEntries.{valid_key}
 use Rattle.rkyv_table.specs.{cap_at, found, is_found_at, item_at, len_at, table_controls}
 use Rattle.rkyv_table.proofs.ValidTable.{controls_accepted, no_items}
-use Rattle.rkyv_table.proofs.Misplaced.{found_agree, found_at_is, found_walked}
+use Rattle.rkyv_table.proofs.Misplaced.{found_at_is, found_walked}
+use Rattle.rkyv_table.proofs.SameLookups.{found_same}
 use Rattle.rkyv_table.proofs.Walks.{walked_full}
 use Rattle.rkyv_table.proofs.Lists.{option_map_some}
 use Rattle.rkyv_index.specs.{FindsTheOne, Index, index_found, index_misplaced, index_spec, own_found, pair_pos, stored_index_spec}
@@ -81,21 +82,20 @@ module _ {K Q : Type 0} (m : Index K) (kind : IsArchiveWord m.word) (kl : IsElem
 
   -- a found index is that of a key that fits
   found_fits : (i : ℕ) → index_found w b p (hash_of_calls hasher (calls q)) accept ≡ Some i → (i < len) × (accept i ≡ true)
-  found_fits i e = elim (cases_eq cap 0) [
-    | inl z ↦
-        let n = no_items w (stored_index_spec w) (stored_index_element w kind) b p (table_there w kind s law b p view) z in
-        let f = option_map_some (number_at w b) _ i e in
-        let g = option_map_some (item_at w (byte_len w) b p) (found generic_kind controls cap (len_at w b p) (hash_of_calls hasher (calls q)) (λ j. accept (read j))) f.0 f.1 in
-        absurd (none-some g.0 (subst (λ m. found generic_kind controls cap m (hash_of_calls hasher (calls q)) (λ j. accept (read j)) ≡ Some g.0) n g.1))
-    | inr some ↦
-        let f = option_map_some (number_at w b) _ i e in
-        let g = option_map_some (item_at w (byte_len w) b p) (found generic_kind controls cap (len_at w b p) (hash_of_calls hasher (calls q)) (λ j. accept (read j))) f.0 f.1 in
-        let ok = controls_accepted w (stored_index_spec w) (stored_index_element w kind) b p (table_there w kind s law b p view) (omega arith) in
-        let there = found_walked generic_kind cap (len_at w b p) (hash_of_calls hasher (calls q)) controls word_lawful ok small (λ j. accept (read j)) g.0 g.1 in
-        let is : read g.0 ≡ i = ap (number_at w b) g.2 ∙ f.2 in
-        let below = index_below w kind s law b p view g.0 (walked_full cap controls g.0 there.1) in
-        (subst (λ n. n < len) is below, subst (λ n. accept n ≡ true) is there.0)
-  ]
+  found_fits i e =
+      let f = option_map_some (number_at w b) _ i e in
+      let g = option_map_some (item_at w (byte_len w) b p) (found generic_kind controls cap len (hash_of_calls hasher (calls q)) (λ j. accept (read j))) f.0 f.1 in
+      elim (cases_eq cap 0) [
+        | inl z ↦
+            let n = no_items w (stored_index_spec w) (stored_index_element w kind) b p (table_there w kind s law b p view) z in
+            absurd (none-some g.0 (subst (λ m. found generic_kind controls cap m (hash_of_calls hasher (calls q)) (λ j. accept (read j)) ≡ Some g.0) n g.1))
+        | inr some ↦
+            let ok = controls_accepted w (stored_index_spec w) (stored_index_element w kind) b p (table_there w kind s law b p view) (omega arith) in
+            let there = found_walked generic_kind cap len (hash_of_calls hasher (calls q)) controls word_lawful ok small (λ j. accept (read j)) g.0 g.1 in
+            let is : read g.0 ≡ i = ap (number_at w b) g.2 ∙ f.2 in
+            let below = index_below w kind s law b p view g.0 (walked_full cap controls g.0 there.1) in
+            (subst (λ n. n < len) is below, subst (λ n. accept n ≡ true) is there.0)
+      ]
 
   -- a lookup finds the index of a key that fits
   found_itself : (i : ℕ) → i < len → accept i ≡ true → index_found w b p (hash_of_calls hasher (calls q)) accept ≡ Some i
@@ -106,17 +106,8 @@ module _ {K Q : Type 0} (m : Index K) (kind : IsArchiveWord m.word) (kl : IsElem
       let same_hash : hash_of_calls hasher (calls q) ≡ hash_at hasher key_calls b (at i) = ap (hash_of_calls hasher) (query.same_calls q b (at i) ready (key_valid i below) ok) in
       let agree : (j : ℕ) → j < len → accept j ≡ same b (at i) b (at j) = λ j less. query.respects_same q b b (at i) (at j) ready (key_valid i below) (key_valid j less) ok in
       let of : Option ℕ → Option ℕ = λ o. option_map (number_at w b) (option_map (item_at w (byte_len w) b p) o) in
-      let lookup : found generic_kind controls cap (len_at w b p) (hash_of_calls hasher (calls q)) (λ j. accept (read j))
-      ≡ found generic_kind controls cap (len_at w b p) (hash_of_calls hasher (calls q)) (λ j. same b (at i) b (at (read j))) = elim (cases_eq cap 0) [
-        | inl z ↦
-            let n = no_items w (stored_index_spec w) (stored_index_element w kind) b p (table_there w kind s law b p view) z in
-            ap (λ m. found generic_kind controls cap m (hash_of_calls hasher (calls q)) (λ j. accept (read j))) n
-            ∙ sym (ap (λ m. found generic_kind controls cap m (hash_of_calls hasher (calls q)) (λ j. same b (at i) b (at (read j)))) n)
-        | inr some ↦
-            let full = controls_accepted w (stored_index_spec w) (stored_index_element w kind) b p (table_there w kind s law b p view) (omega arith) in
-            found_agree generic_kind cap (len_at w b p) (hash_of_calls hasher (calls q)) controls word_lawful full small (λ j. accept (read j)) (λ j. same b (at i) b (at (read j)))
-            (λ j there. agree (read j) (index_below w kind s law b p view j (walked_full cap controls j there)))
-      ] in
+      let lookup = found_same w b b p refl refl (stored_index_spec w) (stored_index_element w kind) (table_there w kind s law b p view) (hash_of_calls hasher (calls q)) small (λ j. accept (read j)) (λ j. same b (at i) b (at (read j)))
+      (λ j there. agree (read j) (index_below w kind s law b p view j there)) in
       ap of lookup ∙ ap (λ h. index_found w b p h (λ j. same b (at i) b (at j))) same_hash ∙ own_result
 
   by_found : (o : Option ℕ) → index_found w b p (hash_of_calls hasher (calls q)) accept ≡ o → FindsTheOne len accept o

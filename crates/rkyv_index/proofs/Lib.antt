@@ -17,6 +17,7 @@ pub mod Counted
 pub mod FirstAccepted
 pub mod ListSteps
 pub mod SameIndex
+pub mod SameLookups
 pub mod ValueWrites
 pub mod Alike
 pub mod NestedWrites

@@ -1,12 +1,12 @@
 -- Lookups in an index map at the root of an archive that represents a list of pairs.
-use Rattle.std.proofs.Common.{◌≡◌, ℕ, ◌+◌, ◌<◌, ◌∙◌, ap, arith, inl, inr, refl, subst, suc, sym, Bool, true, false, List, [], ◌∷◌, None, Option, Some, length}
+use Rattle.std.proofs.Common.{◌≡◌, ℕ, ◌+◌, ◌∙◌, ap, arith, inl, inr, refl, subst, suc, sym, Bool, true, false, List, [], ◌∷◌, None, Option, Some, length}
 use Rattle.std.specs.Borrow.{Bor}
 use Rattle.std.specs.Prelude.{MatchOption, cond}
 use Rattle.std.specs.List.{find, list_any, position_from, range_with_len, slice_get}
 use Rattle.std.specs.Option.{is_some, option_map}
 use Rattle.std.proofs.lemmas.Bool.{cases_Bool, true≢false}
 use Rattle.std.proofs.lemmas.Iterator.Adapters.{position_from-zero}
-use Rattle.std.proofs.lemmas.Option.{none-some, same_Some, slice_get_within}
+use Rattle.std.proofs.lemmas.Option.{none-some, same_Some}
 use Rattle.rkyv_base.specs.{IsArchiveWord, IsAt, PairRepresents, entry_spec, unit_represents, value_offset}
 use Rattle.rkyv_base.specs.Lemmas.Entry.{entry_element}
 use Rattle.rkyv_base.specs.declared.element.HasSpec.{Ghosts as Specs}
@@ -20,6 +20,7 @@ use Rattle.rkyv_table.proofs.Moved.{moved}
 use Rattle.rkyv_index.specs.{FoundAreListed, IndexRepresents, IsValueAt, IsWritten}
 use Rattle.rkyv_index.specs.{MembersFoundAreListed, fits_at, index_bytes, index_len, index_of}
 use Rattle.rkyv_index.specs.{index_pos, index_root, key_pos, keys_of, pair_indices}
+use Rattle.rkyv_index.specs.Lemmas.IndexLaws.{listed_below}
 use Rattle.rkyv_index.specs.declared.map.ArchivedIndexMap.{ArchivedIndexMap}
 use Rattle.rkyv_index.proofs.ValidIndexMap.{entry_viewable}
 
@@ -96,8 +97,7 @@ first_in_map {ks = ks} {vs = vs} {wt = wt} kind m keys native value query archiv
     let P = fits_at (index_of m) (keys.fits query) in
     let n : index_len m ≡ length pairs = represents.len in
     let agrees : (i : ℕ) (pair : _ × _) → slice_get pairs i ≡ Some pair → P (0 + i) ≡ keys.equal query pair.0 = λ i pair e.
-    let within = slice_get_within pairs i pair e in
-    let below : i < index_len m = omega (arith, n, within) in
+    let below = listed_below pairs (index_len m) i pair n e in
     let there = entry_viewable wt.word kind (entry_spec ks.spec vs.spec) (entry_element ks.spec vs.spec ks.laws vs.laws) (index_bytes m) (index_pos m) m.valid i below in
     let zero : 0 + i ≡ i = omega arith in
     ap P zero ∙ native query pair.0 (index_bytes m) (key_pos m i) (valid_key ks.laws vs.laws (index_bytes m) (key_pos m i) there.valid) (represents.at i pair e).0 in

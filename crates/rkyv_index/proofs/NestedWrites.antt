@@ -15,7 +15,8 @@ use Rattle.rkyv_table.specs.Lemmas.ValidItemLaws.{all_between}
 use Rattle.rkyv_table.proofs.NestedEntries.{entry_written, key_of_other, key_of_own, represents_on, value_of_other}
 use Rattle.rkyv_table.proofs.NestedItems.{above_same, items_kept, other_stays, own_before, sealed_parts}
 use Rattle.rkyv_index.specs.{EntriesIn, IndexRepresents, IsValidIndex, KeepsOuterIndexMap, decode_entries, entries_pos, entry_at, index_spec, indices_of, pair_pos, stored_index_spec}
-use Rattle.rkyv_index.specs.Lemmas.IndexLaws.{every, index_again, stored_index_element}
+use Rattle.rkyv_index.specs.Lemmas.IndexLaws.{filter_every, index_again, stored_index_element}
+use Rattle.rkyv_index.proofs.SameLookups.{lookup_same}
 use Rattle.rkyv_index.proofs.SameIndex.{controls_same, entry_before, new_value_represents, positions_same, read_same, some_buckets, table_below, written_same}
 
 module _ (w : Width) (kind : IsArchiveWord w) (k v : ElementSpec) (kl : IsElement k) (vl : IsElement v) (b : List ℕ) (p : ℕ) (view : Viewable (index_spec w (entry_spec k v)) b p)
@@ -44,7 +45,7 @@ module _ (w : Width) (kind : IsArchiveWord w) (k v : ElementSpec) (kl : IsElemen
   up : (j : ℕ) → begin ≤ at j
   up j = omega arith
 
-  -- the entries between any limits, as items of which each one counts
+  -- the entries between any limits, as valid items in order
   abbrev InOrder : List ℕ → ℕ → ℕ → Type 0
   InOrder d lo l = AreValidAt S at d begin (filter all (range_with_len 0 n)) lo l
 
@@ -53,7 +54,7 @@ module _ (w : Width) (kind : IsArchiveWord w) (k v : ElementSpec) (kl : IsElemen
 
   in_order : (lo hi l : ℕ) (h : EntriesIn S b (decode_entries w b p) n lo hi l) → InOrder b lo h.last
   in_order lo hi l h =
-      subst (λ (xs : List ℕ). AreValidAt S at b begin xs lo h.last) (sym (every (indices_of n)))
+      subst (λ (xs : List ℕ). AreValidAt S at b begin xs lo h.last) (sym (filter_every (indices_of n)))
       (subst (λ m. AreValidAt S (entry_at S.size m) b m (indices_of n) lo h.last) (sym (begin_of lo hi l h)) h.valid)
 
   abbrev entry : WritesAmongParts S b c (at i)
@@ -88,7 +89,7 @@ module _ (w : Width) (kind : IsArchiveWord w) (k v : ElementSpec) (kl : IsElemen
     last = h.last;
     valid =
         subst (λ m. AreValidAt S (entry_at S.size m) c m (indices_of n) lo h.last) (begin_of lo hi l h)
-        (subst (λ (xs : List ℕ). AreValidAt S at c begin xs lo h.last) (every (indices_of n)) (kept lo hi l h).0);
+        (subst (λ (xs : List ℕ). AreValidAt S at c begin xs lo h.last) (filter_every (indices_of n)) (kept lo hi l h).0);
     ends = h.ends;
   }
 
@@ -147,6 +148,8 @@ module _ (w : Width) (kind : IsArchiveWord w) (k v : ElementSpec) (kl : IsElemen
       keys = key_stays;
       values = value_stays;
       hashes = hash_stays;
+      lookups = λ hash fits small rests.
+          lookup_same w kind k v kl vl b p view c header_same front_same i below hash small fits (λ j there. rests b c (at j) (key_stays j there));
       written = written_same w kind k v kl vl b p view c header_same front_same key_hash hash_stays;
     }
 

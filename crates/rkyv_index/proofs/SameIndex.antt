@@ -1,4 +1,4 @@
--- An index map of which the header and the table of indices are unchanged.
+-- An index map whose header and table of indices are unchanged.
 use Rattle.std.proofs.Common.{◌≡◌, ◌≢◌, ℕ, ◌+◌, ◌*◌, ◌<◌, ◌≤◌, ◌∙◌, sym, ap, subst, arith, List, length, Some}
 use Rattle.std.specs.Prelude.{slice_get, slice_set, unsigned_abs}
 use Rattle.std.specs.Int.{Width, byte_len}
@@ -12,7 +12,7 @@ use Rattle.rkyv_table.specs.Lemmas.SameHeader.{cap_same, len_same}
 use Rattle.rkyv_table.proofs.Lists.{set_each}
 use Rattle.rkyv_table.proofs.ValidTable.{some_cap}
 use Rattle.rkyv_index.specs.{IndexRepresents, IndexWrittenAt, IsValidIndex, entries_pos, entry_at, index_spec, pair_pos, stored_index_spec}
-use Rattle.rkyv_index.specs.Lemmas.IndexLaws.{decoded_same, each_is_valid, entry_inside, head_same, index_same_at, stored_index_element}
+use Rattle.rkyv_index.specs.Lemmas.IndexLaws.{decoded_same, each_is_valid, entry_inside, head_same, index_same_at, listed_below, stored_index_element}
 use Rattle.rkyv_index.specs.Lemmas.IndexLocal.{written_again}
 use Rattle.rkyv_index.proofs.ValidIndexMap.{begin_is, entries_inside, entry_viewable, table_there}
 
@@ -76,7 +76,7 @@ module _ (w : Width) (kind : IsArchiveWord w) (k v : ElementSpec) (kl : IsElemen
       written_same = written_again w S.size key_hash key_hash b c p head controls_same read_same
           (λ j there. sym (hashes j there) ∙ ap (key_hash c) (sym (positions_same j)))
 
-      -- the pair at index `i` represents a new value, and all others what they did
+      -- the pair at index `i` represents a new value, and all others represent the same as before
       module _ {A B : Type 0} (key : List ℕ → ℕ → A → Type 0) (value : List ℕ → ℕ → B → Type 0) (factor : ℕ × ℕ) (pairs : List (A × B)) (st : IndexRepresents w k v key value key_hash factor b p pairs) where
         pub new_value_represents : (i : ℕ) (pair new : A × B) → slice_get pairs i ≡ Some pair → PairRepresents k v key value c (at i) new
             → ((j : ℕ) (x : A × B) → j < len_at w b p → slice_get pairs j ≡ Some x → j ≢ i → PairRepresents k v key value c (at j) x)
@@ -84,7 +84,6 @@ module _ (w : Width) (kind : IsArchiveWord w) (k v : ElementSpec) (kl : IsElemen
         new_value_represents i pair new there own others =
             let same_count = length-set pairs i new in
             let inside : i < length pairs = slice_get_within pairs i pair there in
-            let count = st.len in
             record {
               homes = st.homes;
               written = written_same st.homes st.written;
@@ -93,6 +92,6 @@ module _ (w : Width) (kind : IsArchiveWord w) (k v : ElementSpec) (kl : IsElemen
               at = set_each (λ j x. PairRepresents k v key value c (pair_pos w S.size c p j) x) pairs i new inside
                   (subst (λ z. PairRepresents k v key value c z new) (sym (positions_same i)) own)
                   (λ j x at_j ne.
-                  let less : j < len_at w b p = omega (arith, slice_get_within pairs j x at_j, count) in
+                  let less = listed_below pairs (len_at w b p) j x st.len at_j in
                   subst (λ z. PairRepresents k v key value c z x) (sym (positions_same j)) (others j x less at_j ne));
             }

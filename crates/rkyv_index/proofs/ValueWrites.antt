@@ -1,30 +1,24 @@
 -- A write of one value in place keeps the index map, and its list but for that value.
-use Rattle.std.proofs.Common.{◌≡◌, ◌≢◌, ℕ, suc, ◌+◌, ◌-◌, ◌*◌, ◌<◌, ◌≤◌, ◌^◌, ◌∙◌, inl, inr, refl, sym, ap, subst, arith, Bool, List, Option, Some, None}
+use Rattle.std.proofs.Common.{◌≡◌, ◌≢◌, ℕ, suc, ◌+◌, ◌-◌, ◌*◌, ◌<◌, ◌≤◌, ◌^◌, inl, inr, refl, sym, ap, subst, arith, Bool, List, Some}
 use Rattle.std.specs.Prelude.{slice_get, slice_set, unsigned_abs}
 use Rattle.std.specs.Int.{Width, byte_len}
-use Rattle.std.specs.Option.{option_map}
 use Rattle.std.proofs.Math.Nat.{mul-le-mul_right}
 use Rattle.std.proofs.lemmas.Bool.{cases_eq, cases_lt}
-use Rattle.rkyv_scan.specs.{generic_kind}
-use Rattle.rkyv_scan.specs.Lemmas.KindLaws.{word_lawful}
-use Rattle.rkyv_base.specs.{AgreeOn, ElementSpec, IsArchiveWord, IsElement, ModifiesOnly, Outside, PairRepresents, RepresentsLocally, StaysValid, Viewable, entry_spec, number_at, value_pos, whole_size}
+use Rattle.rkyv_base.specs.{AgreeOn, ElementSpec, IsArchiveWord, IsElement, ModifiesOnly, Outside, PairRepresents, RepresentsLocally, StaysValid, Viewable, entry_spec, value_pos, whole_size}
 use Rattle.rkyv_base.specs.Lemmas.Entry.{entry_element, key_and_value_inside, same_key, size_of_small}
 use Rattle.rkyv_base.specs.Lemmas.Entry.{viewable_key, viewable_value}
 use Rattle.rkyv_base.specs.Lemmas.Pairs.{pair_local}
 use Rattle.rkyv_base.proofs.Sealing.{entry_kept, same_outside, sealed_wider, viewable_kept}
 use Rattle.rkyv_keys.specs.{HashLocal, RestsOnKeys}
-use Rattle.rkyv_table.specs.{IsValidWithin, IsWalked, RestsOnKey, SameValue}
-use Rattle.rkyv_table.specs.{WritesAmongParts, WritesValue, cap_at, found, item_at, len_at, table_controls}
-use Rattle.rkyv_table.specs.Lemmas.SameHeader.{cap_same, len_same}
+use Rattle.rkyv_table.specs.{IsValidWithin, RestsOnKey, RestsOnParts, SameValue}
+use Rattle.rkyv_table.specs.{WritesAmongParts, WritesValue, len_at}
+use Rattle.rkyv_table.specs.Lemmas.SameHeader.{len_same}
 use Rattle.rkyv_table.specs.Lemmas.TableLaws.{table_element}
-use Rattle.rkyv_table.proofs.ValidTable.{controls_accepted}
-use Rattle.rkyv_table.proofs.Misplaced.{found_agree, found_walked}
 use Rattle.rkyv_table.proofs.SealedTable.{all_kept, parts_below}
-use Rattle.rkyv_table.proofs.Walks.{walked_full}
 use Rattle.rkyv_index.specs.{EntriesIn, IndexRepresents, IsPairPos, IsValidIndex, KeepsEntries, KeepsIndexMap, decode_entries, entries_pos, entry_at, fits_in, index_found, index_kind, index_spec, indices_of, pair_pos, stored_index_spec}
 use Rattle.rkyv_index.specs.Lemmas.IndexLaws.{entry_inside, head_same, index_again, indices_below, stored_index_element}
-use Rattle.rkyv_index.proofs.SameIndex.{controls_same, entry_before, entry_parts, entry_there, new_value_represents, positions_same, read_same, some_buckets, table_below, written_same}
-use Rattle.rkyv_index.proofs.ValidIndexMap.{index_below, table_there}
+use Rattle.rkyv_index.proofs.SameIndex.{entry_before, entry_parts, entry_there, new_value_represents, positions_same, table_below, written_same}
+use Rattle.rkyv_index.proofs.SameLookups.{lookup_same}
 
 -- a write at the position of the value of a pair writes the value of that pair
 pub value_written : (w : Width) (k v : ElementSpec) (b c : List ℕ) (at q : ℕ) → at ≡ value_pos k v q → ModifiesOnly b at v.size c → StaysValid v b c at → WritesValue k v b c q
@@ -39,11 +33,6 @@ entries_apart size begin i j ne = elim (cases_lt i j) [
       let m : (suc j) * size ≤ i * size = mul-le-mul_right size (omega arith) in
       inl (omega (arith, m))
 ]
-
--- a found item is read alike if each item is
-read_alike : (f g f' g' : ℕ → ℕ) (o : Option ℕ) → ((i : ℕ) → o ≡ Some i → f (g i) ≡ f' (g' i)) → option_map f (option_map g o) ≡ option_map f' (option_map g' o)
-read_alike f g f' g' None same = refl
-read_alike f g f' g' (Some i) same = ap Some (same i refl)
 
 module _ (w : Width) (kind : IsArchiveWord w) (k v : ElementSpec) (kl : IsElement k) (vl : IsElement v) (b : List ℕ) (p : ℕ) (view : Viewable (index_spec w (entry_spec k v)) b p) where
   abbrev S : ElementSpec
@@ -151,41 +140,11 @@ module _ (w : Width) (kind : IsArchiveWord w) (k v : ElementSpec) (kl : IsElemen
     same_positions : (j : ℕ) → pair_pos w S.size c p j ≡ at j
     same_positions = positions_same w kind k v kl vl b p view c header_same indices_same
 
-    same_read : (j : ℕ) → IsWalked w b p j → number_at w b (item_at w (byte_len w) b p j) ≡ number_at w c (item_at w (byte_len w) c p j)
-    same_read = read_same w kind k v kl vl b p view c header_same indices_same
-
-    module _ (hash : ℕ) (small : hash < 2 ^ 64) (fits : List ℕ → ℕ → Bool) (rests : RestsOnKey k fits) where
-      abbrev fits_bucket : List ℕ → ℕ → Bool
-      fits_bucket d j = fits d (pair_pos w S.size d p (number_at w d (item_at w (byte_len w) d p j)))
-
-      abbrev bucket : Option ℕ
-      bucket = found generic_kind (table_controls w b p) (cap_at w b p) (len_at w b p) hash (fits_bucket b)
-
-      fits_same : (j : ℕ) → IsWalked w b p j → fits_bucket c j ≡ fits_bucket b j
-      fits_same j there =
-          let n = number_at w b (item_at w (byte_len w) b p j) in
-          let inside = index_below w kind S law b p view j there in
-          let key = viewable_key k v kl vl b (at n) (entry n inside) in
-          ap (λ m. fits c (pair_pos w S.size c p m)) (sym (same_read j there)) ∙ ap (fits c) (same_positions n)
-          ∙ rests b c (at n) key.valid (key_same n inside)
-
-      bucket_same : found generic_kind (table_controls w c p) (cap_at w c p) (len_at w c p) hash (fits_bucket c) ≡ bucket
-      bucket_same =
-          let f = found generic_kind in
-          ap (λ (x : List ℕ). f x (cap_at w c p) (len_at w c p) hash (fits_bucket c)) (sym (controls_same w kind k v kl vl b p view c header_same indices_same (some_buckets w kind k v kl vl b p view i below)))
-          ∙ ap (λ n. f (table_controls w b p) n (len_at w c p) hash (fits_bucket c)) (sym (cap_same w b c p head))
-          ∙ ap (λ n. f (table_controls w b p) (cap_at w b p) n hash (fits_bucket c)) (sym (len_same w b c p head))
-          ∙ found_agree generic_kind (cap_at w b p) (len_at w b p) hash (table_controls w b p) word_lawful
-          (controls_accepted w (stored_index_spec w) (stored_index_element w kind) b p (table_there w kind S law b p view) (some_buckets w kind k v kl vl b p view i below)) small (fits_bucket c) (fits_bucket b)
-          (λ j there. fits_same j (walked_full (cap_at w b p) (table_controls w b p) j there))
-
-      lookup_same : index_found w c p hash (fits_in w k v c p fits) ≡ index_found w b p hash (fits_in w k v b p fits)
-      lookup_same =
-          let of : List ℕ → Option ℕ → Option ℕ = λ d o. option_map (number_at w d) (option_map (item_at w (byte_len w) d p) o) in
-          ap (of c) bucket_same ∙ read_alike (number_at w c) (item_at w (byte_len w) c p) (number_at w b) (item_at w (byte_len w) b p) bucket (λ j is.
-          let walked = found_walked generic_kind (cap_at w b p) (len_at w b p) hash (table_controls w b p) word_lawful
-          (controls_accepted w (stored_index_spec w) (stored_index_element w kind) b p (table_there w kind S law b p view) (some_buckets w kind k v kl vl b p view i below)) small (fits_bucket b) j is in
-          sym (same_read j (walked_full (cap_at w b p) (table_controls w b p) j walked.1)))
+    lookup_there : (hash : ℕ) (fits : List ℕ → ℕ → Bool) → hash < 2 ^ 64 → RestsOnKey k fits
+        → index_found w c p hash (fits_in w k v c p fits) ≡ index_found w b p hash (fits_in w k v b p fits)
+    lookup_there hash fits small rests =
+        lookup_same w kind k v kl vl b p view c header_same indices_same i below hash small fits
+        (λ j there. rests b c (at j) (viewable_key k v kl vl b (at j) (entry j there)).valid (key_same j there))
 
     -- ---- written index maps, and index maps that represent a list
 
@@ -203,7 +162,7 @@ module _ (w : Width) (kind : IsArchiveWord w) (k v : ElementSpec) (kl : IsElemen
         len = sym (len_same w b c p head);
         positions = same_positions;
         hashes = hash_same;
-        lookups = λ hash fits small rests. lookup_same hash small fits rests;
+        lookups = lookup_there;
         written = written_same w kind k v kl vl b p view c header_same indices_same key_hash hash_same;
       }
 
@@ -252,6 +211,6 @@ module _ (w : Width) (kind : IsArchiveWord w) (k v : ElementSpec) (kl : IsElemen
         kept = λ c writes. entries_kept c i below writes;
       }
 
--- if the tests of all queries depend only on the key, the test of `q` does
-pub rests_on_each : {Q : Type 0} (k : ElementSpec) (can_read : Q → Type 0) (fits : Q → List ℕ → ℕ → Bool) → RestsOnKeys k can_read fits → (q : Q) → can_read q → RestsOnKey k (fits q)
-rests_on_each k can_read fits rests q ready b c p valid same = rests q b c p valid.0 ready valid.1 same.fixed (same.parts valid.0 valid.1)
+-- a comparison that depends only on the keys depends only on each key and its parts
+pub rests_on_parts : {Q : Type 0} (k : ElementSpec) (can_read : Q → Type 0) (fits : Q → List ℕ → ℕ → Bool) → RestsOnKeys k can_read fits → (q : Q) → can_read q → RestsOnParts k (fits q)
+rests_on_parts k can_read fits rests q ready b c p h = rests q b c p h.valid.lower h.valid.upper h.valid.rest ready h.valid.order h.valid.before h.valid.is_valid h.fixed h.parts

@@ -23,7 +23,7 @@ find-map f accept [] = refl
 find-map f accept (x ∷ xs) = find-step f accept x (find (λ y. accept (f y)) xs) (find accept (map f xs)) (accept (f x)) (find-map f accept xs)
 
 -- the number at index `i` of the indices is `i`
-pub index_read : (n i : ℕ) → i < n → slice_index (indices_of n) i ≡ i
+index_read : (n i : ℕ) → i < n → slice_index (indices_of n) i ≡ i
 index_read n i below = get_or-range_with_len 0 n i 0 below ∙ omega arith
 
 module _ (w : Width) (size : ℕ) (key_hash : List ℕ → ℕ → ℕ) (b : List ℕ) (p : ℕ) (homes : List ℕ) (written : IndexWrittenAt w size key_hash b p homes) (hash : ℕ) (accept : ℕ → Bool)

@@ -6,7 +6,7 @@ pub mod Listed
 unfoldable pub use Set.IndexSet.{IsMemberAt, IsMemberOf, index_of_set, index_set_equal}
 unfoldable pub use Set.IndexSet.{index_set_spec, index_sets_equal, keys_of, set_bytes, set_pos}
 unfoldable pub use Set.IndexSet.{unit_specs}
-unfoldable pub use Set.SetFormat.{IndexSetRepresents, index_set_format}
+unfoldable pub use Set.SetFormat.{IndexSetRepresents, WrittenIndexSets, index_set_format}
 unfoldable pub use Set.ListArchives.{MembersFoundAreListed, index_set_root}
 pub use Set.ListArchives.{FindsInRootSet}
 unfoldable pub use Map.{AreUnderHash, CanCompareIndex, CanCompareIndices, CanCompareKeys}
@@ -38,8 +38,8 @@ unfoldable pub use Map.ValueWrites.{KeptByWrites, SetsValue, ValueWritesKeepInde
 unfoldable pub use Map.ValueWrites.{ValueWritesKeepLookups, ValuesWrittenRepresent, index_kind}
 unfoldable pub use Map.ValueWrites.{pair_at}
 pub use Map.ValueWrites.{IndexKind, KeepsEntries, KeepsIndexMap}
-unfoldable pub use Map.NestedWrites.{NestedWritesKeepIndexMaps, NestedWritesRepresent}
-unfoldable pub use Map.NestedWrites.{ValueWritesAreNested}
+unfoldable pub use Map.NestedWrites.{NestedWritesKeepIndexMaps, NestedWritesKeepLookups}
+unfoldable pub use Map.NestedWrites.{NestedWritesRepresent, ValueWritesAreNested}
 pub use Map.NestedWrites.{KeepsOuterIndexMap}
 unfoldable pub use Map.BothHashers.{ComparedAlike, QueriedAlike, WrittenAlike, fx_index_found}
 unfoldable pub use Map.SealedIndex.{AcceptsIn, IsAcceptedIn, IsFullSeal, IsFullSealAt, IsIndexSeal}

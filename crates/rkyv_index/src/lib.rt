@@ -20,7 +20,7 @@
 //! - To validate hashes, `misplaced` counts the keys that a lookup of their own doesn't find.
 //!
 //! `FxHasher64` takes no secret key, so it doesn't protect from chosen input.
-//! In an untrusted archive, a lookup may read every group of control bytes once.
+//! In an untrusted archive, a lookup may read all control bytes.
 #![tactic(auto)]
 
 pub mod lists;

@@ -28,7 +28,7 @@ use rkyv_scan::hash::FxHasher64;
 use rkyv_table::table::list_inputs::{PairRefs, Refs};
 use std::alloc::Global;
 
-/// A list of pairs that is archived as an index map under the load factor 7 / 8.
+/// A list of pairs that is archived as an index map under `FxHasher64` and the load factor 7 / 8.
 ///
 /// The pairs are inserted in order, and pairs with equal keys are kept. A lookup finds
 /// the first of them.
@@ -110,7 +110,7 @@ where
     }
 }
 
-/// A list of keys that is archived as an index set under the load factor 7 / 8.
+/// A list of keys that is archived as an index set under `FxHasher64` and the load factor 7 / 8.
 ///
 /// The keys are inserted in order, and equal keys are kept. A lookup finds the first of them.
 ///

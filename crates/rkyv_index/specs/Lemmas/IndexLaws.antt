@@ -1,12 +1,13 @@
 -- An index map is an element.
 use Rattle.std.specs.Prelude.{◌≡◌, ℕ, zero, suc, ◌+◌, ◌*◌, ◌%◌, ◌<◌, ◌≤◌, ℤ, pos, ◌+ℤ◌, List, []}
-use Rattle.std.specs.Prelude.{◌∷◌, map}
+use Rattle.std.specs.Prelude.{◌∷◌, Some, length, map, slice_get}
 use Rattle.std.specs.Int.{Width, byte_len, cast_signed, from_le_bytes}
 use Rattle.std.specs.List.{All, range_with_len}
 use Rattle.std.proofs.Common.{filter, get_or, refl, arith, subst, sym, true, ◌∙◌, ap, inl, inr}
 use Rattle.std.proofs.Math.Nat.{mul-le-mul_right}
 use Rattle.std.proofs.Props.{props}
 use Rattle.std.specs.Coded.{×_prop}
+use Rattle.std.proofs.lemmas.Option.{slice_get_within}
 use Rattle.std.proofs.lemmas.List.Elements.{All-cons, All-head, All-map, All-nil, All-tail}
 use Rattle.rkyv_scan.specs.{AllBelow}
 use Rattle.rkyv_base.specs.declared.errors.VerifyError.{VerifyError}
@@ -65,10 +66,16 @@ entry_inside size begin n i h =
     let m : (suc i) * size ≤ n * size = mul-le-mul_right size (omega arith) in
     (omega arith, omega (arith, m))
 
+-- the index of an item of a list is below its length
+pub listed_below : {X : Type 0} (xs : List X) (n i : ℕ) (x : X) → n ≡ length xs
+    → slice_get xs i ≡ Some x → i < n
+listed_below xs n i x count there =
+    let within = slice_get_within xs i x there in omega (arith, count, within)
+
 -- a filter that keeps each number keeps the list
-pub every : (xs : List ℕ) → filter (λ x. true) xs ≡ xs
-every [] = refl
-every (x ∷ xs) = ap (λ (ys : List ℕ). x ∷ ys) (every xs)
+pub filter_every : (xs : List ℕ) → filter (λ x. true) xs ≡ xs
+filter_every [] = refl
+filter_every (x ∷ xs) = ap (λ (ys : List ℕ). x ∷ ys) (filter_every xs)
 
 -- each of several valid values in order is valid in a range of its own
 pub each_is_valid : (s : ElementSpec) → IsElement s → (at : ℕ → ℕ) (b : List ℕ) (hi a n lo l i : ℕ)
@@ -76,9 +83,9 @@ pub each_is_valid : (s : ElementSpec) → IsElement s → (at : ℕ → ℕ) (b 
     → AreValidAt s at b hi (range_with_len a n) lo l → a ≤ i → i < a + n
     → IsValidWithin s b (at i) lo hi l
 each_is_valid s law at b hi a n lo l i o h from to =
+    let every = sym (filter_every (range_with_len a n)) in
     items.each_is_valid s law at (λ x. true) b hi a n lo l i o
-    (subst (λ (xs : List ℕ). AreValidAt s at b hi xs lo l) (sym (every (range_with_len a n))) h)
-    from to refl
+    (subst (λ (xs : List ℕ). AreValidAt s at b hi xs lo l) every h) from to refl
 
 -- if all indices are below `n`, no position is the first whose index isn't
 not_below_exclusive : (w : Width) (b : List ℕ) (n : ℕ) (qs : List ℕ) (e : VerifyError)

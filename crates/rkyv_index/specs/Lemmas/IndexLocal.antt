@@ -5,7 +5,6 @@ use Rattle.std.specs.Prelude.{unsigned_abs}
 use Rattle.std.specs.Int.{Width, byte_len}
 use Rattle.std.proofs.lemmas.List.{ext_get_or, get_or-map, length-map}
 use Rattle.std.proofs.lemmas.List.FromFn.{get_or-range_with_len, length-range_with_len}
-use Rattle.std.proofs.lemmas.Option.{slice_get_within}
 use Rattle.rkyv_scan.specs.{Hasher, HasherCall, hash_of_calls}
 use Rattle.rkyv_base.specs.{AgreeOn, ElementSpec, IsArchiveWord, IsElement, PairRepresents}
 use Rattle.rkyv_base.specs.{RepresentsLocally, entry_spec, number_at}
@@ -24,7 +23,7 @@ use Rattle.rkyv_table.proofs.WrittenTables.{home_pos, home_walked}
 use Rattle.rkyv_index.specs.{IndexRepresents, IndexWrittenAt, IsValidIndex, entries_pos, entry_at}
 use Rattle.rkyv_index.specs.{index_spec, indices_of, pair_pos, stored_index_spec}
 use Rattle.rkyv_index.specs.Lemmas.IndexLaws.{each_is_valid, entry_inside, stored_index_element}
-use Rattle.rkyv_index.specs.Lemmas.IndexLaws.{decoded_same, head_same, index_same_at}
+use Rattle.rkyv_index.specs.Lemmas.IndexLaws.{decoded_same, head_same, index_same_at, listed_below}
 
 -- An index map that was written in `b` under the hashes `key_hash` was also written in `c` under
 -- `hash_after`. Both have the same header of the table at `p`, and the same control bytes if it has
@@ -192,10 +191,9 @@ module _ (w : Width) (kind : IsArchiveWord w) (k v : ElementSpec) (kl : IsElemen
       len = sym same_len ∙ st.len;
       cap = sym same_cap ∙ st.cap;
       at = λ i pair e.
-          let inside = slice_get_within pairs i pair e in
-          let n = st.len in
+          let below = listed_below pairs (len_at w b p) i pair st.len e in
           subst (λ z. PairRepresents k v key value c z pair) (same_pos i)
-          (same_pair i (omega (arith, inside, n)) pair (st.at i pair e));
+          (same_pair i below pair (st.at i pair e));
     }
 
 module _ {State : Type 0} (hasher : Hasher State)

@@ -1,25 +1,25 @@
 -- A written index map is valid and represents its list, in any archive that has its bytes.
 use Rattle.std.proofs.Common.{arith, get_or, refl, sym, ◌∙◌, ap, subst, inl, inr, zero}
 use Rattle.std.proofs.Common.{length-append}
-use Rattle.std.proofs.lemmas.Int.{ints, to_z-of_z}
+use Rattle.std.proofs.lemmas.Int.{ints}
 use Rattle.std.proofs.lemmas.List.{ext_get_or, get_or-map, get_or_default, length-map}
 use Rattle.std.proofs.lemmas.List.{length-replicate}
 use Rattle.std.proofs.lemmas.List.FromFn.{get_or-range_with_len, length-range_with_len}
-use Rattle.std.proofs.Math.Facts.{Fits-of_z}
-use Rattle.std.specs.Int.{Width, byte_len, cast_signed, cast_unsigned, from_le_bytes, to_le_bytes}
+use Rattle.std.specs.Int.{Width, byte_len, cast_unsigned, to_le_bytes}
 use Rattle.std.specs.List.{range_with_len}
-use Rattle.std.specs.Prelude.{◌≡◌, ℕ, suc, ◌+◌, ◌*◌, ◌%◌, ◌<◌, ◌≤◌, ℤ, pos, ◌+ℤ◌, ◌-ℤ◌}
+use Rattle.std.specs.Prelude.{◌≡◌, ℕ, suc, ◌+◌, ◌*◌, ◌%◌, ◌<◌, ◌≤◌, pos, ◌+ℤ◌, ◌-ℤ◌}
 use Rattle.std.specs.Prelude.{unsigned_abs, FitsSigned, Bool, true, List, [], ◌∷◌, ◌++◌, length}
-use Rattle.std.specs.Prelude.{Some, map, slice_get, slice_index, slice_range}
+use Rattle.std.specs.Prelude.{Some, map, slice_get, slice_index}
 use Rattle.rkyv_base.specs.{ElementSpec, Encoding, Format, IsArchiveWord, IsElement, IsFormat}
 use Rattle.rkyv_base.specs.{IsIndexEncoding, IsScalar, IsWord, OccursAt, PairRepresents}
 use Rattle.rkyv_base.specs.{ScalarRepresents, ValidAt, entry_spec, number_at, padding, pair_format}
-use Rattle.rkyv_base.specs.{round_up, scalar_format, signed_at, zeros}
+use Rattle.rkyv_base.specs.{round_up, scalar_format, zeros}
 use Rattle.rkyv_base.specs.Lemmas.Bytes.{occurs_back, occurs_front}
 use Rattle.rkyv_base.specs.Lemmas.Entry.{entry_element, round_up-multiple}
 use Rattle.rkyv_base.specs.Lemmas.Pairs.{pair_is_format}
-use Rattle.rkyv_base.specs.Lemmas.Scalar.{scalar_is_format, word_bytes, word_reads_back}
+use Rattle.rkyv_base.specs.Lemmas.Scalar.{scalar_is_format, word_bytes}
 use Rattle.rkyv_base.specs.Lemmas.Text.{by_archive_word}
+use Rattle.rkyv_base.specs.Lemmas.Words.{distances_read_back}
 use Rattle.rkyv_keys.specs.Lemmas.QueryLaws.{hashes_as_written}
 use Rattle.rkyv_keys.specs.{Comparison, FitsItsEqual, HashesAlike, IsQuery, hash_at, hash_of}
 use Rattle.rkyv_scan.specs.{Hasher, HasherCall, hash_of_calls}
@@ -66,17 +66,6 @@ module _ {X P : Type 0} (own : X → ℕ) (v : ℕ → P) where
       omega arith in h (suc j) y e ∙ ap (λ m. hash (at m)) n) in
       ap (λ (n : ℕ). n ∷ hashes_of (indices_from own v (i + 1) xs)) (h 0 x refl
       ∙ ap (λ m. hash (at m)) k) ∙ ap (λ (l : List ℕ). hash (at i) ∷ l) rest
-
--- a written distance is read back
-distance_back : (w : Width) → IsArchiveWord w → (d : ℤ) (c : List ℕ) (p : ℕ) → FitsSigned w d
-    → OccursAt c p (to_le_bytes w (cast_unsigned w d)) → signed_at w c p ≡ d
-distance_back w kind d c p fits s =
-    let word : IsWord w =
-    by_archive_word IsWord (inr (inr (inl refl))) (inr (inr (inr refl))) w kind in
-    let n = cast_unsigned w d in
-    let there : number_at w c p ≡ n = ap (from_le_bytes w) (ap (λ k. slice_range c p (p + k))
-    (sym (word_bytes w word n)) ∙ s.there) ∙ word_reads_back w word n (Fits-of_z fits).fits in
-    ap (cast_signed w) there ∙ to_z-of_z w d fits
 
 module _ {P X R : Type 0} (w : Width) (kind : IsArchiveWord w) (ps : ElementSpec) (e : Encoding P)
     (pe : IsElement ps) (pk : IsScalar ps e) (index : IsIndexEncoding w e) (back : CodesReadBack e)
@@ -228,7 +217,7 @@ module _ {P X R : Type 0} (w : Width) (kind : IsArchiveWord w) (ps : ElementSpec
 
       decoded : decode_entries w c p ≡ pos begin
       decoded =
-          let d = distance_back w kind i.distance c (distance_pos w p) i.fits
+          let d = distances_read_back w kind i.distance c (distance_pos w p) i.fits
           (subst (λ k. OccursAt c (p + k) (to_le_bytes w (cast_unsigned w i.distance))) table_length
           (occurs_back c p i.table (to_le_bytes w (cast_unsigned w i.distance)) header_sits)) in
           let k : pos (distance_pos w p) +ℤ (pos begin -ℤ pos (distance_pos w p)) ≡ pos begin =

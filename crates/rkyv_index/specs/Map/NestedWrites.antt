@@ -1,9 +1,11 @@
 -- Index maps with a value that is written among its parts, as a map that is a value.
-use Rattle.std.specs.Prelude.{◌≡◌, ◌≢◌, ℕ, ◌+◌, ◌*◌, ◌<◌, List, Some, slice_get, slice_set}
+use Rattle.std.specs.Prelude.{◌≡◌, ◌≢◌, ℕ, ◌+◌, ◌*◌, ◌<◌, ◌^◌, Bool, List, Some, slice_get}
+use Rattle.std.specs.Prelude.{slice_set}
 use Rattle.std.specs.Int.{Width, byte_len}
 use Rattle.rkyv_base.specs.{AgreeOn, ElementSpec, Viewable, entry_spec, number_at, value_pos}
-use Rattle.rkyv_table.specs.{IsWalked, StaysAt, WritesAmongParts, WritesValue, item_at, len_at}
-use Rattle.rkyv_table.specs.{table_controls}
+use Rattle.rkyv_table.specs.{IsWalked, RestsOnParts, StaysAt, WritesAmongParts, WritesValue}
+use Rattle.rkyv_table.specs.{item_at, len_at, table_controls}
+use Rattle.rkyv_index.specs.Map.{fits_in, index_found}
 use Rattle.rkyv_index.specs.Map.IndexFormat.{IndexRepresents, IndexWrittenAt}
 use Rattle.rkyv_index.specs.Map.IndexLayout.{index_spec}
 use Rattle.rkyv_index.specs.Map.ValueWrites.{pair_at}
@@ -11,7 +13,8 @@ use Rattle.rkyv_index.specs.Map.ValueWrites.{pair_at}
 module _ (w : Width) (k v : ElementSpec) where
   -- The index map at `p` in `b`, after a write among the parts of the value at index `i`, is an
   -- index map in `c`. Its header, its control bytes, its indices, the positions of its pairs,
-  -- all keys and all other values are unchanged. A written index map is still one,
+  -- all keys and all other values are unchanged. Each lookup that depends only on the key
+  -- and its parts finds the same index. A written index map is still one,
   -- and the write is among the parts of the index map
   pub record KeepsOuterIndexMap (key_hash : List ℕ → ℕ → ℕ) (b c : List ℕ) (p i : ℕ) : Type 0 where
     pub valid : Viewable (index_spec w (entry_spec k v)) c p
@@ -27,6 +30,9 @@ module _ (w : Width) (k v : ElementSpec) where
         → StaysAt v b c (value_pos k v (pair_at w k v b p j))
     pub hashes : (j : ℕ) → j < len_at w b p
         → key_hash c (pair_at w k v b p j) ≡ key_hash b (pair_at w k v b p j)
+    pub lookups : (hash : ℕ) (fits : List ℕ → ℕ → Bool) → hash < 2 ^ 64 → RestsOnParts k fits
+        → index_found w c p hash (fits_in w k v c p fits)
+        ≡ index_found w b p hash (fits_in w k v b p fits)
     pub written : (homes : List ℕ)
         → IndexWrittenAt w (entry_spec k v).size key_hash b p homes
         → IndexWrittenAt w (entry_spec k v).size key_hash c p homes
@@ -44,6 +50,16 @@ module _ (w : Width) (k v : ElementSpec) where
       → Viewable (index_spec w (entry_spec k v)) b p → i < len_at w b p
       → WritesAmongParts v b c (value_pos k v (pair_at w k v b p i))
       → KeepsOuterIndexMap key_hash b c p i
+
+  -- after a write among the parts of the value at an index, each query `q` finds the same index.
+  -- `hash q`: its hash
+  abbrev pub NestedWritesKeepLookups : {Q : Type 0} → (Q → Type 0) → (Q → ℕ)
+      → (Q → List ℕ → ℕ → Bool) → Type 0
+  NestedWritesKeepLookups {Q} can_read hash fits = (b c : List ℕ) (p i : ℕ)
+      → Viewable (index_spec w (entry_spec k v)) b p → i < len_at w b p
+      → WritesAmongParts v b c (value_pos k v (pair_at w k v b p i)) → (q : Q) → can_read q
+      → index_found w c p (hash q) (fits_in w k v c p (fits q))
+      ≡ index_found w b p (hash q) (fits_in w k v b p (fits q))
 
   -- after a write among the parts of the value at index `n`, the index map represents the list
   -- with the new value

@@ -72,7 +72,7 @@ impl<'a, K: KeyElement, V: Element, H: KeyHasher, W: Width> ArchivedIndexMap<'a,
     /// The map is at `root` of the archive. The result is that of `write`. If no key is found,
     /// the result is `None`, and nothing is written.
     ///
-    /// In an untrusted archive, the lookup may read every group of control bytes once.
+    /// In an untrusted archive, the lookup may read all control bytes.
     ///
     /// # Requires
     ///

@@ -80,10 +80,12 @@ pub fn both_hashers_look_up_alike<Q: Query<K>, K: FixedKey, V: Element, W: Width
 {}
 
 /// States the layout of an index map, and that it represents the pairs of a list in order.
-pub fn index_maps_are_laid_out<W, A, B, K: KeyElement + Represents<A>, V: Represents<B>>()
+///
+/// The layout is the same under every hasher. Lists are under `FxHasher64` alone.
+pub fn index_maps_are_laid_out<W, H, A, B, K: KeyElement + Represents<A>, V: Represents<B>>()
 where
     W: Width,
-    ensures spec { SameSpec ⟦<IndexMapOf<K, V, FxHasher64, W> as HasSpec>⟧.spec
+    ensures spec { SameSpec ⟦<IndexMapOf<K, V, H, W> as HasSpec>⟧.spec
         (index_spec W.word (entry_spec K.spec V.spec)) }
     ensures list { SameValues
         ⟦<IndexMapOf<K, V, FxHasher64, W> as Represents<OrderedPairs<A, B>>>⟧.represents

@@ -4,7 +4,7 @@
 //! - `get_index_of` returns the index, and `contains` returns `true` if a key is found.
 //! - `get_index` returns the key at an index.
 //!
-//! A lookup in an untrusted set may read every group of its control bytes once.
+//! A lookup in an untrusted set may read all of its control bytes.
 //! `FxHasher64` takes no secret key, so it doesn't protect from chosen input.
 ghost use Rattle.std.specs.Prelude.{IfSome, IsTrue, MatchOption, length, ◌↔◌, ◌≡◌, ◌≤◌};
 ghost use Rattle.rkyv_base.specs.{IsAt, IsValidView, archive_of, entry_spec, pos_of, unit_spec};
@@ -29,6 +29,16 @@ impl<'a, K: Element, H, W: Width> ArchivedIndexSet<'a, K, H, W> {
     /// # Requires
     ///
     /// - The view is of a valid index set.
+    ///
+    /// # Examples
+    ///
+    /// ```rust
+    /// // Returns the number of a text, from an untrusted table.
+    /// fn number(table: &[u8], text: &str) -> Result<Option<usize>, VerifyError> {
+    ///     let set = ArchivedIndexSet::of(access::<IndexSetOf<Text>>(table)?);
+    ///     Ok(set.get_index_of(&text))
+    /// }
+    /// ```
     #[inline]
     pub fn of(view: View<'a, IndexSetOf<K, H, W>>) -> ArchivedIndexSet<'a, K, H, W>
         requires { IsValidView (index_set_spec W.word K.spec) view }
@@ -149,7 +159,7 @@ impl<'a, K: KeyElement, H: KeyHasher, W: Width> ArchivedIndexSet<'a, K, H, W> {
     /// No key is missed if `misplaced` is 0. The lookup then finds the one key that the query
     /// matches, and `None` if and only if it matches none.
     ///
-    /// A lookup in an untrusted set may read every group of its control bytes once.
+    /// A lookup in an untrusted set may read all of its control bytes.
     /// `FxHasher64` takes no secret key, so it doesn't protect from chosen input.
     ///
     /// # Requires
@@ -169,7 +179,7 @@ impl<'a, K: KeyElement, H: KeyHasher, W: Width> ArchivedIndexSet<'a, K, H, W> {
     ///
     /// It looks up as `get_full` does.
     ///
-    /// A lookup in an untrusted set may read every group of its control bytes once.
+    /// A lookup in an untrusted set may read all of its control bytes.
     ///
     /// # Requires
     ///
@@ -209,7 +219,7 @@ impl<'a, K: KeyElement, H: KeyHasher, W: Width> ArchivedIndexSet<'a, K, H, W> {
     ///
     /// It looks up as `get_full` does.
     ///
-    /// A lookup in an untrusted set may read every group of its control bytes once.
+    /// A lookup in an untrusted set may read all of its control bytes.
     ///
     /// # Requires
     ///
@@ -235,7 +245,7 @@ impl<'a, K: KeyElement, H: KeyHasher, W: Width> ArchivedIndexSet<'a, K, H, W> {
 
     /// Returns `true` if and only if the query finds a key.
     ///
-    /// A lookup in an untrusted set may read every group of its control bytes once.
+    /// A lookup in an untrusted set may read all of its control bytes.
     ///
     /// # Requires
     ///

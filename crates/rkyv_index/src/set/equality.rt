@@ -31,10 +31,13 @@ impl<'a, K: ElementEq, H, W: Width> ArchivedIndexSet<'a, K, H, W> {
 impl<'a, K: KeyElement, H: KeyHasher, W: Width> ArchivedIndexSet<'a, K, H, W> {
     /// Returns the number of keys that a lookup of their own doesn't find.
     ///
+    /// A key is found if the lookup returns its own index. Otherwise the lookup finds another key
+    /// that is the same, or none.
+    ///
     /// In a written set, it is the number of keys that are the same as an earlier key
     /// in insertion order. An untrusted set may have other misplaced keys.
     ///
-    /// Each key is looked up once, and each lookup may read every group of the control bytes.
+    /// Each key is looked up once, and each lookup may read all control bytes.
     /// Keys that share a hash cost a number of comparisons that is quadratic in their number.
     /// `FxHasher64` takes no secret key, so chosen keys can share one.
     pub fn misplaced(self) -> usize
@@ -53,8 +56,9 @@ impl<'a, K: KeyElement, H: KeyHasher, W: Width> ArchivedIndexSet<'a, K, H, W> {
     /// The result is `None` if and only if the lookups of all keys read more than `limit` strides
     /// of sixteen control bytes, or more than 2^63.
     ///
-    /// It reads at most `limit` strides and those of one more lookup, so its cost on an untrusted
-    /// set is bounded.
+    /// By its code alone, it reads at most `limit` strides and those of one more lookup, so its
+    /// cost on an untrusted set is bounded. The contract of `misplaced_up_to_counted` of index maps
+    /// also says so.
     pub fn misplaced_up_to(self, limit: u64) -> Option<usize>
         ensures { CountsUpTo (index_of_set self.entry) (hash_at H.hasher K.key_calls) K.same limit 0
             result }

@@ -1,12 +1,15 @@
 //! Laws of index sets, over their definitions alone.
 //!
-//! They are about deserialized lists, lookups, walks, the layout and the written bytes.
+//! They are about deserialized lists, lookups, walks, the layout and the formats of lists.
+//! `written` is about the bytes of written index sets.
 ghost use Rattle.rkyv_keys.specs.{fx_key_format, hash_at, native_key_format, native_keys};
 ghost use Rattle.rkyv_index.specs.{ComparedAlike, ItemsReadBackAreListed, MembersFoundAreListed};
 ghost use Rattle.rkyv_index.specs.{QueriedAlike, SameFormats, SetWalksVisitInOrder, WrittenAlike};
 ghost use Rattle.rkyv_index.specs.{index_keys_format, index_set_spec, indices, ordered_items};
 ghost use Rattle.rkyv_index.specs.{ordered_items_format};
 ghost use Rattle.rkyv_base.specs.{SameFormat, SameSpec, SameValues, unit_spec};
+
+pub mod written;
 
 use crate::lists::OrderedItems;
 use crate::map::laws::both_hashers_look_up_alike as maps_look_up_alike;
@@ -69,8 +72,10 @@ pub fn both_hashers_look_up_alike<Q: Query<K>, K: FixedKey, W: Width>()
 }
 
 /// States the layout of an index set, and that it represents the keys of a list in order.
-pub fn index_sets_are_laid_out<W: Width, A, K: KeyElement + Represents<A>>()
-    ensures spec { SameSpec ⟦<IndexSetOf<K, FxHasher64, W> as HasSpec>⟧.spec
+///
+/// The layout is the same under every hasher. Lists are under `FxHasher64` alone.
+pub fn index_sets_are_laid_out<W: Width, H, A, K: KeyElement + Represents<A>>()
+    ensures spec { SameSpec ⟦<IndexSetOf<K, H, W> as HasSpec>⟧.spec
         (index_set_spec W.word K.spec) }
     ensures list { SameValues
         ⟦<IndexSetOf<K, FxHasher64, W> as Represents<OrderedItems<A>>>⟧.represents

@@ -40,7 +40,8 @@ impl<'a, K: KeyElement, H: KeyHasher, W: IndexMapWidth> ArchivedIndexSet<'a, K, 
     /// to the unit value. Equal keys are kept, and a lookup finds the first.
     ///
     /// By tests alone: the iterator is called at most `len + 1` times,
-    /// and not after it returned `None`.
+    /// and not after it returned `None`. Memory for the keys is allocated before one is taken,
+    /// and memory for the table afterwards.
     ///
     /// # Requires
     ///
@@ -58,6 +59,18 @@ impl<'a, K: KeyElement, H: KeyHasher, W: IndexMapWidth> ArchivedIndexSet<'a, K, 
     /// If the call itself fails with one of the first four errors, nothing is written. A key
     /// that fails with the same error may follow bytes that were written. The bytes written
     /// before the call are unchanged.
+    ///
+    /// # Examples
+    ///
+    /// ```rust
+    /// let mut writer = VecWriter::new(alloc);
+    /// let resolver = ArchivedIndexSet::<i8, FxHasher64, Narrow>::serialize_from_iter::<
+    ///     VecWriter,
+    ///     i8,
+    ///     i8,
+    ///     _,
+    /// >(alloc, keys.into_iter(), 1, (7, 8), &mut writer)?;
+    /// ```
     pub fn serialize_from_iter<
         S: Writer,
         A: NativeKey<K> + Serialize<S, W, Archived = K>,

@@ -20,7 +20,7 @@ type Small = IndexMapOf<i8, i8>;
 
 #[test]
 fn a_key_is_found_with_its_index(rt: HostRuntime) -> Result<(), Fail> {
-    index_maps_are_laid_out::<Narrow, i8, i8, i8, i8>();
+    index_maps_are_laid_out::<Narrow, FxHasher64, i8, i8, i8, i8>();
     items_are_yielded::<i8, i8>();
     walks_visit_in_order::<i8, i8, i8, i8, FxHasher64, Narrow>();
     let bytes = four_entries();

@@ -2,18 +2,16 @@
 ghost use Rattle.std.specs.Int.{w32, w8};
 ghost use Rattle.std.specs.Prelude.{IfOk, IfSome};
 ghost use Rattle.rkyv_base.specs.{Viewable, entry_spec, scalar_spec, signed};
-ghost use Rattle.rkyv_collections.specs.{map_spec};
 ghost use Rattle.rkyv_index.specs.{index_spec};
 
-use crate::tests::sealed::index_of;
+use crate::tests::sealed::{index_of, value_pos};
 use rkyv_base::access::access;
 use rkyv_base::errors::VerifyError;
 use rkyv_base::root::to_bytes;
-use rkyv_base::view::found_pos;
 use rkyv_base::width::Narrow;
 use rkyv_collections::MapPairs;
 use rkyv_collections::map::in_place::set_value_of;
-use rkyv_collections::map::laws::nested::nested_writes_keep_maps;
+use rkyv_collections::map::laws::nested::{nested_writes_keep_lookups, nested_writes_keep_maps};
 use rkyv_collections::map::{ArchivedHashMap, HashMapOf};
 use rkyv_index::map::in_place::set_value_at;
 use rkyv_index::map::laws::nested::nested_writes_keep_index_maps;
@@ -61,15 +59,6 @@ fn value_in_order(bytes: &[u8]) -> Result<Option<i8>, VerifyError> {
     Ok(value.map(|value| value.to_native()))
 }
 
-// Returns the position of the hash map of a key, which is valid.
-fn map_pos(bytes: &[u8], key: i8) -> Result<Option<u64>, VerifyError>
-    ensures { IfOk result (λ found. IfSome found (Viewable
-        (map_spec w32 (scalar_spec (signed w8)) (scalar_spec (signed w8))) bytes.now)) }
-{
-    let outer = ArchivedIndexMap::of(access::<MapsInOrder>(bytes)?);
-    Ok(found_pos(outer.get(&key)))
-}
-
 // Returns the position of the index map of a key, which is valid.
 fn order_pos(bytes: &[u8], key: i8) -> Result<Option<u64>, VerifyError>
     ensures { IfOk result (λ found. IfSome found (Viewable
@@ -85,7 +74,7 @@ fn order_pos(bytes: &[u8], key: i8) -> Result<Option<u64>, VerifyError>
 
 // Writes the value of the key 1 of the hash map of a key. Returns `false` if there is none.
 fn write_in_map(bytes: &mut [u8], key: i8, value: i8) -> Result<bool, VerifyError> {
-    let Some(pos) = map_pos(&*bytes, key)? else {
+    let Some(pos) = value_pos::<HashMapOf<i8, i8>>(&*bytes, key)? else {
         return Ok(false);
     };
     Ok(set_value_of::<i8, i8, i8, FxHasher64, Narrow>(bytes, pos, &1, value))
@@ -130,6 +119,7 @@ fn a_hash_map_in_an_index_map_is_written(rt: HostRuntime) -> Result<(), Fail> {
 #[test]
 fn an_index_map_in_a_hash_map_is_written(rt: HostRuntime) -> Result<(), Fail> {
     nested_writes_keep_maps::<i8, IndexMapOf<i8, i8>, FxHasher64, Narrow>();
+    nested_writes_keep_lookups::<i8, IndexMapOf<i8, i8>, i8, FxHasher64, Narrow>();
     let before = ordered_maps(rt.alloc())?;
     let mut bytes = ordered_maps(rt.alloc())?;
     let written = [

@@ -25,11 +25,7 @@ fn requests_of_map(
     let mut writer = VecWriter::new(alloc);
     let outcome = Numbers::serialize_from_iter::<VecWriter, i8, i8, i8, i8, _>(
         alloc,
-        iter::from_fn(|| if yields_next(&requests, pairs) {
-            Some((1i8, 2i8))
-        } else {
-            None
-        }),
+        iter::from_fn(|| yields_next(&requests, pairs).then_some((1i8, 2i8))),
         len,
         load_factor,
         &mut writer,
@@ -48,11 +44,7 @@ fn requests_of_set(
     let mut writer = VecWriter::new(alloc);
     let outcome = Keys::serialize_from_iter::<VecWriter, i8, i8, _>(
         alloc,
-        iter::from_fn(|| if yields_next(&requests, keys) {
-            Some(1i8)
-        } else {
-            None
-        }),
+        iter::from_fn(|| yields_next(&requests, keys).then_some(1i8)),
         len,
         load_factor,
         &mut writer,

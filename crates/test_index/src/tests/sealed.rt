@@ -1,7 +1,6 @@
 //! Tests of values of index maps that are written in place.
-ghost use Rattle.std.specs.Int.{w32, w8};
 ghost use Rattle.std.specs.Prelude.{IfOk, IfSome, ◌<◌};
-ghost use Rattle.rkyv_base.specs.{Viewable, entry_spec, scalar_spec, signed};
+ghost use Rattle.rkyv_base.specs.{Viewable, entry_spec};
 ghost use Rattle.rkyv_table.specs.{len_at};
 ghost use Rattle.rkyv_index.specs.{index_spec};
 
@@ -14,7 +13,8 @@ use rkyv_base::view::{View, found_pos};
 use rkyv_base::width::{Narrow, Width};
 use rkyv_index::map::in_place::set_value_at;
 use rkyv_index::map::laws::nested::{
-    nested_writes_keep_index_maps, nested_writes_represent, value_writes_are_nested,
+    nested_writes_keep_index_maps, nested_writes_keep_lookups, nested_writes_represent,
+    value_writes_are_nested,
 };
 use rkyv_index::map::laws::{
     value_writes_keep_index_maps, value_writes_keep_lookups, values_written_represent,
@@ -243,21 +243,18 @@ fn a_value_is_written_by_its_index(rt: HostRuntime) {
     );
 }
 
-// Returns the position of the inner map of a key, which is valid.
-fn inner_pos(bytes: &[u8], key: i8) -> Result<Option<u64>, VerifyError>
-    ensures { IfOk result (λ found. IfSome found (Viewable
-        (index_spec w32 (entry_spec (scalar_spec (signed w8)) (scalar_spec (signed w8))))
-        bytes.now)) }
+// Returns the position of the value of a key, which is valid.
+pub(crate) fn value_pos<V: Element>(bytes: &[u8], key: i8) -> Result<Option<u64>, VerifyError>
+    ensures { IfOk result (λ found. IfSome found (Viewable V.spec bytes.now)) }
 {
-    let map = ArchivedIndexMap::of(access::<IndexMapOf<i8, Small>>(bytes)?);
+    let map = ArchivedIndexMap::of(access::<IndexMapOf<i8, V>>(bytes)?);
     Ok(found_pos(map.get(&key)))
 }
 
 // Writes the value of a key of the inner map of a key. Returns `false` if one of them isn't found.
 fn write_inner(bytes: &mut [u8], outer: i8, key: i8, value: i8) -> Result<bool, VerifyError> {
-    let pos = match inner_pos(&*bytes, outer)? {
-        Some(pos) => pos,
-        None => return Ok(false),
+    let Some(pos) = value_pos::<Small>(&*bytes, outer)? else {
+        return Ok(false);
     };
     match index_of::<i8, i8, FxHasher64, Narrow, i8>(&*bytes, pos, &key) {
         Some(index) => {
@@ -272,6 +269,7 @@ fn write_inner(bytes: &mut [u8], outer: i8, key: i8, value: i8) -> Result<bool, 
 fn a_value_of_an_inner_map_is_written(rt: HostRuntime) {
     value_writes_are_nested::<i8, i8, Narrow>();
     nested_writes_keep_index_maps::<i8, Small, FxHasher64, Narrow>();
+    nested_writes_keep_lookups::<i8, Small, i8, FxHasher64, Narrow>();
     nested_writes_represent::<i8, OrderedPairs<i8, i8>, i8, Small, FxHasher64, Narrow>();
     let mut bytes = map_in_a_map();
     let written = [

@@ -22,7 +22,7 @@ type Keys = IndexSetOf<i8>;
 #[test]
 fn one_item_is_written(rt: HostRuntime) -> Result<(), Fail> {
     both_hashers_look_up_alike::<i8, i8, Narrow>();
-    index_sets_are_laid_out::<Narrow, i8, i8>();
+    index_sets_are_laid_out::<Narrow, FxHasher64, i8, i8>();
     listed_items_are_written::<Narrow, FxHasher64, i8, i8>();
     ordered_items_are_written::<Narrow, i8, i8>();
     walks_visit_in_order::<i8, i8, FxHasher64, Narrow>();

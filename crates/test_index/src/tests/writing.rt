@@ -14,6 +14,7 @@ use rkyv_base::writer::{NoMemory, VecWriter};
 use rkyv_index::map::laws::written::{
     listed_pairs_are_written, ordered_pairs_are_written, written_index_maps_represent,
 };
+use rkyv_index::set::laws::written::written_index_sets_represent;
 use rkyv_index::width::IndexMapWidth;
 use rkyv_index::{ArchivedIndexMap, IndexMapOf, OrderedItems, OrderedPairs};
 use rkyv_keys::keys::{KeyElement, NativeKey};
@@ -72,6 +73,7 @@ fn pairs_are_written(rt: HostRuntime) -> Result<(), Fail> {
     listed_pairs_are_written::<Narrow, FxHasher64, i8, i8, i8, i8>();
     ordered_pairs_are_written::<Narrow, i8, i8, i8, i8>();
     written_index_maps_represent::<Narrow, FxHasher64, i8, i8, i8, i8>();
+    written_index_sets_represent::<Narrow, FxHasher64, i8, i8>();
     let alloc = rt.alloc();
     let none = narrow(alloc, &[])?;
     let one = narrow(alloc, &[(1, 2)])?;

@@ -7,7 +7,7 @@
 //! Take `found_with` of `map::in_place` if the contract must cover the bytes afterwards, and
 //! `set_value_at` to write a scalar by an index. `map::laws` has the laws of writes in place.
 //!
-//! A lookup in an untrusted map may read every group of its control bytes once.
+//! A lookup in an untrusted map may read all of its control bytes.
 ghost use Rattle.std.specs.Prelude.{IfSome, length, ◌+◌, ◌<◌, ◌≡◌, ◌≤◌};
 ghost use Rattle.rkyv_base.specs.{IsValidView, LiesIn, SealAt, Viewable, archive_in, bytes_in};
 ghost use Rattle.rkyv_base.specs.{entry_spec, pos_in, seal_pos, value_pos};
@@ -204,14 +204,14 @@ impl<'a, K: KeyElement, V: Element, H: KeyHasher, W: Width> ArchivedIndexMap<'a,
 }
 
 impl<'a, K: KeyElement, V: Element, H: KeyHasher, W: Width> ArchivedIndexMap<'a, K, V, H, W> {
-    /// Returns the index, the key and a seal of the value that the comparison finds, or `None`.
+    /// Returns an index, its key, which the comparison accepts, and a seal of its value, or `None`.
     ///
     /// It looks up as `get_full_with` does.
     ///
     /// The archive is cut in two at the start of the value. The view is of the front,
     /// and the seal is at the start of the back.
     ///
-    /// A lookup in an untrusted map may read every group of its control bytes once.
+    /// A lookup in an untrusted map may read all of its control bytes.
     ///
     /// # Requires
     ///
@@ -250,7 +250,9 @@ impl<'a, K: KeyElement, V: Element, H: KeyHasher, W: Width> ArchivedIndexMap<'a,
     /// The archive is cut in two at the start of the value. The view is of the front,
     /// and the seal is at the start of the back.
     ///
-    /// A lookup in an untrusted map may read every group of its control bytes once.
+    /// A lookup in an untrusted map may read all of its control bytes.
+    ///
+    /// The contract of `found_with` also covers the bytes of the archive afterwards.
     ///
     /// # Requires
     ///
@@ -300,7 +302,7 @@ impl<'a, K: KeyElement, V: Element, H: KeyHasher, W: Width> ArchivedIndexMap<'a,
     /// The archive is cut in two at the start of the value. The view is of the front,
     /// and the seal is at the start of the back.
     ///
-    /// A lookup in an untrusted map may read every group of its control bytes once.
+    /// A lookup in an untrusted map may read all of its control bytes.
     ///
     /// # Requires
     ///
@@ -341,7 +343,9 @@ impl<'a, K: KeyElement, V: Element, H: KeyHasher, W: Width> ArchivedIndexMap<'a,
     /// The archive is cut in two at the start of the value. The view is of the front,
     /// and the seal is at the start of the back.
     ///
-    /// A lookup in an untrusted map may read every group of its control bytes once.
+    /// A lookup in an untrusted map may read all of its control bytes.
+    ///
+    /// The contract of `found_with` also covers the bytes of the archive afterwards.
     ///
     /// # Requires
     ///
@@ -375,7 +379,7 @@ impl<'a, K: KeyElement, V: Element, H: KeyHasher, W: Width> ArchivedIndexMap<'a,
     ///
     /// It looks up as `get_with` does. The seal is over the whole archive.
     ///
-    /// A lookup in an untrusted map may read every group of its control bytes once.
+    /// A lookup in an untrusted map may read all of its control bytes.
     ///
     /// # Requires
     ///
@@ -414,7 +418,9 @@ impl<'a, K: KeyElement, V: Element, H: KeyHasher, W: Width> ArchivedIndexMap<'a,
     ///
     /// It looks up as `get` does. The seal is over the whole archive.
     ///
-    /// A lookup in an untrusted map may read every group of its control bytes once.
+    /// A lookup in an untrusted map may read all of its control bytes.
+    ///
+    /// The contract of `found_with` also covers the bytes of the archive afterwards.
     ///
     /// # Requires
     ///

@@ -33,7 +33,7 @@ impl<'a, K: Element, V: Element, H, W: Width> ArchivedIndexMap<'a, K, V, H, W> {
     /// # Errors
     ///
     /// - `Memory`: memory for the list could not be allocated.
-    /// - An error of deserializing a key or a value.
+    /// - The first error of deserializing a key or a value.
     ///
     /// # Examples
     ///

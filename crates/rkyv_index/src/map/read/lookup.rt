@@ -7,7 +7,7 @@
 //!   in place of the query's own.
 //! - `get_index_of_counted` counts the strides of control bytes that are read.
 //!
-//! A lookup in an untrusted map may read every group of its control bytes once.
+//! A lookup in an untrusted map may read all of its control bytes.
 //! `FxHasher64` takes no secret key, so it doesn't protect from chosen input.
 ghost use Rattle.std.specs.Prelude.{IfSome, ◌<◌, ◌^◌, ◌≡◌, ◌≤◌};
 ghost use Rattle.rkyv_base.specs.{IsValidView, bytes_of, entry_spec, pos_of};
@@ -76,7 +76,7 @@ impl<'a, K: KeyElement, V: Element, H: KeyHasher, W: Width> ArchivedIndexMap<'a,
     /// it is. In a written map, it is the first accepted pair in insertion order
     /// if each accepted key is under the hash of `key`.
     ///
-    /// A lookup in an untrusted map may read every group of its control bytes once.
+    /// A lookup in an untrusted map may read all of its control bytes.
     ///
     /// # Requires
     ///
@@ -140,7 +140,7 @@ impl<'a, K: KeyElement, V: Element, H: KeyHasher, W: Width> ArchivedIndexMap<'a,
     /// No key is missed if `misplaced` is 0. The lookup then finds the one key that the query
     /// matches, and `None` if and only if it matches none.
     ///
-    /// A lookup in an untrusted map may read every group of its control bytes once.
+    /// A lookup in an untrusted map may read all of its control bytes.
     /// `FxHasher64` takes no secret key, so it doesn't protect from chosen input.
     ///
     /// # Requires
@@ -194,7 +194,7 @@ impl<'a, K: KeyElement, V: Element, H: KeyHasher, W: Width> ArchivedIndexMap<'a,
     ///
     /// It looks up as `get_full_with` does.
     ///
-    /// A lookup in an untrusted map may read every group of its control bytes once.
+    /// A lookup in an untrusted map may read all of its control bytes.
     ///
     /// # Requires
     ///
@@ -216,7 +216,7 @@ impl<'a, K: KeyElement, V: Element, H: KeyHasher, W: Width> ArchivedIndexMap<'a,
     ///
     /// It looks up as `get_full` does.
     ///
-    /// A lookup in an untrusted map may read every group of its control bytes once.
+    /// A lookup in an untrusted map may read all of its control bytes.
     ///
     /// # Requires
     ///
@@ -234,7 +234,7 @@ impl<'a, K: KeyElement, V: Element, H: KeyHasher, W: Width> ArchivedIndexMap<'a,
     ///
     /// It looks up as `get_full_with` does.
     ///
-    /// A lookup in an untrusted map may read every group of its control bytes once.
+    /// A lookup in an untrusted map may read all of its control bytes.
     ///
     /// # Requires
     ///
@@ -256,7 +256,7 @@ impl<'a, K: KeyElement, V: Element, H: KeyHasher, W: Width> ArchivedIndexMap<'a,
     ///
     /// It looks up as `get_full` does.
     ///
-    /// A lookup in an untrusted map may read every group of its control bytes once.
+    /// A lookup in an untrusted map may read all of its control bytes.
     ///
     /// # Requires
     ///
@@ -289,7 +289,7 @@ impl<'a, K: KeyElement, V: Element, H: KeyHasher, W: Width> ArchivedIndexMap<'a,
     ///
     /// It looks up as `get_full_with` does.
     ///
-    /// A lookup in an untrusted map may read every group of its control bytes once.
+    /// A lookup in an untrusted map may read all of its control bytes.
     ///
     /// # Requires
     ///
@@ -353,7 +353,7 @@ impl<'a, K: KeyElement, V: Element, H: KeyHasher, W: Width> ArchivedIndexMap<'a,
     ///
     /// It looks up as `get_full` does.
     ///
-    /// A lookup in an untrusted map may read every group of its control bytes once.
+    /// A lookup in an untrusted map may read all of its control bytes.
     ///
     /// # Requires
     ///
@@ -369,7 +369,7 @@ impl<'a, K: KeyElement, V: Element, H: KeyHasher, W: Width> ArchivedIndexMap<'a,
 
     /// Returns `true` if and only if the query finds a key.
     ///
-    /// A lookup in an untrusted map may read every group of its control bytes once.
+    /// A lookup in an untrusted map may read all of its control bytes.
     ///
     /// # Requires
     ///

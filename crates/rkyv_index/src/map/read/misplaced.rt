@@ -47,7 +47,7 @@ impl<'a, K: KeyElement, V: Element, H: KeyHasher, W: Width> ArchivedIndexMap<'a,
     /// In a written map, it is the number of keys that are the same as an earlier key
     /// in insertion order. An untrusted map may have other misplaced keys.
     ///
-    /// Each key is looked up once, and each lookup may read every group of the control bytes.
+    /// Each key is looked up once, and each lookup may read all control bytes.
     /// Keys that share a hash cost a number of comparisons that is quadratic in their number.
     /// `FxHasher64` takes no secret key, so chosen keys can share one.
     ///
@@ -84,9 +84,9 @@ impl<'a, K: KeyElement, V: Element, H: KeyHasher, W: Width> ArchivedIndexMap<'a,
     /// The result is `None` if and only if the lookups of all keys read more than `limit` strides
     /// of sixteen control bytes, or more than 2^63.
     ///
-    /// It reads at most `limit` strides and those of one more lookup, so its cost on an untrusted
-    /// map is bounded: `misplaced_up_to_counted` counts them. A written map without repeated hashes
-    /// takes about one stride for each key.
+    /// By its code alone, it reads at most `limit` strides and those of one more lookup, so its
+    /// cost on an untrusted map is bounded. The contract of `misplaced_up_to_counted` also says so.
+    /// A written map without repeated hashes takes about one stride for each key.
     ///
     /// # Examples
     ///
@@ -113,6 +113,14 @@ impl<'a, K: KeyElement, V: Element, H: KeyHasher, W: Width> ArchivedIndexMap<'a,
     /// # Requires
     ///
     /// - `strides` has at most 2^63 strides.
+    ///
+    /// # Examples
+    ///
+    /// ```rust
+    /// let map = ArchivedIndexMap::of(access::<IndexMapOf<i8, i8>>(archive)?);
+    /// let mut strides = Strides::new();
+    /// let misplaced = map.misplaced_up_to_counted(limit, &mut strides);
+    /// ```
     pub fn misplaced_up_to_counted(self, limit: u64, strides: &mut Strides) -> Option<usize>
         requires room { strides.old ≤ 2 ^ 63 }
         ensures counts { CountsUpTo (index_of self.entry) (hash_at H.hasher K.key_calls) K.same

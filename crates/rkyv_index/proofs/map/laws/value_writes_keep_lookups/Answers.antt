@@ -1,6 +1,7 @@
 use Rattle.rkyv_keys.specs.Lemmas.QueryLaws.{hash_local, rests_on_keys}
 use Rattle.rkyv_keys.specs.{hash_at, hash_of}
-use Rattle.rkyv_index.proofs.ValueWrites.{index_kept, rests_on_each}
+use Rattle.rkyv_table.proofs.NestedEntries.{rests_on_key}
+use Rattle.rkyv_index.proofs.ValueWrites.{index_kept, rests_on_parts}
 use Rattle.rkyv_index.proofs.map.laws.value_writes_keep_lookups.Goals as goal
 
 pub returns : goal.returns
@@ -12,4 +13,4 @@ returns g c = λ b d p i view below writes q ready.
     (hash_local h.hasher g.met.K.KeyElement.key) in
     let rests = rests_on_keys g.K.HasSpec.laws g.met.K.ElementEquiv.equivalence g.met.K.KeyElement.key g.met.Q.Query.query in
     kept.lookups (hash_of h.hasher g.Q.KeyHash.calls q) (g.Q.Query.fits q) (g.met.H.KeyHasher.fits (g.Q.KeyHash.calls q))
-    (rests_on_each k g.Q.KeyHash.can_read g.Q.Query.fits rests q ready)
+    (rests_on_key k (g.Q.Query.fits q) (rests_on_parts k g.Q.KeyHash.can_read g.Q.Query.fits rests q ready))

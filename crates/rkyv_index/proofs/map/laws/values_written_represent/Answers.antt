@@ -1,8 +1,7 @@
-use Rattle.std.proofs.Common.{◌<◌, arith}
-use Rattle.std.proofs.lemmas.Option.{slice_get_within}
 use Rattle.rkyv_table.specs.{len_at}
 use Rattle.rkyv_keys.specs.{hash_at}
 use Rattle.rkyv_keys.specs.Lemmas.QueryLaws.{hash_local}
+use Rattle.rkyv_index.specs.Lemmas.IndexLaws.{listed_below}
 use Rattle.rkyv_index.proofs.ValueWrites.{written_value_represents}
 use Rattle.rkyv_index.proofs.map.laws.values_written_represent.Goals as goal
 
@@ -10,9 +9,7 @@ pub returns : goal.returns
 returns g c = λ b d p n factor pairs pair new view st there writes represents.
     let h = g.H.KeyHasher in
     let w = g.W.Word.word in
-    let count = st.len in
-    let within = slice_get_within pairs n pair there in
-    let below : n < len_at w b p = omega (arith, count, within) in
+    let below = listed_below pairs (len_at w b p) n pair st.len there in
     written_value_represents w g.met.W.Width.layout.kind g.K.HasSpec.spec g.V.HasSpec.spec g.K.HasSpec.laws g.V.HasSpec.laws b p view d n below writes
     (hash_at h.hasher g.K.KeyElement.key_calls)
     (hash_local h.hasher g.met.K.KeyElement.key)

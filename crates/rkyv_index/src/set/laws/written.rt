@@ -1,0 +1,26 @@
+//! The law of written index sets, in any archive that contains their bytes.
+
+ghost use Rattle.rkyv_keys.specs.{hash_at, hash_of};
+ghost use Rattle.rkyv_index.specs.{WrittenIndexSets, element, indices};
+
+use crate::width::IndexMapWidth;
+use rkyv_base::archive::Archive;
+use rkyv_base::element::Represents;
+use rkyv_keys::keys::{KeyElement, NativeKey};
+use rkyv_scan::hash::KeyHasher;
+
+/// States that a written index set with its header is valid in any archive with its bytes.
+///
+/// The header must be aligned and after the written bytes. It then has the length and the capacity
+/// of the set. The table has the indices in order, each under the hash of its key.
+/// The keys are in a row, in insertion order.
+pub fn written_index_sets_represent<
+    W: IndexMapWidth,
+    H: KeyHasher,
+    K: KeyElement + Represents<A>,
+    A: NativeKey<K> + Archive<W, Archived = K>,
+>()
+    ensures { WrittenIndexSets W.word (indices W.Place.spec W.Place.encoding)
+        (element K.spec K.represents A.format)
+        (hash_at H.hasher K.key_calls) (hash_of H.hasher A.calls) }
+{}
