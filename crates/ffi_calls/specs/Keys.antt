@@ -11,6 +11,11 @@ abbrev pub NumberKey : Type 0 → Type 1
 NumberKey A =
     record { eq : A → A → Bool; spec : ElementSpec; encoding : Encoding A; call : A → HasherCall }
 
+-- a key that is a number, by these four
+abbrev pub key_by : {A : Type 0} → (A → A → Bool) → ElementSpec → Encoding A → (A → HasherCall)
+    → NumberKey A
+key_by eq spec encoding call = record { eq = eq; spec = spec; encoding = encoding; call = call }
+
 -- an archive whose keys and values are numbers: its keys, its form and its bytes
 abbrev pub NumbersAt : Type 0 → Type 1
 NumbersAt A = record { key : NumberKey A; form : Form; bytes : List ℕ }

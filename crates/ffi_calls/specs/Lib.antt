@@ -22,8 +22,8 @@ pub mod IndexTextValues
 pub mod Lemmas
 unfoldable pub use Status.{container_status, verify_status, write_status}
 unfoldable pub use Reading.{Agrees, HasBytesOf, IsNumberOf, IsSame, ReadsText, ReadsWord}
-unfoldable pub use Keys.{NumberKey, NumberKeysAt, NumbersAt, long_key, number_keys_at, numbers_at}
-unfoldable pub use Keys.{short_key}
+unfoldable pub use Keys.{NumberKey, NumberKeysAt, NumbersAt, key_by, long_key, number_keys_at}
+unfoldable pub use Keys.{numbers_at, short_key}
 unfoldable pub use Archives.{IsHeaderOf, IsMapArchive, IsNumberArchive, IsTextArchive, KeepsHeader}
 unfoldable pub use Archives.{Opens, Overwrites, ReturnsAt, by_flag, form_of, hash_by, limit_of}
 unfoldable pub use Archives.{map_in, most_of, number_map, numbers_in, text_key, text_map, texts_in}

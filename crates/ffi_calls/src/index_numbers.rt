@@ -69,14 +69,14 @@ pub fn decode_index_numbers<K: NumberKey>(archive: &[u8], form: Form) -> Decoded
 
 /// Looks up a key, and stores the index and the value of its pair in `found`.
 ///
-/// # Errors
-///
-/// - `NOT_FOUND`: the lookup doesn't find the key; `found` is unchanged then.
-///
 /// # Requires
 ///
 /// - The archive is valid: `open_index_numbers` returned `DONE`.
 /// - `header` is its decoded header.
+///
+/// # Errors
+///
+/// - `NOT_FOUND`: the lookup doesn't find the key; `found` is unchanged then.
 pub fn get_index_number<K: NumberKey, I: IndexedOf<u64>>(
     archive: &[u8],
     form: Form,
@@ -122,16 +122,16 @@ pub fn get_index_number<K: NumberKey, I: IndexedOf<u64>>(
 /// Looks up a key, and overwrites its value in place. The archive stays valid, and its header as it
 /// is.
 ///
+/// # Requires
+///
+/// - The archive is valid: `open_index_numbers` returned `DONE`.
+///
 /// # Errors
 ///
 /// - `VALUE_TOO_LARGE`: the values of the map have 32 bits and the new one has more.
 /// - `NOT_FOUND`: the lookup doesn't find the key.
 ///
 /// After an error no byte is changed.
-///
-/// # Requires
-///
-/// - The archive is valid: `open_index_numbers` returned `DONE`.
 pub fn set_index_number<K: NumberKey>(archive: &mut [u8], form: Form, key: K, value: u64) -> u32
     requires { IsNumberIndex K.NumberKey form archive.old }
     ensures kept { IsNumberIndex K.NumberKey form archive.new }

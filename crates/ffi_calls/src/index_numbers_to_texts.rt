@@ -65,14 +65,14 @@ pub fn decode_index_numbers_to_texts<K: NumberKey>(archive: &[u8], wide: bool) -
 
 /// Looks up a key, and stores the index and the text of its pair in `found`.
 ///
-/// # Errors
-///
-/// - `NOT_FOUND`: the lookup doesn't find the key; `found` is unchanged then.
-///
 /// # Requires
 ///
 /// - The archive is valid: `open_index_numbers_to_texts` returned `DONE`.
 /// - `header` is its decoded header.
+///
+/// # Errors
+///
+/// - `NOT_FOUND`: the lookup doesn't find the key; `found` is unchanged then.
 pub fn get_index_text_of_number<'a, K: NumberKey, I: IndexedOf<&'a [u8]>>(
     archive: &'a [u8],
     wide: bool,

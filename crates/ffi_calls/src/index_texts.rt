@@ -116,17 +116,17 @@ fn get_of<I: IndexedOf<u64>>(
 
 /// Looks up a key, and stores the index and the value of its pair in `found`.
 ///
+/// # Requires
+///
+/// - The archive is valid: `open_index_texts` returned `DONE`.
+/// - `header` is its decoded header.
+///
 /// # Errors
 ///
 /// - `NOT_TEXT`: the bytes of the key aren't UTF-8.
 /// - `NOT_FOUND`: the lookup doesn't find the key.
 ///
 /// After an error `found` is unchanged.
-///
-/// # Requires
-///
-/// - The archive is valid: `open_index_texts` returned `DONE`.
-/// - `header` is its decoded header.
 pub fn get_index_text<I: IndexedOf<u64>>(
     archive: &[u8],
     form: Form,
@@ -167,6 +167,10 @@ fn set_of(archive: &mut [u8], form: Form, key: &str, value: u64) -> u32
 /// Looks up a key, and overwrites its value in place. The archive stays valid, and its header as it
 /// is.
 ///
+/// # Requires
+///
+/// - The archive is valid: `open_index_texts` returned `DONE`.
+///
 /// # Errors
 ///
 /// - `NOT_TEXT`: the bytes of the key aren't UTF-8.
@@ -174,10 +178,6 @@ fn set_of(archive: &mut [u8], form: Form, key: &str, value: u64) -> u32
 /// - `NOT_FOUND`: the lookup doesn't find the key.
 ///
 /// After an error no byte is changed.
-///
-/// # Requires
-///
-/// - The archive is valid: `open_index_texts` returned `DONE`.
 pub fn set_index_text(archive: &mut [u8], form: Form, key: &[u8], value: u64) -> u32
     requires { IsTextIndex form archive.old }
     ensures kept { IsTextIndex form archive.new }

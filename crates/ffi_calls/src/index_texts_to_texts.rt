@@ -100,17 +100,17 @@ fn get_of<'a, I: IndexedOf<&'a [u8]>>(
 
 /// Looks up a key, and stores the index and the text of its pair in `found`.
 ///
+/// # Requires
+///
+/// - The archive is valid: `open_index_texts_to_texts` returned `DONE`.
+/// - `header` is its decoded header.
+///
 /// # Errors
 ///
 /// - `NOT_TEXT`: the bytes of the key aren't UTF-8.
 /// - `NOT_FOUND`: the lookup doesn't find the key.
 ///
 /// After an error `found` is unchanged.
-///
-/// # Requires
-///
-/// - The archive is valid: `open_index_texts_to_texts` returned `DONE`.
-/// - `header` is its decoded header.
 pub fn get_index_text_of_text<'a, I: IndexedOf<&'a [u8]>>(
     archive: &'a [u8],
     wide: bool,

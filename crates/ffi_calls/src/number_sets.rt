@@ -67,14 +67,14 @@ pub fn decode_number_set<K: NumberKey>(archive: &[u8], wide: bool) -> Decoded
 
 /// Looks up an item, and returns `DONE` if it is found.
 ///
-/// # Errors
-///
-/// - `NOT_FOUND`: the lookup doesn't find the item.
-///
 /// # Requires
 ///
 /// - The archive is valid: `open_number_set` returned `DONE`.
 /// - `header` is its decoded header.
+///
+/// # Errors
+///
+/// - `NOT_FOUND`: the lookup doesn't find the item.
 pub fn contains_number<K: NumberKey>(archive: &[u8], wide: bool, header: &Decoded, item: K) -> u32
     requires archive { IsNumberSet K.NumberKey wide archive.now }
     requires header { IsHeaderOf (number_set_in K.NumberKey wide archive.now) header.now }

@@ -65,14 +65,14 @@ pub fn decode_numbers<K: NumberKey>(archive: &[u8], form: Form) -> Decoded
 
 /// Looks up a key, and stores its value in `value`.
 ///
-/// # Errors
-///
-/// - `NOT_FOUND`: the lookup doesn't find the key; `value` is unchanged then.
-///
 /// # Requires
 ///
 /// - The archive is valid: `open_numbers` returned `DONE`.
 /// - `header` is its decoded header.
+///
+/// # Errors
+///
+/// - `NOT_FOUND`: the lookup doesn't find the key; `value` is unchanged then.
 pub fn get_number<K: NumberKey>(
     archive: &[u8],
     form: Form,
@@ -118,16 +118,16 @@ pub fn get_number<K: NumberKey>(
 /// Looks up a key, and overwrites its value in place. The archive stays valid, and its header as it
 /// is.
 ///
+/// # Requires
+///
+/// - The archive is valid: `open_numbers` returned `DONE`.
+///
 /// # Errors
 ///
 /// - `VALUE_TOO_LARGE`: the values of the map have 32 bits and the new one has more.
 /// - `NOT_FOUND`: the lookup doesn't find the key.
 ///
 /// After an error no byte is changed.
-///
-/// # Requires
-///
-/// - The archive is valid: `open_numbers` returned `DONE`.
 pub fn set_number<K: NumberKey>(archive: &mut [u8], form: Form, key: K, value: u64) -> u32
     requires { IsNumberArchive K.NumberKey form archive.old }
     ensures kept { IsNumberArchive K.NumberKey form archive.new }

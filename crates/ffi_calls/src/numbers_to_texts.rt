@@ -65,14 +65,14 @@ pub fn decode_numbers_to_texts<K: NumberKey>(archive: &[u8], wide: bool) -> Deco
 
 /// Looks up a key, and stores its text in `value`.
 ///
-/// # Errors
-///
-/// - `NOT_FOUND`: the lookup doesn't find the key; `value` is unchanged then.
-///
 /// # Requires
 ///
 /// - The archive is valid: `open_numbers_to_texts` returned `DONE`.
 /// - `header` is its decoded header.
+///
+/// # Errors
+///
+/// - `NOT_FOUND`: the lookup doesn't find the key; `value` is unchanged then.
 pub fn get_text_of_number<'a, K: NumberKey>(
     archive: &'a [u8],
     wide: bool,

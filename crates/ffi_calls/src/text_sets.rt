@@ -78,15 +78,15 @@ fn contains_of(archive: &[u8], wide: bool, header: &Decoded, item: &str) -> u32
 
 /// Looks up an item, and returns `DONE` if it is found.
 ///
-/// # Errors
-///
-/// - `NOT_TEXT`: the bytes of the item aren't UTF-8.
-/// - `NOT_FOUND`: the lookup doesn't find the item.
-///
 /// # Requires
 ///
 /// - The archive is valid: `open_text_set` returned `DONE`.
 /// - `header` is its decoded header.
+///
+/// # Errors
+///
+/// - `NOT_TEXT`: the bytes of the item aren't UTF-8.
+/// - `NOT_FOUND`: the lookup doesn't find the item.
 pub fn contains_text(archive: &[u8], wide: bool, header: &Decoded, item: &[u8]) -> u32
     requires archive { IsTextSet wide archive.now }
     requires header { IsHeaderOf (text_set_in wide archive.now) header.now }

@@ -120,17 +120,17 @@ fn get_of(archive: &[u8], form: Form, header: &Decoded, key: &str, value: &mut u
 
 /// Looks up a key, and stores its value in `value`.
 ///
+/// # Requires
+///
+/// - The archive is valid: `open_texts` returned `DONE`.
+/// - `header` is its decoded header.
+///
 /// # Errors
 ///
 /// - `NOT_TEXT`: the bytes of the key aren't UTF-8.
 /// - `NOT_FOUND`: the lookup doesn't find the key.
 ///
 /// After an error `value` is unchanged.
-///
-/// # Requires
-///
-/// - The archive is valid: `open_texts` returned `DONE`.
-/// - `header` is its decoded header.
 pub fn get_text(archive: &[u8], form: Form, header: &Decoded, key: &[u8], value: &mut u64) -> u32
     requires archive { IsTextArchive form archive.now }
     requires header { IsHeaderOf (texts_in form archive.now) header.now }
@@ -164,6 +164,10 @@ fn set_of(archive: &mut [u8], form: Form, key: &str, value: u64) -> u32
 /// Looks up a key, and overwrites its value in place. The archive stays valid, and its header as it
 /// is.
 ///
+/// # Requires
+///
+/// - The archive is valid: `open_texts` returned `DONE`.
+///
 /// # Errors
 ///
 /// - `NOT_TEXT`: the bytes of the key aren't UTF-8.
@@ -171,10 +175,6 @@ fn set_of(archive: &mut [u8], form: Form, key: &str, value: u64) -> u32
 /// - `NOT_FOUND`: the lookup doesn't find the key.
 ///
 /// After an error no byte is changed.
-///
-/// # Requires
-///
-/// - The archive is valid: `open_texts` returned `DONE`.
 pub fn set_text(archive: &mut [u8], form: Form, key: &[u8], value: u64) -> u32
     requires { IsTextArchive form archive.old }
     ensures kept { IsTextArchive form archive.new }

@@ -98,17 +98,17 @@ fn get_of<'a>(
 
 /// Looks up a key, and stores its text in `value`.
 ///
+/// # Requires
+///
+/// - The archive is valid: `open_texts_to_texts` returned `DONE`.
+/// - `header` is its decoded header.
+///
 /// # Errors
 ///
 /// - `NOT_TEXT`: the bytes of the key aren't UTF-8.
 /// - `NOT_FOUND`: the lookup doesn't find the key.
 ///
 /// After an error `value` is unchanged.
-///
-/// # Requires
-///
-/// - The archive is valid: `open_texts_to_texts` returned `DONE`.
-/// - `header` is its decoded header.
 pub fn get_text_of_text<'a>(
     archive: &'a [u8],
     wide: bool,

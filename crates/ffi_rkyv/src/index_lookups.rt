@@ -17,14 +17,14 @@ use rkyv_table::table::decoded::Decoded;
 /// Looks up a key of a narrow index map of numbers to `u32`, and stores the index and the value of
 /// its pair in `found`.
 ///
-/// # Errors
-///
-/// - 1: the lookup doesn't find the key; `found` is unchanged then.
-///
 /// # Requires
 ///
 /// - The archive is valid: `rkyv_c_index_open_numbers` returned 0.
 /// - `header` is its decoded header.
+///
+/// # Errors
+///
+/// - 1: the lookup doesn't find the key; `found` is unchanged then.
 #[unsafe(no_mangle)]
 pub extern "C" fn rkyv_c_index_get_number_u32_narrow(
     archive: &[u8],
@@ -50,14 +50,14 @@ pub extern "C" fn rkyv_c_index_get_number_u32_narrow(
 /// Looks up a key of a narrow index map of numbers to `u64`, and stores the index and the value of
 /// its pair in `found`.
 ///
-/// # Errors
-///
-/// - 1: the lookup doesn't find the key; `found` is unchanged then.
-///
 /// # Requires
 ///
 /// - The archive is valid: `rkyv_c_index_open_numbers` returned 0.
 /// - `header` is its decoded header.
+///
+/// # Errors
+///
+/// - 1: the lookup doesn't find the key; `found` is unchanged then.
 #[unsafe(no_mangle)]
 pub extern "C" fn rkyv_c_index_get_number_u64_narrow(
     archive: &[u8],
@@ -83,14 +83,14 @@ pub extern "C" fn rkyv_c_index_get_number_u64_narrow(
 /// Looks up a key of a wide index map of numbers to `u32`, and stores the index and the value of
 /// its pair in `found`.
 ///
-/// # Errors
-///
-/// - 1: the lookup doesn't find the key; `found` is unchanged then.
-///
 /// # Requires
 ///
 /// - The archive is valid: `rkyv_c_index_open_numbers` returned 0.
 /// - `header` is its decoded header.
+///
+/// # Errors
+///
+/// - 1: the lookup doesn't find the key; `found` is unchanged then.
 #[unsafe(no_mangle)]
 pub extern "C" fn rkyv_c_index_get_number_u32_wide(
     archive: &[u8],
@@ -116,14 +116,14 @@ pub extern "C" fn rkyv_c_index_get_number_u32_wide(
 /// Looks up a key of a wide index map of numbers to `u64`, and stores the index and the value of
 /// its pair in `found`.
 ///
-/// # Errors
-///
-/// - 1: the lookup doesn't find the key; `found` is unchanged then.
-///
 /// # Requires
 ///
 /// - The archive is valid: `rkyv_c_index_open_numbers` returned 0.
 /// - `header` is its decoded header.
+///
+/// # Errors
+///
+/// - 1: the lookup doesn't find the key; `found` is unchanged then.
 #[unsafe(no_mangle)]
 pub extern "C" fn rkyv_c_index_get_number_u64_wide(
     archive: &[u8],

@@ -70,16 +70,16 @@ pub extern "C" fn rkyv_c_index_decode_numbers(
 /// Looks up a key, and overwrites its value in place. The archive stays valid, and its header as it
 /// is.
 ///
+/// # Requires
+///
+/// - The archive is valid: `rkyv_c_index_open_numbers` returned 0.
+///
 /// # Errors
 ///
 /// - 3: the values of the map have 32 bits and the new one has more.
 /// - 1: the lookup doesn't find the key.
 ///
 /// After an error no byte is changed.
-///
-/// # Requires
-///
-/// - The archive is valid: `rkyv_c_index_open_numbers` returned 0.
 #[unsafe(no_mangle)]
 pub extern "C" fn rkyv_c_index_set_number(
     archive: &mut [u8],

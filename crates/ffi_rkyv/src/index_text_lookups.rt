@@ -16,17 +16,17 @@ use rkyv_table::table::decoded::Decoded;
 /// Looks up a key of a narrow index map of texts to `u32`, and stores the index and the value of
 /// its pair in `found`.
 ///
+/// # Requires
+///
+/// - The archive is valid: `rkyv_c_index_open_texts` returned 0.
+/// - `header` is its decoded header.
+///
 /// # Errors
 ///
 /// - 4: the bytes of the key aren't UTF-8.
 /// - 1: the lookup doesn't find the key.
 ///
 /// After an error `found` is unchanged.
-///
-/// # Requires
-///
-/// - The archive is valid: `rkyv_c_index_open_texts` returned 0.
-/// - `header` is its decoded header.
 #[unsafe(no_mangle)]
 pub extern "C" fn rkyv_c_index_get_text_u32_narrow(
     archive: &[u8],
@@ -53,17 +53,17 @@ pub extern "C" fn rkyv_c_index_get_text_u32_narrow(
 /// Looks up a key of a narrow index map of texts to `u64`, and stores the index and the value of
 /// its pair in `found`.
 ///
+/// # Requires
+///
+/// - The archive is valid: `rkyv_c_index_open_texts` returned 0.
+/// - `header` is its decoded header.
+///
 /// # Errors
 ///
 /// - 4: the bytes of the key aren't UTF-8.
 /// - 1: the lookup doesn't find the key.
 ///
 /// After an error `found` is unchanged.
-///
-/// # Requires
-///
-/// - The archive is valid: `rkyv_c_index_open_texts` returned 0.
-/// - `header` is its decoded header.
 #[unsafe(no_mangle)]
 pub extern "C" fn rkyv_c_index_get_text_u64_narrow(
     archive: &[u8],
@@ -90,17 +90,17 @@ pub extern "C" fn rkyv_c_index_get_text_u64_narrow(
 /// Looks up a key of a wide index map of texts to `u32`, and stores the index and the value of its
 /// pair in `found`.
 ///
+/// # Requires
+///
+/// - The archive is valid: `rkyv_c_index_open_texts` returned 0.
+/// - `header` is its decoded header.
+///
 /// # Errors
 ///
 /// - 4: the bytes of the key aren't UTF-8.
 /// - 1: the lookup doesn't find the key.
 ///
 /// After an error `found` is unchanged.
-///
-/// # Requires
-///
-/// - The archive is valid: `rkyv_c_index_open_texts` returned 0.
-/// - `header` is its decoded header.
 #[unsafe(no_mangle)]
 pub extern "C" fn rkyv_c_index_get_text_u32_wide(
     archive: &[u8],
@@ -127,17 +127,17 @@ pub extern "C" fn rkyv_c_index_get_text_u32_wide(
 /// Looks up a key of a wide index map of texts to `u64`, and stores the index and the value of its
 /// pair in `found`.
 ///
+/// # Requires
+///
+/// - The archive is valid: `rkyv_c_index_open_texts` returned 0.
+/// - `header` is its decoded header.
+///
 /// # Errors
 ///
 /// - 4: the bytes of the key aren't UTF-8.
 /// - 1: the lookup doesn't find the key.
 ///
 /// After an error `found` is unchanged.
-///
-/// # Requires
-///
-/// - The archive is valid: `rkyv_c_index_open_texts` returned 0.
-/// - `header` is its decoded header.
 #[unsafe(no_mangle)]
 pub extern "C" fn rkyv_c_index_get_text_u64_wide(
     archive: &[u8],

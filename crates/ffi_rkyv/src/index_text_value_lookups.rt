@@ -19,14 +19,14 @@ use rkyv_table::table::decoded::Decoded;
 /// Looks up a key of a narrow index map of numbers to texts, and stores the index and the text of
 /// its pair in `found`.
 ///
-/// # Errors
-///
-/// - 1: the lookup doesn't find the key; `found` is unchanged then.
-///
 /// # Requires
 ///
 /// - The archive is valid: `rkyv_c_index_open_numbers_to_texts` returned 0.
 /// - `header` is its decoded header.
+///
+/// # Errors
+///
+/// - 1: the lookup doesn't find the key; `found` is unchanged then.
 #[unsafe(no_mangle)]
 pub extern "C" fn rkyv_c_index_get_text_of_number_narrow<'a>(
     archive: &'a [u8],
@@ -47,14 +47,14 @@ pub extern "C" fn rkyv_c_index_get_text_of_number_narrow<'a>(
 /// Looks up a key of a wide index map of numbers to texts, and stores the index and the text of its
 /// pair in `found`.
 ///
-/// # Errors
-///
-/// - 1: the lookup doesn't find the key; `found` is unchanged then.
-///
 /// # Requires
 ///
 /// - The archive is valid: `rkyv_c_index_open_numbers_to_texts` returned 0.
 /// - `header` is its decoded header.
+///
+/// # Errors
+///
+/// - 1: the lookup doesn't find the key; `found` is unchanged then.
 #[unsafe(no_mangle)]
 pub extern "C" fn rkyv_c_index_get_text_of_number_wide<'a>(
     archive: &'a [u8],
@@ -75,14 +75,14 @@ pub extern "C" fn rkyv_c_index_get_text_of_number_wide<'a>(
 /// Looks up a key of a narrow index map of numbers of 64 bits to texts, and stores the index and
 /// the text of its pair in `found`.
 ///
-/// # Errors
-///
-/// - 1: the lookup doesn't find the key; `found` is unchanged then.
-///
 /// # Requires
 ///
 /// - The archive is valid: `rkyv_c_index_open_long_numbers_to_texts` returned 0.
 /// - `header` is its decoded header.
+///
+/// # Errors
+///
+/// - 1: the lookup doesn't find the key; `found` is unchanged then.
 #[unsafe(no_mangle)]
 pub extern "C" fn rkyv_c_index_get_text_of_long_number_narrow<'a>(
     archive: &'a [u8],
@@ -103,14 +103,14 @@ pub extern "C" fn rkyv_c_index_get_text_of_long_number_narrow<'a>(
 /// Looks up a key of a wide index map of numbers of 64 bits to texts, and stores the index and the
 /// text of its pair in `found`.
 ///
-/// # Errors
-///
-/// - 1: the lookup doesn't find the key; `found` is unchanged then.
-///
 /// # Requires
 ///
 /// - The archive is valid: `rkyv_c_index_open_long_numbers_to_texts` returned 0.
 /// - `header` is its decoded header.
+///
+/// # Errors
+///
+/// - 1: the lookup doesn't find the key; `found` is unchanged then.
 #[unsafe(no_mangle)]
 pub extern "C" fn rkyv_c_index_get_text_of_long_number_wide<'a>(
     archive: &'a [u8],
@@ -131,17 +131,17 @@ pub extern "C" fn rkyv_c_index_get_text_of_long_number_wide<'a>(
 /// Looks up a key of a narrow index map of texts to texts, and stores the index and the text of its
 /// pair in `found`.
 ///
+/// # Requires
+///
+/// - The archive is valid: `rkyv_c_index_open_texts_to_texts` returned 0.
+/// - `header` is its decoded header.
+///
 /// # Errors
 ///
 /// - 4: the bytes of the key aren't UTF-8.
 /// - 1: the lookup doesn't find the key.
 ///
 /// After an error `found` is unchanged.
-///
-/// # Requires
-///
-/// - The archive is valid: `rkyv_c_index_open_texts_to_texts` returned 0.
-/// - `header` is its decoded header.
 #[unsafe(no_mangle)]
 pub extern "C" fn rkyv_c_index_get_text_of_text_narrow<'a>(
     archive: &'a [u8],
@@ -163,17 +163,17 @@ pub extern "C" fn rkyv_c_index_get_text_of_text_narrow<'a>(
 /// Looks up a key of a wide index map of texts to texts, and stores the index and the text of its
 /// pair in `found`.
 ///
+/// # Requires
+///
+/// - The archive is valid: `rkyv_c_index_open_texts_to_texts` returned 0.
+/// - `header` is its decoded header.
+///
 /// # Errors
 ///
 /// - 4: the bytes of the key aren't UTF-8.
 /// - 1: the lookup doesn't find the key.
 ///
 /// After an error `found` is unchanged.
-///
-/// # Requires
-///
-/// - The archive is valid: `rkyv_c_index_open_texts_to_texts` returned 0.
-/// - `header` is its decoded header.
 #[unsafe(no_mangle)]
 pub extern "C" fn rkyv_c_index_get_text_of_text_wide<'a>(
     archive: &'a [u8],

@@ -68,6 +68,10 @@ pub extern "C" fn rkyv_c_index_decode_texts(
 /// Looks up a key, and overwrites its value in place. The archive stays valid, and its header as it
 /// is.
 ///
+/// # Requires
+///
+/// - The archive is valid: `rkyv_c_index_open_texts` returned 0.
+///
 /// # Errors
 ///
 /// - 4: the bytes of the key aren't UTF-8.
@@ -75,10 +79,6 @@ pub extern "C" fn rkyv_c_index_decode_texts(
 /// - 1: the lookup doesn't find the key.
 ///
 /// After an error no byte is changed.
-///
-/// # Requires
-///
-/// - The archive is valid: `rkyv_c_index_open_texts` returned 0.
 #[unsafe(no_mangle)]
 pub extern "C" fn rkyv_c_index_set_text(
     archive: &mut [u8],

@@ -12,14 +12,14 @@ use rkyv_table::table::decoded::Decoded;
 
 /// Looks up a key of a narrow map of numbers of 64 bits to `u32`, and stores its value in `value`.
 ///
-/// # Errors
-///
-/// - 1: the lookup doesn't find the key; `value` is unchanged then.
-///
 /// # Requires
 ///
 /// - The archive is valid: `rkyv_c_open_long_numbers` returned 0.
 /// - `header` is its decoded header.
+///
+/// # Errors
+///
+/// - 1: the lookup doesn't find the key; `value` is unchanged then.
 #[unsafe(no_mangle)]
 pub extern "C" fn rkyv_c_get_long_number_u32_narrow(
     archive: &[u8],
@@ -44,14 +44,14 @@ pub extern "C" fn rkyv_c_get_long_number_u32_narrow(
 
 /// Looks up a key of a narrow map of numbers of 64 bits to `u64`, and stores its value in `value`.
 ///
-/// # Errors
-///
-/// - 1: the lookup doesn't find the key; `value` is unchanged then.
-///
 /// # Requires
 ///
 /// - The archive is valid: `rkyv_c_open_long_numbers` returned 0.
 /// - `header` is its decoded header.
+///
+/// # Errors
+///
+/// - 1: the lookup doesn't find the key; `value` is unchanged then.
 #[unsafe(no_mangle)]
 pub extern "C" fn rkyv_c_get_long_number_u64_narrow(
     archive: &[u8],
@@ -75,14 +75,14 @@ pub extern "C" fn rkyv_c_get_long_number_u64_narrow(
 
 /// Looks up a key of a wide map of numbers of 64 bits to `u32`, and stores its value in `value`.
 ///
-/// # Errors
-///
-/// - 1: the lookup doesn't find the key; `value` is unchanged then.
-///
 /// # Requires
 ///
 /// - The archive is valid: `rkyv_c_open_long_numbers` returned 0.
 /// - `header` is its decoded header.
+///
+/// # Errors
+///
+/// - 1: the lookup doesn't find the key; `value` is unchanged then.
 #[unsafe(no_mangle)]
 pub extern "C" fn rkyv_c_get_long_number_u32_wide(
     archive: &[u8],
@@ -106,14 +106,14 @@ pub extern "C" fn rkyv_c_get_long_number_u32_wide(
 
 /// Looks up a key of a wide map of numbers of 64 bits to `u64`, and stores its value in `value`.
 ///
-/// # Errors
-///
-/// - 1: the lookup doesn't find the key; `value` is unchanged then.
-///
 /// # Requires
 ///
 /// - The archive is valid: `rkyv_c_open_long_numbers` returned 0.
 /// - `header` is its decoded header.
+///
+/// # Errors
+///
+/// - 1: the lookup doesn't find the key; `value` is unchanged then.
 #[unsafe(no_mangle)]
 pub extern "C" fn rkyv_c_get_long_number_u64_wide(
     archive: &[u8],

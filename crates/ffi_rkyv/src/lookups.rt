@@ -15,14 +15,14 @@ use rkyv_table::table::decoded::Decoded;
 
 /// Looks up a key of a narrow map of numbers to `u32`, and stores its value in `value`.
 ///
-/// # Errors
-///
-/// - 1: the lookup doesn't find the key; `value` is unchanged then.
-///
 /// # Requires
 ///
 /// - The archive is valid: `rkyv_c_open_numbers` returned 0.
 /// - `header` is its decoded header.
+///
+/// # Errors
+///
+/// - 1: the lookup doesn't find the key; `value` is unchanged then.
 #[unsafe(no_mangle)]
 pub extern "C" fn rkyv_c_get_number_u32_narrow(
     archive: &[u8],
@@ -47,14 +47,14 @@ pub extern "C" fn rkyv_c_get_number_u32_narrow(
 
 /// Looks up a key of a narrow map of numbers to `u64`, and stores its value in `value`.
 ///
-/// # Errors
-///
-/// - 1: the lookup doesn't find the key; `value` is unchanged then.
-///
 /// # Requires
 ///
 /// - The archive is valid: `rkyv_c_open_numbers` returned 0.
 /// - `header` is its decoded header.
+///
+/// # Errors
+///
+/// - 1: the lookup doesn't find the key; `value` is unchanged then.
 #[unsafe(no_mangle)]
 pub extern "C" fn rkyv_c_get_number_u64_narrow(
     archive: &[u8],
@@ -79,14 +79,14 @@ pub extern "C" fn rkyv_c_get_number_u64_narrow(
 
 /// Looks up a key of a wide map of numbers to `u32`, and stores its value in `value`.
 ///
-/// # Errors
-///
-/// - 1: the lookup doesn't find the key; `value` is unchanged then.
-///
 /// # Requires
 ///
 /// - The archive is valid: `rkyv_c_open_numbers` returned 0.
 /// - `header` is its decoded header.
+///
+/// # Errors
+///
+/// - 1: the lookup doesn't find the key; `value` is unchanged then.
 #[unsafe(no_mangle)]
 pub extern "C" fn rkyv_c_get_number_u32_wide(
     archive: &[u8],
@@ -111,14 +111,14 @@ pub extern "C" fn rkyv_c_get_number_u32_wide(
 
 /// Looks up a key of a wide map of numbers to `u64`, and stores its value in `value`.
 ///
-/// # Errors
-///
-/// - 1: the lookup doesn't find the key; `value` is unchanged then.
-///
 /// # Requires
 ///
 /// - The archive is valid: `rkyv_c_open_numbers` returned 0.
 /// - `header` is its decoded header.
+///
+/// # Errors
+///
+/// - 1: the lookup doesn't find the key; `value` is unchanged then.
 #[unsafe(no_mangle)]
 pub extern "C" fn rkyv_c_get_number_u64_wide(
     archive: &[u8],
@@ -142,17 +142,17 @@ pub extern "C" fn rkyv_c_get_number_u64_wide(
 
 /// Looks up a key of a narrow map of texts to `u32`, and stores its value in `value`.
 ///
+/// # Requires
+///
+/// - The archive is valid: `rkyv_c_open_texts` returned 0.
+/// - `header` is its decoded header.
+///
 /// # Errors
 ///
 /// - 4: the bytes of the key aren't UTF-8.
 /// - 1: the lookup doesn't find the key.
 ///
 /// After an error `value` is unchanged.
-///
-/// # Requires
-///
-/// - The archive is valid: `rkyv_c_open_texts` returned 0.
-/// - `header` is its decoded header.
 #[unsafe(no_mangle)]
 pub extern "C" fn rkyv_c_get_text_u32_narrow(
     archive: &[u8],
@@ -176,17 +176,17 @@ pub extern "C" fn rkyv_c_get_text_u32_narrow(
 
 /// Looks up a key of a narrow map of texts to `u64`, and stores its value in `value`.
 ///
+/// # Requires
+///
+/// - The archive is valid: `rkyv_c_open_texts` returned 0.
+/// - `header` is its decoded header.
+///
 /// # Errors
 ///
 /// - 4: the bytes of the key aren't UTF-8.
 /// - 1: the lookup doesn't find the key.
 ///
 /// After an error `value` is unchanged.
-///
-/// # Requires
-///
-/// - The archive is valid: `rkyv_c_open_texts` returned 0.
-/// - `header` is its decoded header.
 #[unsafe(no_mangle)]
 pub extern "C" fn rkyv_c_get_text_u64_narrow(
     archive: &[u8],
@@ -210,17 +210,17 @@ pub extern "C" fn rkyv_c_get_text_u64_narrow(
 
 /// Looks up a key of a wide map of texts to `u32`, and stores its value in `value`.
 ///
+/// # Requires
+///
+/// - The archive is valid: `rkyv_c_open_texts` returned 0.
+/// - `header` is its decoded header.
+///
 /// # Errors
 ///
 /// - 4: the bytes of the key aren't UTF-8.
 /// - 1: the lookup doesn't find the key.
 ///
 /// After an error `value` is unchanged.
-///
-/// # Requires
-///
-/// - The archive is valid: `rkyv_c_open_texts` returned 0.
-/// - `header` is its decoded header.
 #[unsafe(no_mangle)]
 pub extern "C" fn rkyv_c_get_text_u32_wide(
     archive: &[u8],
@@ -244,17 +244,17 @@ pub extern "C" fn rkyv_c_get_text_u32_wide(
 
 /// Looks up a key of a wide map of texts to `u64`, and stores its value in `value`.
 ///
+/// # Requires
+///
+/// - The archive is valid: `rkyv_c_open_texts` returned 0.
+/// - `header` is its decoded header.
+///
 /// # Errors
 ///
 /// - 4: the bytes of the key aren't UTF-8.
 /// - 1: the lookup doesn't find the key.
 ///
 /// After an error `value` is unchanged.
-///
-/// # Requires
-///
-/// - The archive is valid: `rkyv_c_open_texts` returned 0.
-/// - `header` is its decoded header.
 #[unsafe(no_mangle)]
 pub extern "C" fn rkyv_c_get_text_u64_wide(
     archive: &[u8],

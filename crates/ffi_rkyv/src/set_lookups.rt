@@ -14,14 +14,14 @@ use rkyv_table::table::decoded::Decoded;
 
 /// Looks up an item of a narrow set of numbers, and returns 0 if it is found.
 ///
-/// # Errors
-///
-/// - 1: the lookup doesn't find the item.
-///
 /// # Requires
 ///
 /// - The archive is valid: `rkyv_c_open_number_set` returned 0.
 /// - `header` is its decoded header.
+///
+/// # Errors
+///
+/// - 1: the lookup doesn't find the item.
 #[unsafe(no_mangle)]
 pub extern "C" fn rkyv_c_contains_number_narrow(archive: &[u8], header: &Decoded, item: u32) -> u32
     requires archive { IsNumberSet short_key false archive.now }
@@ -34,14 +34,14 @@ pub extern "C" fn rkyv_c_contains_number_narrow(archive: &[u8], header: &Decoded
 
 /// Looks up an item of a wide set of numbers, and returns 0 if it is found.
 ///
-/// # Errors
-///
-/// - 1: the lookup doesn't find the item.
-///
 /// # Requires
 ///
 /// - The archive is valid: `rkyv_c_open_number_set` returned 0.
 /// - `header` is its decoded header.
+///
+/// # Errors
+///
+/// - 1: the lookup doesn't find the item.
 #[unsafe(no_mangle)]
 pub extern "C" fn rkyv_c_contains_number_wide(archive: &[u8], header: &Decoded, item: u32) -> u32
     requires archive { IsNumberSet short_key true archive.now }
@@ -54,14 +54,14 @@ pub extern "C" fn rkyv_c_contains_number_wide(archive: &[u8], header: &Decoded, 
 
 /// Looks up an item of a narrow set of numbers of 64 bits, and returns 0 if it is found.
 ///
-/// # Errors
-///
-/// - 1: the lookup doesn't find the item.
-///
 /// # Requires
 ///
 /// - The archive is valid: `rkyv_c_open_long_number_set` returned 0.
 /// - `header` is its decoded header.
+///
+/// # Errors
+///
+/// - 1: the lookup doesn't find the item.
 #[unsafe(no_mangle)]
 pub extern "C" fn rkyv_c_contains_long_number_narrow(
     archive: &[u8],
@@ -78,14 +78,14 @@ pub extern "C" fn rkyv_c_contains_long_number_narrow(
 
 /// Looks up an item of a wide set of numbers of 64 bits, and returns 0 if it is found.
 ///
-/// # Errors
-///
-/// - 1: the lookup doesn't find the item.
-///
 /// # Requires
 ///
 /// - The archive is valid: `rkyv_c_open_long_number_set` returned 0.
 /// - `header` is its decoded header.
+///
+/// # Errors
+///
+/// - 1: the lookup doesn't find the item.
 #[unsafe(no_mangle)]
 pub extern "C" fn rkyv_c_contains_long_number_wide(
     archive: &[u8],
@@ -102,15 +102,15 @@ pub extern "C" fn rkyv_c_contains_long_number_wide(
 
 /// Looks up an item of a narrow set of texts, and returns 0 if it is found.
 ///
-/// # Errors
-///
-/// - 4: the bytes of the item aren't UTF-8.
-/// - 1: the lookup doesn't find the item.
-///
 /// # Requires
 ///
 /// - The archive is valid: `rkyv_c_open_text_set` returned 0.
 /// - `header` is its decoded header.
+///
+/// # Errors
+///
+/// - 4: the bytes of the item aren't UTF-8.
+/// - 1: the lookup doesn't find the item.
 #[unsafe(no_mangle)]
 pub extern "C" fn rkyv_c_contains_text_narrow(archive: &[u8], header: &Decoded, item: &[u8]) -> u32
     requires archive { IsTextSet false archive.now }
@@ -123,15 +123,15 @@ pub extern "C" fn rkyv_c_contains_text_narrow(archive: &[u8], header: &Decoded, 
 
 /// Looks up an item of a wide set of texts, and returns 0 if it is found.
 ///
-/// # Errors
-///
-/// - 4: the bytes of the item aren't UTF-8.
-/// - 1: the lookup doesn't find the item.
-///
 /// # Requires
 ///
 /// - The archive is valid: `rkyv_c_open_text_set` returned 0.
 /// - `header` is its decoded header.
+///
+/// # Errors
+///
+/// - 4: the bytes of the item aren't UTF-8.
+/// - 1: the lookup doesn't find the item.
 #[unsafe(no_mangle)]
 pub extern "C" fn rkyv_c_contains_text_wide(archive: &[u8], header: &Decoded, item: &[u8]) -> u32
     requires archive { IsTextSet true archive.now }

@@ -16,14 +16,14 @@ use rkyv_table::table::decoded::Decoded;
 
 /// Looks up a key of a narrow map of numbers to texts, and stores its text in `value`.
 ///
-/// # Errors
-///
-/// - 1: the lookup doesn't find the key; `value` is unchanged then.
-///
 /// # Requires
 ///
 /// - The archive is valid: `rkyv_c_open_numbers_to_texts` returned 0.
 /// - `header` is its decoded header.
+///
+/// # Errors
+///
+/// - 1: the lookup doesn't find the key; `value` is unchanged then.
 #[unsafe(no_mangle)]
 pub extern "C" fn rkyv_c_get_text_of_number_narrow<'a>(
     archive: &'a [u8],
@@ -43,14 +43,14 @@ pub extern "C" fn rkyv_c_get_text_of_number_narrow<'a>(
 
 /// Looks up a key of a wide map of numbers to texts, and stores its text in `value`.
 ///
-/// # Errors
-///
-/// - 1: the lookup doesn't find the key; `value` is unchanged then.
-///
 /// # Requires
 ///
 /// - The archive is valid: `rkyv_c_open_numbers_to_texts` returned 0.
 /// - `header` is its decoded header.
+///
+/// # Errors
+///
+/// - 1: the lookup doesn't find the key; `value` is unchanged then.
 #[unsafe(no_mangle)]
 pub extern "C" fn rkyv_c_get_text_of_number_wide<'a>(
     archive: &'a [u8],
@@ -70,14 +70,14 @@ pub extern "C" fn rkyv_c_get_text_of_number_wide<'a>(
 
 /// Looks up a key of a narrow map of numbers of 64 bits to texts, and stores its text in `value`.
 ///
-/// # Errors
-///
-/// - 1: the lookup doesn't find the key; `value` is unchanged then.
-///
 /// # Requires
 ///
 /// - The archive is valid: `rkyv_c_open_long_numbers_to_texts` returned 0.
 /// - `header` is its decoded header.
+///
+/// # Errors
+///
+/// - 1: the lookup doesn't find the key; `value` is unchanged then.
 #[unsafe(no_mangle)]
 pub extern "C" fn rkyv_c_get_text_of_long_number_narrow<'a>(
     archive: &'a [u8],
@@ -97,14 +97,14 @@ pub extern "C" fn rkyv_c_get_text_of_long_number_narrow<'a>(
 
 /// Looks up a key of a wide map of numbers of 64 bits to texts, and stores its text in `value`.
 ///
-/// # Errors
-///
-/// - 1: the lookup doesn't find the key; `value` is unchanged then.
-///
 /// # Requires
 ///
 /// - The archive is valid: `rkyv_c_open_long_numbers_to_texts` returned 0.
 /// - `header` is its decoded header.
+///
+/// # Errors
+///
+/// - 1: the lookup doesn't find the key; `value` is unchanged then.
 #[unsafe(no_mangle)]
 pub extern "C" fn rkyv_c_get_text_of_long_number_wide<'a>(
     archive: &'a [u8],
@@ -124,17 +124,17 @@ pub extern "C" fn rkyv_c_get_text_of_long_number_wide<'a>(
 
 /// Looks up a key of a narrow map of texts to texts, and stores its text in `value`.
 ///
+/// # Requires
+///
+/// - The archive is valid: `rkyv_c_open_texts_to_texts` returned 0.
+/// - `header` is its decoded header.
+///
 /// # Errors
 ///
 /// - 4: the bytes of the key aren't UTF-8.
 /// - 1: the lookup doesn't find the key.
 ///
 /// After an error `value` is unchanged.
-///
-/// # Requires
-///
-/// - The archive is valid: `rkyv_c_open_texts_to_texts` returned 0.
-/// - `header` is its decoded header.
 #[unsafe(no_mangle)]
 pub extern "C" fn rkyv_c_get_text_of_text_narrow<'a>(
     archive: &'a [u8],
@@ -154,17 +154,17 @@ pub extern "C" fn rkyv_c_get_text_of_text_narrow<'a>(
 
 /// Looks up a key of a wide map of texts to texts, and stores its text in `value`.
 ///
+/// # Requires
+///
+/// - The archive is valid: `rkyv_c_open_texts_to_texts` returned 0.
+/// - `header` is its decoded header.
+///
 /// # Errors
 ///
 /// - 4: the bytes of the key aren't UTF-8.
 /// - 1: the lookup doesn't find the key.
 ///
 /// After an error `value` is unchanged.
-///
-/// # Requires
-///
-/// - The archive is valid: `rkyv_c_open_texts_to_texts` returned 0.
-/// - `header` is its decoded header.
 #[unsafe(no_mangle)]
 pub extern "C" fn rkyv_c_get_text_of_text_wide<'a>(
     archive: &'a [u8],

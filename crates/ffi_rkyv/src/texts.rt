@@ -65,6 +65,10 @@ pub extern "C" fn rkyv_c_decode_texts(
 /// Looks up a key, and overwrites its value in place. The archive stays valid, and its header as it
 /// is.
 ///
+/// # Requires
+///
+/// - The archive is valid: `rkyv_c_open_texts` returned 0.
+///
 /// # Errors
 ///
 /// - 4: the bytes of the key aren't UTF-8.
@@ -72,10 +76,6 @@ pub extern "C" fn rkyv_c_decode_texts(
 /// - 1: the lookup doesn't find the key.
 ///
 /// After an error no byte is changed.
-///
-/// # Requires
-///
-/// - The archive is valid: `rkyv_c_open_texts` returned 0.
 #[unsafe(no_mangle)]
 pub extern "C" fn rkyv_c_set_text(
     archive: &mut [u8],

@@ -45,11 +45,7 @@ fn lookup<'a, K: NumberKey>(
     let value: &'a [u8] = b"?";
     let mut found = Indexed { index: 8, value };
     let status = get_index_text_of_number(archive, wide, &header, key, &mut found);
-    if found.value == expected {
-        Some((header.len(), status, found.index))
-    } else {
-        None
-    }
+    (found.value == expected).then_some((header.len(), status, found.index))
 }
 
 // A pair that no call stores.
@@ -89,11 +85,7 @@ fn several(
     let header = decode_index_numbers_to_texts::<u32>(archive, wide);
     let mut pairs = [NINE; 2];
     let count = index_number_texts_from(archive, wide, &header, from, &mut pairs);
-    if is_pair(pairs[0], first.0, first.1) && is_pair(pairs[1], second.0, second.1) {
-        Some(count)
-    } else {
-        None
-    }
+    (is_pair(pairs[0], first.0, first.1) && is_pair(pairs[1], second.0, second.1)).then_some(count)
 }
 
 // Returns the same for keys of 64 bits.
@@ -110,11 +102,9 @@ fn several_long(
     let header = decode_index_numbers_to_texts::<u64>(archive, wide);
     let mut pairs = [LONG_NINE; 2];
     let count = index_number_texts_from(archive, wide, &header, from, &mut pairs);
-    if is_long_pair(pairs[0], first.0, first.1) && is_long_pair(pairs[1], second.0, second.1) {
-        Some(count)
-    } else {
-        None
-    }
+    let right = is_long_pair(pairs[0], first.0, first.1)
+        && is_long_pair(pairs[1], second.0, second.1);
+    right.then_some(count)
 }
 
 #[test]

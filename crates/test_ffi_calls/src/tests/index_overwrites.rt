@@ -22,11 +22,7 @@ fn number<K: NumberKey>(archive: &mut [u8], form: Form, key: K, value: u64) -> O
         return None;
     }
     let status = set_index_number(archive, form, key, value);
-    if index_numbers::is_map::<K>(&*archive, form) {
-        Some(status)
-    } else {
-        None
-    }
+    index_numbers::is_map::<K>(&*archive, form).then_some(status)
 }
 
 // Returns the same for a key that is a text.
@@ -35,11 +31,7 @@ fn text(archive: &mut [u8], form: Form, key: &[u8], value: u64) -> Option<u32> {
         return None;
     }
     let status = set_index_text(archive, form, key, value);
-    if index_texts::is_map(&*archive, form) {
-        Some(status)
-    } else {
-        None
-    }
+    index_texts::is_map(&*archive, form).then_some(status)
 }
 
 // Returns the statuses of an overwrite and of a lookup by the header from before, and the index and

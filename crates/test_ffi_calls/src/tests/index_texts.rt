@@ -56,11 +56,7 @@ fn pair_at(archive: &[u8], form: Form, index: usize, key: &[u8], value: u64) -> 
     let header = decode_index_texts(archive, form);
     let mut pairs = [NINE];
     let count = index_texts_from(archive, form, &header, index, &mut pairs);
-    if pairs[0].key == key && pairs[0].value == value {
-        Some(count)
-    } else {
-        None
-    }
+    (pairs[0].key == key && pairs[0].value == value).then_some(count)
 }
 
 // Returns how many pairs are stored over two, from an index on, if the first is as expected
@@ -72,11 +68,7 @@ fn several(archive: &[u8], form: Form, from: usize, key: &[u8], value: u64) -> O
     let header = decode_index_texts(archive, form);
     let mut pairs = [NINE; 2];
     let count = index_texts_from(archive, form, &header, from, &mut pairs);
-    if pairs[0].key == key && pairs[0].value == value {
-        Some(count)
-    } else {
-        None
-    }
+    (pairs[0].key == key && pairs[0].value == value).then_some(count)
 }
 
 #[test]

@@ -33,11 +33,7 @@ fn lookup(archive: &[u8], wide: bool, key: &[u8], expected: &[u8]) -> Option<(us
     let value: &[u8] = b"?";
     let mut found = Indexed { index: 8, value };
     let status = get_index_text_of_text(archive, wide, &header, key, &mut found);
-    if found.value == expected {
-        Some((header.len(), status, found.index))
-    } else {
-        None
-    }
+    (found.value == expected).then_some((header.len(), status, found.index))
 }
 
 // A pair that no call stores.
@@ -60,11 +56,7 @@ fn pair_at(archive: &[u8], wide: bool, index: usize, pair: [&[u8]; 2]) -> Option
     let header = decode_index_texts_to_texts(archive, wide);
     let mut pairs = [NINE];
     let count = index_text_texts_from(archive, wide, &header, index, &mut pairs);
-    if is_pair(pairs[0], pair) {
-        Some(count)
-    } else {
-        None
-    }
+    is_pair(pairs[0], pair).then_some(count)
 }
 
 // Returns how many pairs are stored over three, from an index on, if the first two are as expected
@@ -82,11 +74,10 @@ fn several(
     let header = decode_index_texts_to_texts(archive, wide);
     let mut pairs = [NINE; 3];
     let count = index_text_texts_from(archive, wide, &header, from, &mut pairs);
-    if is_pair(pairs[0], first) && is_pair(pairs[1], second) && is_pair(pairs[2], [b"!", b"?"]) {
-        Some(count)
-    } else {
-        None
-    }
+    let right = is_pair(pairs[0], first)
+        && is_pair(pairs[1], second)
+        && is_pair(pairs[2], [b"!", b"?"]);
+    right.then_some(count)
 }
 
 #[test]

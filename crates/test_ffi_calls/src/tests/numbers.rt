@@ -69,11 +69,7 @@ pub(crate) fn overwrite<K: NumberKey>(
         return None;
     }
     let status = set_number(archive, form, key, value);
-    if is_map::<K>(&*archive, form) {
-        Some(status)
-    } else {
-        None
-    }
+    is_map::<K>(&*archive, form).then_some(status)
 }
 
 /// Returns the statuses of an overwrite and of a lookup by the header from before, and its value.

@@ -45,11 +45,7 @@ fn lookup<'a, K: NumberKey>(
     let header = decode_numbers_to_texts::<K>(archive, wide);
     let mut value: &'a [u8] = b"?";
     let status = get_text_of_number(archive, wide, &header, key, &mut value);
-    if value == expected {
-        Some((header.len(), status))
-    } else {
-        None
-    }
+    (value == expected).then_some((header.len(), status))
 }
 
 // A step that no call stores.
@@ -89,11 +85,7 @@ fn step(archive: &[u8], wide: bool, from: u64, next: u64, key: u32, value: &[u8]
     let header = decode_numbers_to_texts::<u32>(archive, wide);
     let mut pairs = [NINE];
     let count = next_number_texts(archive, wide, &header, from, &mut pairs);
-    if is_step(pairs[0], next, key, value) {
-        Some(count)
-    } else {
-        None
-    }
+    is_step(pairs[0], next, key, value).then_some(count)
 }
 
 // Returns how many pairs are stored over three, from the given bucket on, if the first two are as
@@ -111,14 +103,10 @@ fn several(
     let header = decode_numbers_to_texts::<u32>(archive, wide);
     let mut pairs = [NINE; 3];
     let count = next_number_texts(archive, wide, &header, from, &mut pairs);
-    if is_step(pairs[0], first.0, first.1, first.2)
+    let right = is_step(pairs[0], first.0, first.1, first.2)
         && is_step(pairs[1], second.0, second.1, second.2)
-        && is_step(pairs[2], 9, 9, b"?")
-    {
-        Some(count)
-    } else {
-        None
-    }
+        && is_step(pairs[2], 9, 9, b"?");
+    right.then_some(count)
 }
 
 // Returns how many pairs with keys of 64 bits are stored over two, if the two are as expected
@@ -136,13 +124,9 @@ fn several_long(
     let header = decode_numbers_to_texts::<u64>(archive, wide);
     let mut pairs = [LONG_NINE; 2];
     let count = next_number_texts(archive, wide, &header, from, &mut pairs);
-    if is_long_step(pairs[0], first.0, first.1, first.2)
-        && is_long_step(pairs[1], second.0, second.1, second.2)
-    {
-        Some(count)
-    } else {
-        None
-    }
+    let right = is_long_step(pairs[0], first.0, first.1, first.2)
+        && is_long_step(pairs[1], second.0, second.1, second.2);
+    right.then_some(count)
 }
 
 // Returns the status of the map of 1 to two texts with another byte at `pos`, and its explanation.

@@ -57,11 +57,7 @@ fn step(archive: &[u8], form: Form, from: u64, next: u64, key: &[u8], value: u64
     let header = decode_texts(archive, form);
     let mut pairs = [NINE];
     let count = next_texts(archive, form, &header, from, &mut pairs);
-    if is_step(pairs[0], next, key, value) {
-        Some(count)
-    } else {
-        None
-    }
+    is_step(pairs[0], next, key, value).then_some(count)
 }
 
 // Returns how many pairs are stored over two, from the given bucket on, if the two are as expected
@@ -79,13 +75,9 @@ fn several(
     let header = decode_texts(archive, form);
     let mut pairs = [NINE; 2];
     let count = next_texts(archive, form, &header, from, &mut pairs);
-    if is_step(pairs[0], first.0, first.1, first.2)
-        && is_step(pairs[1], second.0, second.1, second.2)
-    {
-        Some(count)
-    } else {
-        None
-    }
+    let right = is_step(pairs[0], first.0, first.1, first.2)
+        && is_step(pairs[1], second.0, second.1, second.2);
+    right.then_some(count)
 }
 
 // Returns the status of an overwrite, if the archive is valid before and after it.
@@ -94,11 +86,7 @@ fn overwrite(archive: &mut [u8], form: Form, key: &[u8], value: u64) -> Option<u
         return None;
     }
     let status = set_text(archive, form, key, value);
-    if is_map(&*archive, form) {
-        Some(status)
-    } else {
-        None
-    }
+    is_map(&*archive, form).then_some(status)
 }
 
 // Returns the statuses of an overwrite and of a lookup by the header from before, and its value.

@@ -33,11 +33,7 @@ fn lookup(archive: &[u8], wide: bool, key: &[u8], expected: &[u8]) -> Option<(us
     let header = decode_texts_to_texts(archive, wide);
     let mut value: &[u8] = b"?";
     let status = get_text_of_text(archive, wide, &header, key, &mut value);
-    if value == expected {
-        Some((header.len(), status))
-    } else {
-        None
-    }
+    (value == expected).then_some((header.len(), status))
 }
 
 // A step that no call stores.
@@ -63,11 +59,7 @@ fn step(archive: &[u8], wide: bool, from: u64, next: u64, pair: [&[u8]; 2]) -> O
     let header = decode_texts_to_texts(archive, wide);
     let mut pairs = [NINE];
     let count = next_text_texts(archive, wide, &header, from, &mut pairs);
-    if is_step(pairs[0], next, pair) {
-        Some(count)
-    } else {
-        None
-    }
+    is_step(pairs[0], next, pair).then_some(count)
 }
 
 // Returns how many pairs are stored over two, from the given bucket on, if the first is as expected
@@ -79,11 +71,7 @@ fn several(archive: &[u8], wide: bool, from: u64, next: u64, pair: [&[u8]; 2]) -
     let header = decode_texts_to_texts(archive, wide);
     let mut pairs = [NINE; 2];
     let count = next_text_texts(archive, wide, &header, from, &mut pairs);
-    if is_step(pairs[0], next, pair) && is_step(pairs[1], 9, [b"!", b"?"]) {
-        Some(count)
-    } else {
-        None
-    }
+    (is_step(pairs[0], next, pair) && is_step(pairs[1], 9, [b"!", b"?"])).then_some(count)
 }
 
 // Returns the status of the map of the empty text with another byte at `pos`, and its explanation.

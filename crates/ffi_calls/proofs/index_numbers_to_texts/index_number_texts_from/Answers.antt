@@ -1,44 +1,28 @@
 use Rattle.std.specs.Prelude.{map}
-use Rattle.ffi_calls.specs.{IsHeaderOf, IsNumberTextIndex, NumberKey, StoresListedNumberTexts, StoresNumberTexts, number_keys_at, number_text_index_in}
+use Rattle.ffi_calls.specs.{IsHeaderOf, IsNumberTextIndex, StoresListedNumberTexts, StoresNumberTexts, key_by, number_keys_at, number_text_index_in}
 use Rattle.ffi_calls.proofs.Forms.{at_flag, of_flag}
 use Rattle.ffi_calls.proofs.index_numbers_to_texts.index_number_texts_from.Goals as goal
 
 pub typed_index_header-requires-clause-archive : goal.typed_index_header-requires-clause-archive
-typed_index_header-requires-clause-archive g c =
-    let k : NumberKey _ = record { eq = g.K.PartialEq.eq; spec = g.K.HasSpec.spec; encoding = g.K.Scalar.encoding; call = g.K.ScalarKey.call } in
-    of_flag (λ f. IsNumberTextIndex k f c.args.archive.now) c.if-wide.true c.requires.archive
+typed_index_header-requires-clause-archive g c = of_flag (λ f. IsNumberTextIndex (key_by g.K.PartialEq.eq g.K.HasSpec.spec g.K.Scalar.encoding g.K.ScalarKey.call) f c.args.archive.now) c.if-wide.true c.requires.archive
 
 pub typed_index_header-requires-clause-header : goal.typed_index_header-requires-clause-header
-typed_index_header-requires-clause-header g c =
-    let k : NumberKey _ = record { eq = g.K.PartialEq.eq; spec = g.K.HasSpec.spec; encoding = g.K.Scalar.encoding; call = g.K.ScalarKey.call } in
-    of_flag (λ f. IsHeaderOf (number_text_index_in k f c.args.archive.now) c.args.header.now) c.if-wide.true c.requires.header
+typed_index_header-requires-clause-header g c = of_flag (λ f. IsHeaderOf (number_text_index_in (key_by g.K.PartialEq.eq g.K.HasSpec.spec g.K.Scalar.encoding g.K.ScalarKey.call) f c.args.archive.now) c.args.header.now) c.if-wide.true c.requires.header
 
 pub typed_index_header-requires-else-wide-clause-archive : goal.typed_index_header-requires-else-wide-clause-archive
-typed_index_header-requires-else-wide-clause-archive g c =
-    let k : NumberKey _ = record { eq = g.K.PartialEq.eq; spec = g.K.HasSpec.spec; encoding = g.K.Scalar.encoding; call = g.K.ScalarKey.call } in
-    of_flag (λ f. IsNumberTextIndex k f c.args.archive.now) c.if-wide.false c.requires.archive
+typed_index_header-requires-else-wide-clause-archive g c = of_flag (λ f. IsNumberTextIndex (key_by g.K.PartialEq.eq g.K.HasSpec.spec g.K.Scalar.encoding g.K.ScalarKey.call) f c.args.archive.now) c.if-wide.false c.requires.archive
 
 pub typed_index_header-requires-else-wide-clause-header : goal.typed_index_header-requires-else-wide-clause-header
-typed_index_header-requires-else-wide-clause-header g c =
-    let k : NumberKey _ = record { eq = g.K.PartialEq.eq; spec = g.K.HasSpec.spec; encoding = g.K.Scalar.encoding; call = g.K.ScalarKey.call } in
-    of_flag (λ f. IsHeaderOf (number_text_index_in k f c.args.archive.now) c.args.header.now) c.if-wide.false c.requires.header
+typed_index_header-requires-else-wide-clause-header g c = of_flag (λ f. IsHeaderOf (number_text_index_in (key_by g.K.PartialEq.eq g.K.HasSpec.spec g.K.Scalar.encoding g.K.ScalarKey.call) f c.args.archive.now) c.args.header.now) c.if-wide.false c.requires.header
 
 pub returns-then-wide-clause-stores : goal.returns-then-wide-clause-stores
-returns-then-wide-clause-stores g c =
-    let k : NumberKey _ = record { eq = g.K.PartialEq.eq; spec = g.K.HasSpec.spec; encoding = g.K.Scalar.encoding; call = g.K.ScalarKey.call } in
-    at_flag (λ f. StoresNumberTexts (number_keys_at k f c.args.archive.now) c.args.from (map g.P.PairOf.pair_of c.args.pairs.now) c.pairs_in.result (map g.P.PairOf.pair_of c.pairs_in.new.pairs)) c.if-wide.true c.pairs_in.ensures.stores
+returns-then-wide-clause-stores g c = at_flag (λ f. StoresNumberTexts (number_keys_at (key_by g.K.PartialEq.eq g.K.HasSpec.spec g.K.Scalar.encoding g.K.ScalarKey.call) f c.args.archive.now) c.args.from (map g.P.PairOf.pair_of c.args.pairs.now) c.pairs_in.result (map g.P.PairOf.pair_of c.pairs_in.new.pairs)) c.if-wide.true c.pairs_in.ensures.stores
 
 pub returns-then-wide-clause-listed : goal.returns-then-wide-clause-listed
-returns-then-wide-clause-listed g c =
-    let k : NumberKey _ = record { eq = g.K.PartialEq.eq; spec = g.K.HasSpec.spec; encoding = g.K.Scalar.encoding; call = g.K.ScalarKey.call } in
-    at_flag (λ f. StoresListedNumberTexts (number_keys_at k f c.args.archive.now) c.args.from (map g.P.PairOf.pair_of c.args.pairs.now) c.pairs_in.result (map g.P.PairOf.pair_of c.pairs_in.new.pairs)) c.if-wide.true c.pairs_in.ensures.listed
+returns-then-wide-clause-listed g c = at_flag (λ f. StoresListedNumberTexts (number_keys_at (key_by g.K.PartialEq.eq g.K.HasSpec.spec g.K.Scalar.encoding g.K.ScalarKey.call) f c.args.archive.now) c.args.from (map g.P.PairOf.pair_of c.args.pairs.now) c.pairs_in.result (map g.P.PairOf.pair_of c.pairs_in.new.pairs)) c.if-wide.true c.pairs_in.ensures.listed
 
 pub returns-else-wide-clause-stores : goal.returns-else-wide-clause-stores
-returns-else-wide-clause-stores g c =
-    let k : NumberKey _ = record { eq = g.K.PartialEq.eq; spec = g.K.HasSpec.spec; encoding = g.K.Scalar.encoding; call = g.K.ScalarKey.call } in
-    at_flag (λ f. StoresNumberTexts (number_keys_at k f c.args.archive.now) c.args.from (map g.P.PairOf.pair_of c.args.pairs.now) c.pairs_in-else-wide.result (map g.P.PairOf.pair_of c.pairs_in-else-wide.new.pairs)) c.if-wide.false c.pairs_in-else-wide.ensures.stores
+returns-else-wide-clause-stores g c = at_flag (λ f. StoresNumberTexts (number_keys_at (key_by g.K.PartialEq.eq g.K.HasSpec.spec g.K.Scalar.encoding g.K.ScalarKey.call) f c.args.archive.now) c.args.from (map g.P.PairOf.pair_of c.args.pairs.now) c.pairs_in-else-wide.result (map g.P.PairOf.pair_of c.pairs_in-else-wide.new.pairs)) c.if-wide.false c.pairs_in-else-wide.ensures.stores
 
 pub returns-else-wide-clause-listed : goal.returns-else-wide-clause-listed
-returns-else-wide-clause-listed g c =
-    let k : NumberKey _ = record { eq = g.K.PartialEq.eq; spec = g.K.HasSpec.spec; encoding = g.K.Scalar.encoding; call = g.K.ScalarKey.call } in
-    at_flag (λ f. StoresListedNumberTexts (number_keys_at k f c.args.archive.now) c.args.from (map g.P.PairOf.pair_of c.args.pairs.now) c.pairs_in-else-wide.result (map g.P.PairOf.pair_of c.pairs_in-else-wide.new.pairs)) c.if-wide.false c.pairs_in-else-wide.ensures.listed
+returns-else-wide-clause-listed g c = at_flag (λ f. StoresListedNumberTexts (number_keys_at (key_by g.K.PartialEq.eq g.K.HasSpec.spec g.K.Scalar.encoding g.K.ScalarKey.call) f c.args.archive.now) c.args.from (map g.P.PairOf.pair_of c.args.pairs.now) c.pairs_in-else-wide.result (map g.P.PairOf.pair_of c.pairs_in-else-wide.new.pairs)) c.if-wide.false c.pairs_in-else-wide.ensures.listed

@@ -1,64 +1,40 @@
 use Rattle.std.specs.Prelude.{map}
-use Rattle.ffi_calls.specs.{IsHeaderOf, IsNumberArchive, NumberKey, StoresNextNumbers, numbers_at, numbers_in}
+use Rattle.ffi_calls.specs.{IsHeaderOf, IsNumberArchive, StoresNextNumbers, key_by, numbers_at, numbers_in}
 use Rattle.ffi_calls.proofs.Forms.{at_form, of_form}
 use Rattle.ffi_calls.proofs.numbers.next_numbers.Goals as goal
 
 pub typed_header-requires-clause-archive : goal.typed_header-requires-clause-archive
-typed_header-requires-clause-archive g c =
-    let k : NumberKey _ = record { eq = g.K.PartialEq.eq; spec = g.K.HasSpec.spec; encoding = g.K.Scalar.encoding; call = g.K.ScalarKey.call } in
-    of_form (λ f. IsNumberArchive k f c.args.archive.now) c.args.form c.in-true-true.is-0 c.in-true-true.is-1 c.requires.archive
+typed_header-requires-clause-archive g c = of_form (λ f. IsNumberArchive (key_by g.K.PartialEq.eq g.K.HasSpec.spec g.K.Scalar.encoding g.K.ScalarKey.call) f c.args.archive.now) c.args.form c.in-true-true.is-0 c.in-true-true.is-1 c.requires.archive
 
 pub typed_header-requires-clause-header : goal.typed_header-requires-clause-header
-typed_header-requires-clause-header g c =
-    let k : NumberKey _ = record { eq = g.K.PartialEq.eq; spec = g.K.HasSpec.spec; encoding = g.K.Scalar.encoding; call = g.K.ScalarKey.call } in
-    of_form (λ f. IsHeaderOf (numbers_in k f c.args.archive.now) c.args.header.now) c.args.form c.in-true-true.is-0 c.in-true-true.is-1 c.requires.header
+typed_header-requires-clause-header g c = of_form (λ f. IsHeaderOf (numbers_in (key_by g.K.PartialEq.eq g.K.HasSpec.spec g.K.Scalar.encoding g.K.ScalarKey.call) f c.args.archive.now) c.args.header.now) c.args.form c.in-true-true.is-0 c.in-true-true.is-1 c.requires.header
 
 pub typed_header-requires-in-true-false-clause-archive : goal.typed_header-requires-in-true-false-clause-archive
-typed_header-requires-in-true-false-clause-archive g c =
-    let k : NumberKey _ = record { eq = g.K.PartialEq.eq; spec = g.K.HasSpec.spec; encoding = g.K.Scalar.encoding; call = g.K.ScalarKey.call } in
-    of_form (λ f. IsNumberArchive k f c.args.archive.now) c.args.form c.in-true-false.is-0 c.in-true-false.is-1 c.requires.archive
+typed_header-requires-in-true-false-clause-archive g c = of_form (λ f. IsNumberArchive (key_by g.K.PartialEq.eq g.K.HasSpec.spec g.K.Scalar.encoding g.K.ScalarKey.call) f c.args.archive.now) c.args.form c.in-true-false.is-0 c.in-true-false.is-1 c.requires.archive
 
 pub typed_header-requires-in-true-false-clause-header : goal.typed_header-requires-in-true-false-clause-header
-typed_header-requires-in-true-false-clause-header g c =
-    let k : NumberKey _ = record { eq = g.K.PartialEq.eq; spec = g.K.HasSpec.spec; encoding = g.K.Scalar.encoding; call = g.K.ScalarKey.call } in
-    of_form (λ f. IsHeaderOf (numbers_in k f c.args.archive.now) c.args.header.now) c.args.form c.in-true-false.is-0 c.in-true-false.is-1 c.requires.header
+typed_header-requires-in-true-false-clause-header g c = of_form (λ f. IsHeaderOf (numbers_in (key_by g.K.PartialEq.eq g.K.HasSpec.spec g.K.Scalar.encoding g.K.ScalarKey.call) f c.args.archive.now) c.args.header.now) c.args.form c.in-true-false.is-0 c.in-true-false.is-1 c.requires.header
 
 pub typed_header-requires-in-false-true-clause-archive : goal.typed_header-requires-in-false-true-clause-archive
-typed_header-requires-in-false-true-clause-archive g c =
-    let k : NumberKey _ = record { eq = g.K.PartialEq.eq; spec = g.K.HasSpec.spec; encoding = g.K.Scalar.encoding; call = g.K.ScalarKey.call } in
-    of_form (λ f. IsNumberArchive k f c.args.archive.now) c.args.form c.in-false-true.is-0 c.in-false-true.is-1 c.requires.archive
+typed_header-requires-in-false-true-clause-archive g c = of_form (λ f. IsNumberArchive (key_by g.K.PartialEq.eq g.K.HasSpec.spec g.K.Scalar.encoding g.K.ScalarKey.call) f c.args.archive.now) c.args.form c.in-false-true.is-0 c.in-false-true.is-1 c.requires.archive
 
 pub typed_header-requires-in-false-true-clause-header : goal.typed_header-requires-in-false-true-clause-header
-typed_header-requires-in-false-true-clause-header g c =
-    let k : NumberKey _ = record { eq = g.K.PartialEq.eq; spec = g.K.HasSpec.spec; encoding = g.K.Scalar.encoding; call = g.K.ScalarKey.call } in
-    of_form (λ f. IsHeaderOf (numbers_in k f c.args.archive.now) c.args.header.now) c.args.form c.in-false-true.is-0 c.in-false-true.is-1 c.requires.header
+typed_header-requires-in-false-true-clause-header g c = of_form (λ f. IsHeaderOf (numbers_in (key_by g.K.PartialEq.eq g.K.HasSpec.spec g.K.Scalar.encoding g.K.ScalarKey.call) f c.args.archive.now) c.args.header.now) c.args.form c.in-false-true.is-0 c.in-false-true.is-1 c.requires.header
 
 pub typed_header-requires-in-false-false-clause-archive : goal.typed_header-requires-in-false-false-clause-archive
-typed_header-requires-in-false-false-clause-archive g c =
-    let k : NumberKey _ = record { eq = g.K.PartialEq.eq; spec = g.K.HasSpec.spec; encoding = g.K.Scalar.encoding; call = g.K.ScalarKey.call } in
-    of_form (λ f. IsNumberArchive k f c.args.archive.now) c.args.form c.in-false-false.is-0 c.in-false-false.is-1 c.requires.archive
+typed_header-requires-in-false-false-clause-archive g c = of_form (λ f. IsNumberArchive (key_by g.K.PartialEq.eq g.K.HasSpec.spec g.K.Scalar.encoding g.K.ScalarKey.call) f c.args.archive.now) c.args.form c.in-false-false.is-0 c.in-false-false.is-1 c.requires.archive
 
 pub typed_header-requires-in-false-false-clause-header : goal.typed_header-requires-in-false-false-clause-header
-typed_header-requires-in-false-false-clause-header g c =
-    let k : NumberKey _ = record { eq = g.K.PartialEq.eq; spec = g.K.HasSpec.spec; encoding = g.K.Scalar.encoding; call = g.K.ScalarKey.call } in
-    of_form (λ f. IsHeaderOf (numbers_in k f c.args.archive.now) c.args.header.now) c.args.form c.in-false-false.is-0 c.in-false-false.is-1 c.requires.header
+typed_header-requires-in-false-false-clause-header g c = of_form (λ f. IsHeaderOf (numbers_in (key_by g.K.PartialEq.eq g.K.HasSpec.spec g.K.Scalar.encoding g.K.ScalarKey.call) f c.args.archive.now) c.args.header.now) c.args.form c.in-false-false.is-0 c.in-false-false.is-1 c.requires.header
 
 pub returns-in-true-true : goal.returns-in-true-true
-returns-in-true-true g c =
-    let k : NumberKey _ = record { eq = g.K.PartialEq.eq; spec = g.K.HasSpec.spec; encoding = g.K.Scalar.encoding; call = g.K.ScalarKey.call } in
-    at_form (λ f. StoresNextNumbers (numbers_at k f c.args.archive.now) c.args.from (map g.S.StepOf.step_of c.args.pairs.now) c.next_pairs_in.result (map g.S.StepOf.step_of c.next_pairs_in.new.pairs)) c.args.form c.in-true-true.is-0 c.in-true-true.is-1 c.next_pairs_in.ensures
+returns-in-true-true g c = at_form (λ f. StoresNextNumbers (numbers_at (key_by g.K.PartialEq.eq g.K.HasSpec.spec g.K.Scalar.encoding g.K.ScalarKey.call) f c.args.archive.now) c.args.from (map g.S.StepOf.step_of c.args.pairs.now) c.next_pairs_in.result (map g.S.StepOf.step_of c.next_pairs_in.new.pairs)) c.args.form c.in-true-true.is-0 c.in-true-true.is-1 c.next_pairs_in.ensures
 
 pub returns-in-true-false : goal.returns-in-true-false
-returns-in-true-false g c =
-    let k : NumberKey _ = record { eq = g.K.PartialEq.eq; spec = g.K.HasSpec.spec; encoding = g.K.Scalar.encoding; call = g.K.ScalarKey.call } in
-    at_form (λ f. StoresNextNumbers (numbers_at k f c.args.archive.now) c.args.from (map g.S.StepOf.step_of c.args.pairs.now) c.next_pairs_in-in-true-false.result (map g.S.StepOf.step_of c.next_pairs_in-in-true-false.new.pairs)) c.args.form c.in-true-false.is-0 c.in-true-false.is-1 c.next_pairs_in-in-true-false.ensures
+returns-in-true-false g c = at_form (λ f. StoresNextNumbers (numbers_at (key_by g.K.PartialEq.eq g.K.HasSpec.spec g.K.Scalar.encoding g.K.ScalarKey.call) f c.args.archive.now) c.args.from (map g.S.StepOf.step_of c.args.pairs.now) c.next_pairs_in-in-true-false.result (map g.S.StepOf.step_of c.next_pairs_in-in-true-false.new.pairs)) c.args.form c.in-true-false.is-0 c.in-true-false.is-1 c.next_pairs_in-in-true-false.ensures
 
 pub returns-in-false-true : goal.returns-in-false-true
-returns-in-false-true g c =
-    let k : NumberKey _ = record { eq = g.K.PartialEq.eq; spec = g.K.HasSpec.spec; encoding = g.K.Scalar.encoding; call = g.K.ScalarKey.call } in
-    at_form (λ f. StoresNextNumbers (numbers_at k f c.args.archive.now) c.args.from (map g.S.StepOf.step_of c.args.pairs.now) c.next_pairs_in-in-false-true.result (map g.S.StepOf.step_of c.next_pairs_in-in-false-true.new.pairs)) c.args.form c.in-false-true.is-0 c.in-false-true.is-1 c.next_pairs_in-in-false-true.ensures
+returns-in-false-true g c = at_form (λ f. StoresNextNumbers (numbers_at (key_by g.K.PartialEq.eq g.K.HasSpec.spec g.K.Scalar.encoding g.K.ScalarKey.call) f c.args.archive.now) c.args.from (map g.S.StepOf.step_of c.args.pairs.now) c.next_pairs_in-in-false-true.result (map g.S.StepOf.step_of c.next_pairs_in-in-false-true.new.pairs)) c.args.form c.in-false-true.is-0 c.in-false-true.is-1 c.next_pairs_in-in-false-true.ensures
 
 pub returns-in-false-false : goal.returns-in-false-false
-returns-in-false-false g c =
-    let k : NumberKey _ = record { eq = g.K.PartialEq.eq; spec = g.K.HasSpec.spec; encoding = g.K.Scalar.encoding; call = g.K.ScalarKey.call } in
-    at_form (λ f. StoresNextNumbers (numbers_at k f c.args.archive.now) c.args.from (map g.S.StepOf.step_of c.args.pairs.now) c.next_pairs_in-in-false-false.result (map g.S.StepOf.step_of c.next_pairs_in-in-false-false.new.pairs)) c.args.form c.in-false-false.is-0 c.in-false-false.is-1 c.next_pairs_in-in-false-false.ensures
+returns-in-false-false g c = at_form (λ f. StoresNextNumbers (numbers_at (key_by g.K.PartialEq.eq g.K.HasSpec.spec g.K.Scalar.encoding g.K.ScalarKey.call) f c.args.archive.now) c.args.from (map g.S.StepOf.step_of c.args.pairs.now) c.next_pairs_in-in-false-false.result (map g.S.StepOf.step_of c.next_pairs_in-in-false-false.new.pairs)) c.args.form c.in-false-false.is-0 c.in-false-false.is-1 c.next_pairs_in-in-false-false.ensures
