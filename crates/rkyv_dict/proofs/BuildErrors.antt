@@ -27,6 +27,11 @@ use Rattle.rkyv_dict.proofs.Once.{is_word, pairs_written_one_way}
 use Rattle.rkyv_dict.proofs.PairTableEnds.{tables_end}
 use Rattle.rkyv_dict.proofs.RootEnds.{root_ends}
 
+-- a build has one error, except for allocation failures, and none if it succeeds
+record ErrorsAreOne (fails : WriteError NoMemory → Type 0) (builds : List ℕ → Type 0) : Type 0 where
+  pub causes : (c d : WriteError NoMemory) → fails c → fails d → is_allocation_failure c ≡ false → is_allocation_failure d ≡ false → cause_text c ≡ cause_text d
+  pub built : (b : List ℕ) (c : WriteError NoMemory) → builds b → fails c → is_allocation_failure c ≡ false → ⊥
+
 module _ {X R : Type 0} (most : ℕ) (factor : ℕ × ℕ) (f : Format (List X) R) (rule : EndsOneWay f) (xs : List X) (p : ℕ) where
   list_error_unique : (c d : WriteFailure) → IsKnown c → IsKnown d → ListFails most factor (length xs) c → ListFails most factor (length xs) d → c ≡ d
   list_error_unique c d k l (inl x) (inl y) = x.0 ∙ sym y.0
@@ -99,42 +104,27 @@ module _ (k : MapTypes) (word : IsArchiveWord k.word) (part : IsElement k.spec) 
       → IsErrorText k.limit (RootNext (header_spec k).align (pairs_format k factor most format calls) pairs 0) (cause_text c)
   error_text_of pairs c m x = text_of_cause k.limit (RootNext (header_spec k).align (pairs_format k factor most format calls) pairs 0) x.0 x.1.front x.1.kept c m x.1.cause
 
-  pub map_causes : (pairs : List (A × A)) (c d : WriteError NoMemory) → ArchiveFails k factor most format calls pairs c → ArchiveFails k factor most format calls pairs d
-      → is_allocation_failure c ≡ false → is_allocation_failure d ≡ false → cause_text c ≡ cause_text d
-  unfolding ArchiveFails
-  map_causes pairs c d x y m n = error_text_unique k.limit (RootNext (header_spec k).align (pairs_format k factor most format calls) pairs 0) (build_ends pairs) (cause_text c) (cause_text d) (error_text_of pairs c m x) (error_text_of pairs d n y)
-
-  pub map_built : (pairs : List (A × A)) (b : List ℕ) (c : WriteError NoMemory) → IsArchiveOf k factor most format calls represents pairs b → ArchiveFails k factor most format calls pairs c
-      → is_allocation_failure c ≡ false → ⊥
+  map_errors : (pairs : List (A × A)) → ErrorsAreOne (ArchiveFails k factor most format calls pairs) (IsArchiveOf k factor most format calls represents pairs)
   unfolding ArchiveFails IsArchiveOf
-  map_built pairs b c x y m =
-      error_text_exclusive k.limit (RootNext (header_spec k).align (pairs_format k factor most format calls) pairs 0) (build_ends pairs) (cause_text c) b (error_text_of pairs c m y)
-      (length b - (header_spec k).size, x.2) x.0.within
+  map_errors pairs =
+      let next = RootNext (header_spec k).align (pairs_format k factor most format calls) pairs 0 in
+      record {
+        causes = λ c d x y m n. error_text_unique k.limit next (build_ends pairs) (cause_text c) (cause_text d) (error_text_of pairs c m x) (error_text_of pairs d n y);
+        built = λ b c x y m. error_text_exclusive k.limit next (build_ends pairs) (cause_text c) b (error_text_of pairs c m y) (length b - (header_spec k).size, x.2) x.0.within;
+      }
 
-causes_in : (kind : Kind) (bits : ArchiveWidth) (factor : ℕ × ℕ) (pairs : Pairs) (c d : WriteError NoMemory) → build_fails_in kind bits factor pairs c → build_fails_in kind bits factor pairs d
-    → is_allocation_failure c ≡ false → is_allocation_failure d ≡ false → cause_text c ≡ cause_text d
-causes_in Num bits factor (numbers pairs) c d x y m n =
-    map_causes (number_parts bits) (is_word bits) (scalar_element (unsigned w32) (inr (inr (inl refl))) (unsigned_codes w32)) factor (buckets_of bits) (scalar_format (unsigned w32)) number_calls
-    (scalars_one_way (unsigned w32)) (scalars_end (unsigned w32)) (ScalarRepresents (unsigned w32)) (scalar_is_format (scalar_spec (unsigned w32)) (unsigned w32) (scalar_laws (unsigned w32) (inr (inr (inl refl))))) pairs c d x y m n
-causes_in Text bits factor (texts pairs) c d x y m n =
-    map_causes (text_parts bits) (is_word bits) (text_element (word_of bits) (is_word bits)) factor (buckets_of bits) (text_format (word_of bits)) text_calls
-    (texts_one_way (word_of bits) (is_word bits)) (texts_end (word_of bits) (is_word bits)) (TextReads (word_of bits)) (text_is_format (word_of bits) (is_word bits)) pairs c d x y m n
-causes_in Num bits factor (texts pairs) c d x y m n = absurd x
-causes_in Text bits factor (numbers pairs) c d x y m n = absurd x
-
-built_in_exclusive : (kind : Kind) (bits : ArchiveWidth) (factor : ℕ × ℕ) (pairs : Pairs) (b : List ℕ) (c : WriteError NoMemory) → built_in kind bits factor pairs b → build_fails_in kind bits factor pairs c
-    → is_allocation_failure c ≡ false → ⊥
-built_in_exclusive Num bits factor (numbers pairs) b c x y m =
-    map_built (number_parts bits) (is_word bits) (scalar_element (unsigned w32) (inr (inr (inl refl))) (unsigned_codes w32)) factor (buckets_of bits) (scalar_format (unsigned w32)) number_calls
-    (scalars_one_way (unsigned w32)) (scalars_end (unsigned w32)) (ScalarRepresents (unsigned w32)) (scalar_is_format (scalar_spec (unsigned w32)) (unsigned w32) (scalar_laws (unsigned w32) (inr (inr (inl refl))))) pairs b c x y m
-built_in_exclusive Text bits factor (texts pairs) b c x y m =
-    map_built (text_parts bits) (is_word bits) (text_element (word_of bits) (is_word bits)) factor (buckets_of bits) (text_format (word_of bits)) text_calls
-    (texts_one_way (word_of bits) (is_word bits)) (texts_end (word_of bits) (is_word bits)) (TextReads (word_of bits)) (text_is_format (word_of bits) (is_word bits)) pairs b c x y m
-built_in_exclusive Num bits factor (texts pairs) b c x y m = absurd x
-built_in_exclusive Text bits factor (numbers pairs) b c x y m = absurd x
+errors_in : (kind : Kind) (bits : ArchiveWidth) (factor : ℕ × ℕ) (pairs : Pairs) → ErrorsAreOne (build_fails_in kind bits factor pairs) (built_in kind bits factor pairs)
+errors_in Num bits factor (numbers pairs) =
+    map_errors (number_parts bits) (is_word bits) (scalar_element (unsigned w32) (inr (inr (inl refl))) (unsigned_codes w32)) factor (buckets_of bits) (scalar_format (unsigned w32)) number_calls
+    (scalars_one_way (unsigned w32)) (scalars_end (unsigned w32)) (ScalarRepresents (unsigned w32)) (scalar_is_format (scalar_spec (unsigned w32)) (unsigned w32) (scalar_laws (unsigned w32) (inr (inr (inl refl))))) pairs
+errors_in Text bits factor (texts pairs) =
+    map_errors (text_parts bits) (is_word bits) (text_element (word_of bits) (is_word bits)) factor (buckets_of bits) (text_format (word_of bits)) text_calls
+    (texts_one_way (word_of bits) (is_word bits)) (texts_end (word_of bits) (is_word bits)) (TextReads (word_of bits)) (text_is_format (word_of bits) (is_word bits)) pairs
+errors_in Num bits factor (texts pairs) = record { causes = λ c d x y m n. absurd x; built = λ b c x y m. absurd x }
+errors_in Text bits factor (numbers pairs) = record { causes = λ c d x y m n. absurd x; built = λ b c x y m. absurd x }
 
 pub build_errors_are_one : BuildErrorsAreOne
 build_errors_are_one = record {
-  causes = λ form factor pairs c d x y m n. causes_in form.kind form.bits factor pairs c d x y m n;
-  built = λ form factor pairs b c x y m. built_in_exclusive form.kind form.bits factor pairs b c x y m;
+  causes = λ form factor pairs. (errors_in form.kind form.bits factor pairs).causes;
+  built = λ form factor pairs. (errors_in form.kind form.bits factor pairs).built;
 }

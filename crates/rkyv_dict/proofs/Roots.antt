@@ -2,7 +2,7 @@
 use Rattle.std.proofs.Common.{◌≡◌, ℕ, ◌+◌, refl, ap, ◌∙◌, List, Option, Some, None, IfSome}
 use Rattle.std.specs.Borrow.{Bor}
 use Rattle.std.specs.Option.{option_map}
-use Rattle.std.proofs.lemmas.Option.{same_Some}
+use Rattle.std.proofs.lemmas.Option.{IfSome_then, same_Some}
 use Rattle.rkyv_base.specs.{IsAt, IsValidArchive, Viewable, bytes_of, pos_of, pos_of_found}
 use Rattle.rkyv_base.specs.Lemmas.Access.{root_viewable}
 use Rattle.rkyv_base.specs.declared.view.View.{View}
@@ -18,10 +18,6 @@ module _ (k : MapTypes) (b : List ℕ) where
   pub map_root_viewable : IsMapArchive k b → Viewable (header_spec k) b (root k b)
   map_root_viewable h = root_viewable k.limit (header_spec k) b (accepted h)
 
-pub some_map : {X : Type 0} {P Q : X → Type 0} (o : Option X) → ((x : X) → P x → Q x) → IfSome o P → IfSome o Q
-some_map None f h = h
-some_map (Some x) f h = f x h
-
 -- the text of a value that may be found, by the position of its key
 text_found : {V : Type 0} (text : List ℕ → ℕ → List ℕ) (b : List ℕ) (off : ℕ) (value : Option (View V)) (key_pos : Option ℕ) → IfSome value (λ v. bytes_of v ≡ b)
     → pos_of_found value ≡ option_map (λ q. q + off) key_pos → option_map (at_view text) value ≡ option_map (λ q. text b (q + off)) key_pos
@@ -35,5 +31,5 @@ pub text_read : {T V : Type 0} (text : List ℕ → ℕ → List ℕ) (off : ℕ
     → (value : Option (View V)) → IfSome value (λ x. x.archive ≡ v.archive) → (key_pos : List ℕ → ℕ → Option ℕ)
     → pos_of_found value ≡ option_map (λ q. q + off) (key_pos (bytes_of v) (pos_of v)) → option_map (at_view text) value ≡ option_map (λ q. text archive.now (q + off)) (key_pos archive.now p)
 text_read text off v archive p at value same key_pos e =
-    let bytes : IfSome value (λ x. bytes_of x ≡ archive.now) = some_map value (λ x s. ap (λ (a : Bor (List ℕ)). a.now) (s ∙ at.0)) same in
+    let bytes : IfSome value (λ x. bytes_of x ≡ archive.now) = IfSome_then value same (λ x s. ap (λ (a : Bor (List ℕ)). a.now) (s ∙ at.0)) in
     text_found text archive.now off value (key_pos archive.now p) bytes (e ∙ ap (option_map (λ q. q + off)) (read_at v archive p at key_pos))

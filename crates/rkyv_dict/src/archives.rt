@@ -192,13 +192,13 @@ pub fn check(form: Form, bytes: &[u8]) -> Result<usize, VerifyError>
 ///
 /// A key of the other kind is never found.
 ///
-/// # Errors
-///
-/// - `AllocError`: `out` fails to allocate.
-///
 /// # Requires
 ///
 /// - The bytes are a valid archive of the form.
+///
+/// # Errors
+///
+/// - `AllocError`: `out` fails to allocate.
 pub fn push_value(
     form: Form,
     bytes: &[u8],
@@ -229,13 +229,13 @@ pub fn push_value(
 ///
 /// The line of a pair is its key, a space and its value.
 ///
-/// # Errors
-///
-/// - `AllocError`: `out` fails to allocate.
-///
 /// # Requires
 ///
 /// - The bytes are a valid archive of the form.
+///
+/// # Errors
+///
+/// - `AllocError`: `out` fails to allocate.
 pub fn push_pairs(form: Form, bytes: &[u8], out: &mut String) -> Result<(), AllocError>
     requires { IsArchive form bytes.now }
     ensures { AppendsText result out.old out.new (listing form bytes.now) }

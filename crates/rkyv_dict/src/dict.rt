@@ -225,13 +225,13 @@ impl<'a> Dict<'a> {
 
     /// Executes a line, and appends its output.
     ///
-    /// # Errors
-    ///
-    /// - `AllocError`: an allocation fails; the state is unspecified then.
-    ///
     /// # Requires
     ///
     /// - The archive of the state, if any, is valid (`IsSound`).
+    ///
+    /// # Errors
+    ///
+    /// - `AllocError`: an allocation fails; the state is unspecified then.
     pub fn execute(
         &mut self,
         alloc: Global,

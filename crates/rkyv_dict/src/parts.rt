@@ -18,13 +18,13 @@ pub trait Printable: KeyElement {
 
     /// Appends the text of the key or value.
     ///
-    /// # Errors
-    ///
-    /// - `AllocError`: `out` fails to allocate.
-    ///
     /// # Requires
     ///
     /// - A valid key or value is at the position of the view.
+    ///
+    /// # Errors
+    ///
+    /// - `AllocError`: `out` fails to allocate.
     fn push(view: View<'_, Self>, out: &mut String) -> Result<(), AllocError>
         requires { IsValidView Self.spec view }
         ensures { AppendsText result out.old out.new (at_view text view.entry) };

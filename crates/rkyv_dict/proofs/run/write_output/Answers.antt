@@ -1,9 +1,10 @@
 use Rattle.std.proofs.Common.{ap, ◌∙◌, subst}
 use Rattle.std.specs.Option.{option_copied}
+use Rattle.std.proofs.lemmas.Result.{on_err_weaker}
 use Rattle.rkyv_dict.specs.{AppendsFront, parts_after, state_of}
 use Rattle.rkyv_dict.proofs.Running.{progress_front, progress_line, progress_moved, progress_none}
 use Rattle.rkyv_dict.proofs.Sound.{line_sound, start_sound}
-use Rattle.rkyv_dict.proofs.Writing.{on_err, on_err_map}
+use Rattle.rkyv_dict.proofs.Writing.{on_err}
 use Rattle.rkyv_dict.proofs.run.write_output.Goals as goal
 
 pub loop-rest-init : goal.loop-rest-init
@@ -29,6 +30,4 @@ returns-in_err-write_much-clause-front g c =
 
 pub returns-clause-front : goal.returns-clause-front
 returns-clause-front g c =
-    on_err_map _ (AppendsFront (g.W.Write.contents c.loop-rest.writer) (g.W.Write.contents c.write_piece.new.writer) c.as_bytes.result.now) _
-    (λ f. progress_front _ _ _ _ _ _ _ c.loop-rest.invariant.progress (subst (AppendsFront (g.W.Write.contents c.loop-rest.writer) (g.W.Write.contents c.write_piece.new.writer)) c.as_bytes.ensures.value f))
-    c.write_piece.ensures.front
+    on_err_weaker _ (λ f. progress_front _ _ _ _ _ _ _ c.loop-rest.invariant.progress (subst (AppendsFront (g.W.Write.contents c.loop-rest.writer) (g.W.Write.contents c.write_piece.new.writer)) c.as_bytes.ensures.value f)) c.write_piece.ensures.front

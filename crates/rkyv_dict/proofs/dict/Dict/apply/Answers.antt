@@ -1,7 +1,8 @@
 use Rattle.std.proofs.Common.{refl, ap, ◌∙◌}
+use Rattle.std.proofs.lemmas.Result.{on_ok_weaker}
 use Rattle.rkyv_dict.specs.{emptied, pairs_of, state_of}
 use Rattle.rkyv_dict.specs.declared.form.Form.{Form}
-use Rattle.rkyv_dict.proofs.Adding.{adds_as, adds_none, on_ok_map}
+use Rattle.rkyv_dict.proofs.Adding.{adds_as, adds_none}
 use Rattle.rkyv_dict.proofs.Putting.{pair_put}
 use Rattle.rkyv_dict.proofs.dict.Dict.apply.Goals as goal
 
@@ -20,10 +21,10 @@ pub returns-in-PutNumbers : goal.returns-in-PutNumbers
 returns-in-PutNumbers c =
     let s = c.args.self.now in
     let put = pair_put s.bits s.load_factor (pairs_of s.list) (pairs_of c.put_numbers.new.list) _ _ s.archive s.built_in_list c.put_numbers.ensures.first in
-    on_ok_map c.put_numbers.result _ _ (λ e. adds_as _ _ (state_of s) _ _ _ c.in-PutNumbers.is (adds_none _ _ (refl, put e))) c.put_numbers.ensures.added
+    on_ok_weaker c.put_numbers.result (λ e. adds_as _ _ (state_of s) _ _ _ c.in-PutNumbers.is (adds_none _ _ (refl, put e))) c.put_numbers.ensures.added
 
 pub returns-in-PutTexts : goal.returns-in-PutTexts
 returns-in-PutTexts c =
     let s = c.args.self.now in
     let put = pair_put s.bits s.load_factor (pairs_of s.list) (pairs_of c.put_texts.new.list) _ _ s.archive s.built_in_list c.put_texts.ensures.first in
-    on_ok_map c.put_texts.result _ _ (λ e. adds_as _ _ (state_of s) _ _ _ c.in-PutTexts.is (adds_none _ _ (refl, put e))) c.put_texts.ensures.added
+    on_ok_weaker c.put_texts.result (λ e. adds_as _ _ (state_of s) _ _ _ c.in-PutTexts.is (adds_none _ _ (refl, put e))) c.put_texts.ensures.added
