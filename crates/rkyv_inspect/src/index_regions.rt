@@ -19,13 +19,13 @@ use std::alloc::{AllocError, Global};
 
 /// Appends the regions of the out-of-line bytes of all pairs, in order.
 ///
-/// # Errors
-///
-/// - A text or the list fails to allocate.
-///
 /// # Requires
 ///
 /// - The out-of-line bytes are after the end of the list.
+///
+/// # Errors
+///
+/// - A text or the list fails to allocate.
 fn add_parts<K: Field, V: Field, H, W: Width>(
     alloc: Global,
     root: View<'_, IndexMapOf<K, V, H, W>>,
@@ -68,13 +68,13 @@ fn entry_pos<K: Field, V: Field, H, W: Width>(
 
 /// Appends the regions of the entries, in order, and of the bytes before the first.
 ///
-/// # Errors
-///
-/// - A text or the list fails to allocate.
-///
 /// # Requires
 ///
 /// - The list ends where the entries begin, or before.
+///
+/// # Errors
+///
+/// - A text or the list fails to allocate.
 fn add_entries<K: Field, V: Field, H, W: Width>(
     alloc: Global,
     root: View<'_, IndexMapOf<K, V, H, W>>,
@@ -106,13 +106,13 @@ fn add_entries<K: Field, V: Field, H, W: Width>(
 ///
 /// The fields are those of the map by the format. Padding and unknown bytes are between them.
 ///
-/// # Errors
-///
-/// - A text or the list fails to allocate.
-///
 /// # Requires
 ///
 /// - The view is of a valid index map.
+///
+/// # Errors
+///
+/// - A text or the list fails to allocate.
 pub fn index_regions<K: Field, V: Field, H, W: Width>(
     alloc: Global,
     root: View<'_, IndexMapOf<K, V, H, W>>,

@@ -111,13 +111,13 @@ fn index_lookups<K: KeyElement, V: Element, H: KeyHasher, W: Width>(
 ///
 /// Each key is looked up, unless the lookups read more than `limit` strides.
 ///
-/// # Errors
-///
-/// - The histogram fails to allocate.
-///
 /// # Requires
 ///
 /// - The view is of a valid index map.
+///
+/// # Errors
+///
+/// - The histogram fails to allocate.
 pub fn index_summary<K: KeyElement, V: Element, H: KeyHasher, W: Width>(
     alloc: Global,
     root: View<'_, IndexMapOf<K, V, H, W>>,

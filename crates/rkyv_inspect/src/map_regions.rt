@@ -21,13 +21,13 @@ use std::alloc::{AllocError, Global};
 
 /// Appends the region of the out-of-line bytes of a value, and of the bytes before it.
 ///
-/// # Errors
-///
-/// - A text or the list fails to allocate.
-///
 /// # Requires
 ///
 /// - The out-of-line bytes aren't before the end of the list, and are inside the archive.
+///
+/// # Errors
+///
+/// - A text or the list fails to allocate.
 fn add_part(
     alloc: Global,
     bytes: &[u8],
@@ -51,14 +51,14 @@ fn add_part(
 
 /// Appends the regions of the out-of-line bytes of a pair, and of the bytes before each.
 ///
-/// # Errors
-///
-/// - A text or the list fails to allocate.
-///
 /// # Requires
 ///
 /// - The value is after the key.
 /// - The out-of-line bytes aren't before the end of the list, and are inside the archive.
+///
+/// # Errors
+///
+/// - A text or the list fails to allocate.
 pub(crate) fn add_pair_parts<K: Field, V: Field>(
     alloc: Global,
     key: View<'_, K>,
@@ -81,13 +81,13 @@ pub(crate) fn add_pair_parts<K: Field, V: Field>(
 
 /// Appends the regions of the out-of-line bytes of all pairs, in bucket order.
 ///
-/// # Errors
-///
-/// - A text or the list fails to allocate.
-///
 /// # Requires
 ///
 /// - The out-of-line bytes are after the end of the list.
+///
+/// # Errors
+///
+/// - A text or the list fails to allocate.
 fn add_parts<K: Field, V: Field, H, W: Width>(
     alloc: Global,
     root: View<'_, HashMapOf<K, V, H, W>>,
@@ -116,13 +116,13 @@ fn add_parts<K: Field, V: Field, H, W: Width>(
 
 /// Appends the regions of the three words of a table's header, and of the bytes before it.
 ///
-/// # Errors
-///
-/// - A text or the list fails to allocate.
-///
 /// # Requires
 ///
 /// - The header is inside `bytes`, and isn't before the end of the list.
+///
+/// # Errors
+///
+/// - A text or the list fails to allocate.
 pub(crate) fn add_header<W: Width>(
     alloc: Global,
     bytes: &[u8],
@@ -152,13 +152,13 @@ pub(crate) fn add_header<W: Width>(
 ///
 /// The fields are those of the map by the format. Padding and unknown bytes are between them.
 ///
-/// # Errors
-///
-/// - A text or the list fails to allocate.
-///
 /// # Requires
 ///
 /// - The view is of a valid map.
+///
+/// # Errors
+///
+/// - A text or the list fails to allocate.
 pub fn map_regions<K: Field, V: Field, H, W: Width>(
     alloc: Global,
     root: View<'_, HashMapOf<K, V, H, W>>,

@@ -103,13 +103,13 @@ pub(crate) fn controls_of(capacity: usize, pos: usize) -> Option<usize>
 ///
 /// Each key is looked up, unless the lookups read more than `limit` strides.
 ///
-/// # Errors
-///
-/// - The histogram fails to allocate.
-///
 /// # Requires
 ///
 /// - The view is of a valid map.
+///
+/// # Errors
+///
+/// - The histogram fails to allocate.
 pub fn map_summary<K: KeyElement, V: Element, H: KeyHasher, W: Width>(
     alloc: Global,
     root: View<'_, HashMapOf<K, V, H, W>>,

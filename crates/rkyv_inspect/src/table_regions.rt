@@ -74,14 +74,14 @@ impl<'a> Buckets<'a> {
 
     /// Appends the region of a bucket.
     ///
-    /// # Errors
-    ///
-    /// - A text or the list fails to allocate.
-    ///
     /// # Requires
     ///
     /// - The list ends at the bucket, which is before the control bytes.
     /// - Its control byte is inside the bytes.
+    ///
+    /// # Errors
+    ///
+    /// - A text or the list fails to allocate.
     fn add_bucket<T: BucketItem>(
         self,
         alloc: Global,
@@ -108,14 +108,14 @@ impl<'a> Buckets<'a> {
 
     /// Appends the regions of the buckets, from the highest to bucket 0.
     ///
-    /// # Errors
-    ///
-    /// - A text or the list fails to allocate.
-    ///
     /// # Requires
     ///
     /// - The list ends where the buckets begin.
     /// - The control bytes are inside the bytes.
+    ///
+    /// # Errors
+    ///
+    /// - A text or the list fails to allocate.
     fn add_buckets<T: BucketItem>(
         self,
         alloc: Global,
@@ -137,14 +137,14 @@ impl<'a> Buckets<'a> {
 
     /// Appends the regions of the control bytes.
     ///
-    /// # Errors
-    ///
-    /// - A text or the list fails to allocate.
-    ///
     /// # Requires
     ///
     /// - The list ends at the first control byte.
     /// - The control bytes are inside the archive.
+    ///
+    /// # Errors
+    ///
+    /// - A text or the list fails to allocate.
     fn add_controls(self, alloc: Global, list: &mut RegionList) -> Result<(), AllocError>
         requires list { IsRegionList list.old }
         requires begin { list.old.end ≡ self.controls_pos }
@@ -169,14 +169,14 @@ impl<'a> Buckets<'a> {
     ///
     /// A table without buckets has none.
     ///
-    /// # Errors
-    ///
-    /// - A text or the list fails to allocate.
-    ///
     /// # Requires
     ///
     /// - The list ends where the buckets begin, or before.
     /// - The control bytes are inside the archive.
+    ///
+    /// # Errors
+    ///
+    /// - A text or the list fails to allocate.
     pub(crate) fn add<T: BucketItem>(
         self,
         alloc: Global,
