@@ -63,11 +63,7 @@ fn map(alloc: Global) -> (Outcome, bool) {
     let mut writer = VecWriter::new(alloc);
     let outcome = Numbers::serialize_from_iter::<VecWriter, i8, i8, i8, i8, _>(
         alloc,
-        iter::from_fn(|| if yields_next(&requests, 2) {
-            Some((1i8, 2i8))
-        } else {
-            None
-        }),
+        iter::from_fn(|| yields_next(&requests, 2).then_some((1i8, 2i8))),
         2,
         (7, 8),
         &mut writer,
@@ -82,11 +78,7 @@ fn set(alloc: Global) -> (Outcome, bool) {
     let mut writer = VecWriter::new(alloc);
     let outcome = Keys::serialize_from_iter::<VecWriter, i8, i8, _>(
         alloc,
-        iter::from_fn(|| if yields_next(&requests, 2) {
-            Some(1i8)
-        } else {
-            None
-        }),
+        iter::from_fn(|| yields_next(&requests, 2).then_some(1i8)),
         2,
         (7, 8),
         &mut writer,
@@ -102,11 +94,7 @@ fn index_map(alloc: Global) -> (Outcome, bool) {
     let mut writer = VecWriter::new(alloc);
     let outcome = OrderedNumbers::serialize_from_iter::<VecWriter, i8, i8, i8, i8, _>(
         alloc,
-        iter::from_fn(|| if yields_next(&requests, 2) {
-            Some((1i8, 2i8))
-        } else {
-            None
-        }),
+        iter::from_fn(|| yields_next(&requests, 2).then_some((1i8, 2i8))),
         2,
         (7, 8),
         &mut writer,
@@ -121,11 +109,7 @@ fn index_set(alloc: Global) -> (Outcome, bool) {
     let mut writer = VecWriter::new(alloc);
     let outcome = OrderedKeys::serialize_from_iter::<VecWriter, i8, i8, _>(
         alloc,
-        iter::from_fn(|| if yields_next(&requests, 2) {
-            Some(1i8)
-        } else {
-            None
-        }),
+        iter::from_fn(|| yields_next(&requests, 2).then_some(1i8)),
         2,
         (7, 8),
         &mut writer,
