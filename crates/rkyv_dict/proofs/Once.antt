@@ -106,7 +106,7 @@ part_word : (kind : Kind) (bits : ArchiveWidth) → IsArchiveWord (parts_in kind
 part_word Num bits = is_word bits
 part_word Text bits = is_word bits
 
-header_element : (k : MapTypes) → IsArchiveWord k.word → IsElement k.spec → IsElement (header_spec k)
+pub header_element : (k : MapTypes) → IsArchiveWord k.word → IsElement k.spec → IsElement (header_spec k)
 header_element k word part = table_element k.word word (pair_spec k) (entry_element k.spec k.spec part part)
 
 map_check_one : (k : MapTypes) → IsElement (header_spec k) → (b : List ℕ) (e : VerifyError) → MapValidationFails k b e

@@ -16,6 +16,7 @@ pub mod Counts
 pub mod Dicts
 pub mod Run
 pub mod Once
+pub mod Existence
 unfoldable pub use Forms.{buckets_of, limit_of, lookup_key, pairs_of, text_pair, word_of}
 pub use Forms.{LookupKey, Pairs, number_key, numbers, text_key, texts}
 unfoldable pub use Maps.{number_calls, number_parts, number_spec, number_text, parts_by, parts_in}
@@ -56,3 +57,5 @@ pub use Run.{AppendsBeginning, AppendsFront, AppendsOutput, AppendsSome, Gathers
 pub use Run.{Progress}
 unfoldable pub use Once.{BuildsAreOne, ChecksAreOne, ScriptsAreOne}
 pub use Once.{BuildErrorsAreOne}
+unfoldable pub use Existence.{AreNative, BuildsHaveResult, ChecksHaveResult}
+pub use Existence.{ScriptsHaveOutput}

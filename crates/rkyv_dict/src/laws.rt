@@ -1,5 +1,6 @@
 //! Laws of scripts and of errors, each a function whose contract is the statement.
-ghost use Rattle.rkyv_dict.specs.{BuildsAreOne, ChecksAreOne, ScriptsAreOne, message_of};
+ghost use Rattle.rkyv_dict.specs.{BuildsAreOne, BuildsHaveResult, ChecksAreOne, ChecksHaveResult};
+ghost use Rattle.rkyv_dict.specs.{ScriptsAreOne, ScriptsHaveOutput, message_of};
 ghost use Rattle.std.specs.Prelude.{Some, ◌≡◌};
 
 use crate::run::RunError;
@@ -18,6 +19,21 @@ pub fn checks_are_one()
 /// States that the same lines from the same state have one output and end in one state.
 pub fn scripts_are_one()
     ensures { ScriptsAreOne }
+{}
+
+/// States that native pairs have an archive or an error that isn't an allocation failure.
+pub fn builds_have_result()
+    ensures { BuildsHaveResult }
+{}
+
+/// States that bytes are a valid archive of a form, or fail validation with an error.
+pub fn checks_have_result()
+    ensures { ChecksHaveResult }
+{}
+
+/// States that the lines of each script have an output.
+pub fn scripts_have_output()
+    ensures { ScriptsHaveOutput }
 {}
 
 /// States the texts that `Display` writes for the errors of a run.
