@@ -1,16 +1,37 @@
 -- From the value that a lookup finds in the index map that is read to its position in the archive.
 use Rattle.rkyv_base.specs.declared.element.HasSpec.{Ghosts as Specs}
 use Rattle.rkyv_base.specs.declared.width.Word.{Ghosts as Words}
-use Rattle.std.proofs.Common.{◌≡◌, ℕ, ◌+◌, ◌≤◌, ◌∙◌, None, Some, List, Option, ap, length, refl, subst, sym}
+use Rattle.std.proofs.Common.{◌≡◌, ℕ, ◌+◌, ◌≤◌, ◌∙◌, Bool, None, Some, List, Option, ap, length, refl, subst, sym}
 use Rattle.std.specs.Borrow.{Bor}
 use Rattle.std.specs.Option.{option_map}
 use Rattle.std.specs.Prelude.{IfSome}
 use Rattle.rkyv_base.specs.{Viewable, pos_of, pos_of_found, value_offset}
 use Rattle.rkyv_base.specs.declared.view.View.{View}
 use Rattle.rkyv_keys.specs.{KeyLookup}
-use Rattle.rkyv_index.specs.{FindsOneKey, FoundKeyHas, FoundValueHas, GetsKey, Index, IsStored, IsValueOf, MatchesAt, index_at, index_bytes, index_over, index_pos, key_pos, pair_at, value_part, value_pos_of}
+use Rattle.rkyv_index.specs.{FoundByHas, FoundKeyHas, FoundValueHas, GetsKey, Index, IsIndex, IsStored, IsValueOf, MatchesAt, index_bytes, index_over, index_pos, key_pos, pair_at, value_part, value_pos_of}
 use Rattle.rkyv_index.specs.declared.map.ArchivedIndexMap.{ArchivedIndexMap}
-use Rattle.rkyv_index.proofs.SealedIndex.{as_read, finds_first_key_read, finds_key_read}
+use Rattle.rkyv_index.proofs.SealedIndex.{as_read, found_key_read}
+
+module _ {K : Type 0} {m : Index K} where
+  -- a property that follows from another of each index
+  pub found_implied : {a : KeyLookup} {Fact Implied : Option ℕ → Type 0} → ((index : Option ℕ) → Fact index → Implied index) → FoundKeyHas m a Fact → FoundKeyHas m a Implied
+  found_implied implies t = record {
+    finds = implies _ t.finds;
+    first = λ homes written. implies _ (t.first homes written);
+    complete = λ none. let one = t.complete none in (one.0, one.1, implies one.0 one.2);
+  }
+
+  module _ {P : Option ℕ → Type 0} {found : Option ℕ} (at : P found) where
+    -- a property of the index that a lookup returns is one of the index that it finds
+    pub found_at : {a : KeyLookup} → FoundKeyHas m a (IsIndex found) → FoundKeyHas m a P
+    found_at t = found_implied (λ index is. subst P is at) t
+
+    pub found_by_at : {hash : ℕ} {key_hash : List ℕ → ℕ → ℕ} {post : View K → Bool → Type 0} → FoundByHas m hash key_hash post (IsIndex found) → FoundByHas m hash key_hash post P
+    found_by_at t = record {
+      accepted = (t.accepted.0, subst P t.accepted.1 at, t.accepted.2);
+      finds = λ accept compares. subst P (t.finds accept compares) at;
+      first = λ accept compares under homes written. subst P (t.first accept compares under homes written) at;
+    }
 
 -- the index map that is read has the bytes `b` and the position `p`
 module _ {K V H W : Type 0} {ks : Specs K} {vs : Specs V} {wt : Words W} (m : ArchivedIndexMap K V H W ks vs wt) (b : List ℕ) (p : ℕ) (bytes : index_bytes m ≡ b) (pos : index_pos m ≡ p) where
@@ -22,14 +43,7 @@ module _ {K V H W : Type 0} {ks : Specs K} {vs : Specs V} {wt : Words W} (m : Ar
       ap pos_of_found at.1 ∙ ap Some (at.2.at.1 ∙ ap (λ n. n + value_offset ks.spec vs.spec) there)
 
   pub value_found : (a : KeyLookup) (r : Option (View V)) (found : Option ℕ) → found ≡ pos_of_found r → GetsKey value_part m a r → FoundValueHas (index_over wt ks vs b p) a (λ q. found ≡ q)
-  value_found a r found e got =
-      let P : Option ℕ → Type 0 = λ index. found ≡ option_map (value_pos_of (index_over wt ks vs b p)) index in
-      record {
-        finds = finds_key_read m b p bytes pos a.fits P a.hash (e ∙ value_at_index r _ got.finds);
-        first = finds_first_key_read m b p bytes pos a.fits P a.key_hash (λ homes written. e ∙ value_at_index r _ (got.first homes written));
-        complete = as_read m b p bytes pos (λ d q. FindsOneKey (index_at {K = K} wt.word ks.spec vs.spec d q) a.key_hash a.same a.fits P)
-            (λ none. let one = got.complete none in (one.0, one.1, e ∙ value_at_index r one.0 one.2));
-      }
+  value_found a r found e got = found_implied (λ index at. e ∙ value_at_index r index at) (found_key_read m b p bytes pos value_part got)
 
   -- a found value is inside the archive
   pub value_inside : (r : Option (View V)) (found : Option ℕ) → found ≡ pos_of_found r → IfSome r (λ x. (i : ℕ) × IsStored m i × IsValueOf m i x) → IfSome found (λ q. q + vs.spec.size ≤ length b)
@@ -46,11 +60,3 @@ module _ {K V H W : Type 0} {ks : Specs K} {vs : Specs V} {wt : Words W} (m : Ar
       let is = walked.2 in
       let same : x.archive.now ≡ b = ap (λ (a : Bor (List ℕ)). a.now) is.at.0 ∙ bytes in
       subst (λ o. IfSome o (λ q. Viewable vs.spec b q)) (sym e) (subst (λ d. Viewable vs.spec d (pos_of x)) same is.viewable)
-
--- a property that follows from another of each index
-pub found_implied : {K : Type 0} (m : Index K) (a : KeyLookup) (Fact Implied : Option ℕ → Type 0) → ((index : Option ℕ) → Fact index → Implied index) → FoundKeyHas m a Fact → FoundKeyHas m a Implied
-found_implied m a Fact Implied implies t = record {
-  finds = implies _ t.finds;
-  first = λ homes written. implies _ (t.first homes written);
-  complete = λ none. let one = t.complete none in (one.0, one.1, implies one.0 one.2);
-}

@@ -12,7 +12,7 @@ use Rattle.rkyv_base.specs.{Encoding, IsAt, IsIndexEncoding, IsScalar, bytes_of,
 use Rattle.rkyv_base.specs.declared.view.View.{View}
 use Rattle.rkyv_table.specs.{CountsStrides, CountsWithin, FindsItem, IsItem, ReadsWithin, cap_at, len_at, probe_capacity, table_pos}
 use Rattle.rkyv_table.specs.declared.table.ArchivedHashTable.{ArchivedHashTable}
-use Rattle.rkyv_index.specs.{GetsBy, IsAccepted, IsKeyOf, IsStoredIndex, ReadsWithinBound, index_archive, index_bytes, index_found, index_part, index_pos, stored_index}
+use Rattle.rkyv_index.specs.{GetsBy, IsAccepted, IsKeyOf, IsStoredIndex, ReadsWithinBound, index_archive, index_bytes, index_found, index_of, index_part, index_pos, stored_index}
 use Rattle.rkyv_index.specs.declared.map.ArchivedIndexMap.{ArchivedIndexMap}
 use Rattle.rkyv_index.proofs.Lookups.{finds_first_index, finds_index, item_index, item_stored, read_there}
 
@@ -63,7 +63,7 @@ module _ {K V H W P N : Type 0} {ks : Specs K} {vs : Specs V} {ts : Specs P} {wt
 
   -- the comparison accepted the key at the index in a found item
   pub index_accepted : (Post : View P → Bool → Type 0) (post' : View K → Bool → Type 0) (post_at_key : (h : View P) (r : Bool) → Post h r → (key : View K) × IsKeyOf m (number_at w (bytes_of h) h.pos) key × post' key r)
-      (found : Option (View P)) → IfSome found (λ h. Post h true) → IfSome (option_map (stored_index w) found) (IsAccepted m post')
+      (found : Option (View P)) → IfSome found (λ h. Post h true) → IfSome (option_map (stored_index w) found) (IsAccepted (index_of m) post')
   index_accepted Post post' post_at_key None is_accepted = is_accepted
   index_accepted Post post' post_at_key (Some h) is_accepted = post_at_key h true is_accepted
 
@@ -77,7 +77,7 @@ module _ {K V H W P N : Type 0} {ks : Specs K} {vs : Specs V} {ts : Specs P} {wt
     pub gets_index : GetsBy index_part m query_hash key_hash post result
     gets_index = record {
       walked = subst (λ r. IfSome r (IsStoredIndex m)) (sym found_there) (index_stored found got.walked);
-      accepted = (result, refl, subst (λ r. IfSome r (IsAccepted m post)) (sym found_there) (index_accepted Post post post_at_key found got.accepted));
+      accepted = (result, refl, subst (λ r. IfSome r (IsAccepted (index_of m) post)) (sym found_there) (index_accepted Post post post_at_key found got.accepted));
       finds = λ accept compares. read ∙ finds_index m e pk index t at Post post post_at_key found accept compares hash got.finds ∙ ap (λ n. index_found w (index_bytes m) (index_pos m) n accept) under;
       first = λ accept compares alone homes written.
           read ∙ finds_first_index m e pk index t at Post post post_at_key found accept compares hash key_hash (λ i below accepted. alone i below accepted ∙ sym under) got.first homes written;

@@ -42,9 +42,9 @@ unfoldable pub use Map.NestedWrites.{NestedWritesKeepIndexMaps, NestedWritesKeep
 unfoldable pub use Map.NestedWrites.{NestedWritesRepresent, ValueWritesAreNested}
 pub use Map.NestedWrites.{KeepsOuterIndexMap}
 unfoldable pub use Map.BothHashers.{ComparedAlike, QueriedAlike, WrittenAlike, fx_index_found}
-unfoldable pub use Map.SealedIndex.{AcceptsIn, IsAcceptedIn, IsFullSeal, IsFullSealAt, IsIndexSeal}
-unfoldable pub use Map.SealedIndex.{IsPairPosIn, IsPairSeal, IsValueSeal, SealsPair, SealsValue}
-unfoldable pub use Map.SealedIndex.{full_seal_index, index_at, index_in}
+unfoldable pub use Map.SealedIndex.{IsFullSeal, IsFullSealAt, IsIndexSeal, IsPairPosIn, IsPairSeal}
+unfoldable pub use Map.SealedIndex.{IsStoredIn, IsValueSeal, SealsPair, SealsValue, full_seal_index}
+unfoldable pub use Map.SealedIndex.{index_at, index_in}
 pub use Map.SealedIndex.{IsKeyAt, IsPairPos}
 unfoldable pub use Map.Walking.{EndsBelow}
 pub use Map.Walking.{IsWalk}
@@ -56,7 +56,7 @@ unfoldable pub use Map.Complete.{FindsOneKey, FindsTheOne, NoneFits}
 pub use Map.Complete.{FitsAlone}
 unfoldable pub use Map.Lookups.{full_key_part, full_part, index_part, key_part, pair_part, part_at}
 unfoldable pub use Map.Lookups.{value_part}
-pub use Map.Lookups.{FoundKeyHas, GetsBy, GetsKey, Part}
+pub use Map.Lookups.{FoundByHas, FoundKeyHas, GetsBy, GetsKey, Part}
 unfoldable pub use Map.InPlace.{FoundValueHas, UppercasesListed, index_over, index_to_texts_spec}
 unfoldable pub use Map.InPlace.{value_pos_of}
 unfoldable pub use Map.ListArchives.{FoundAreListed, index_root}

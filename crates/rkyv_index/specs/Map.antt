@@ -252,6 +252,10 @@ module _ {K : Type 0} (m : Index K) where
   ComparesKeysBy post accept = (i : ℕ) (key : View K) (r : Bool) → m.is_key i key → post key r
       → r ≡ accept i
 
+  -- the comparison with `post` accepts the key at index `i`
+  abbrev pub IsAccepted : (View K → Bool → Type 0) → ℕ → Type 0
+  IsAccepted post i = (key : View K) × m.is_key i key × post key true
+
   -- each accepted key is under the hash
   abbrev pub AreUnderHash : ℕ → (List ℕ → ℕ → ℕ) → (ℕ → Bool) → Type 0
   AreUnderHash hash key_hash accept = (i : ℕ) → i < len_at m.word m.bytes m.pos → accept i ≡ true
@@ -304,10 +308,6 @@ module _ {K V H W : Type 0} {ks : Specs K} {vs : Specs V} {wt : Words W}
   -- the condition `pre` is met for each key of the map
   abbrev pub CanCompareKeys : (View K → Type 0) → Type 0
   CanCompareKeys pre = CanCompareKeysOf (index_of m) pre
-
-  -- the comparison with `post` accepts the key at index `i`
-  abbrev pub IsAccepted : (View K → Bool → Type 0) → ℕ → Type 0
-  IsAccepted post i = (key : View K) × IsKeyOf m i key × post key true
 
   -- `result`: the pair at `index`, or `None` if `index` is `None`
   abbrev pub IsPairAt : Option (View K × View V) → Option ℕ → Type 0

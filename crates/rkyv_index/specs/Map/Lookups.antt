@@ -20,6 +20,14 @@ pub record FoundKeyHas {K : Type 0} (m : Index K) (a : KeyLookup) (P : Option �
     pub first : FindsFirstKey m a.key_hash a.fits P
     pub complete : FindsOneKey m a.key_hash a.same a.fits P
 
+-- `P` is a property of the index that a lookup by a comparison finds, under the hash: of one
+-- whose key was accepted, in any map, and in a written map
+pub record FoundByHas {K : Type 0} (m : Index K) (hash : ℕ) (key_hash : List ℕ → ℕ → ℕ)
+    (post : View K → Bool → Type 0) (P : Option ℕ → Type 0) : Type 0 where
+  pub accepted : (index : Option ℕ) × P index × IfSome index (IsAccepted m post)
+  pub finds : FindsBy m post hash P
+  pub first : FindsFirstBy m post hash key_hash P
+
 -- What a lookup in `M` returns of the pair that it finds. `In m x`: `x` is of a pair of `m`
 -- whose index a full bucket has, `At m result index`: the result is of the pair at the index,
 -- or there is neither
@@ -79,6 +87,7 @@ module _ {K V H W : Type 0} {ks : Specs K} {vs : Specs V} {wt : Words W} where
     pub record GetsBy (hash : ℕ) (key_hash : List ℕ → ℕ → ℕ) (post : View K → Bool → Type 0)
         (result : Option X) : Type 0 where
       pub walked : IfSome result (part.In m)
-      pub accepted : (index : Option ℕ) × part.At m result index × IfSome index (IsAccepted m post)
+      pub accepted : (index : Option ℕ) × part.At m result index
+          × IfSome index (IsAccepted (index_of m) post)
       pub finds : FindsBy (index_of m) post hash (part.At m result)
       pub first : FindsFirstBy (index_of m) post hash key_hash (part.At m result)

@@ -1,5 +1,5 @@
 -- Lookups in an index map that return a seal of the value.
-use Rattle.std.specs.Prelude.{◌≡◌, ℕ, ◌<◌, Bool, true, IfSome, List, Option}
+use Rattle.std.specs.Prelude.{◌≡◌, ℕ, ◌<◌, List, Option}
 use Rattle.std.specs.Int.{Width}
 use Rattle.std.specs.Option.{option_map}
 use Rattle.rkyv_base.specs.{ElementSpec, IsValidView, Viewable, archive_in, bytes_of, entry_spec}
@@ -17,6 +17,11 @@ use Rattle.rkyv_index.specs.declared.map.IndexMapOf.{IndexMapOf}
 abbrev pub IsIndexSeal : {K V H W : Type 0} → Width → ElementSpec → ElementSpec
     → ArchiveSeal (IndexMapOf K V H W) → Type 0
 IsIndexSeal w k v a = Viewable (index_spec w (entry_spec k v)) (archive_in a) (pos_in a)
+
+-- a full bucket of the map at the seal `a` has the index `i`, and it is below the length
+abbrev pub IsStoredIn : {K V H W : Type 0} → Width → ArchiveSeal (IndexMapOf K V H W) → ℕ → Type 0
+IsStoredIn w a i =
+    IsStoredAt w (archive_in a) (pos_in a) i × (i < len_at w (archive_in a) (pos_in a))
 
 -- `key`: view of the key at index `i` of the map at `p`, in the bytes `b`
 pub record IsKeyAt {K : Type 0} (w : Width) (k v : ElementSpec) (b : List ℕ) (p i : ℕ)
@@ -82,16 +87,6 @@ module _ {K V H W : Type 0} (w : Width) (k v : ElementSpec) (a : ArchiveSeal
   abbrev pub SealsValue : Option (Seal V) → Option ℕ → Type 0
   SealsValue result index =
       MatchesAt (λ i. LendsValue k v (archive_in a) (IsPairPosIn i)) result index
-
-  -- the comparison with `post` returned `true` for the key at index `i`
-  abbrev pub IsAcceptedIn : (View K → Bool → Type 0) → ℕ → Type 0
-  IsAcceptedIn post i =
-      (key : View K) × IsKeyAt w k v (archive_in a) (pos_in a) i key × post key true
-
-  -- the comparison with `post` accepted the key at the found index. `At`: relation of the result
-  -- and the index
-  abbrev pub AcceptsIn : (View K → Bool → Type 0) → (Option ℕ → Type 0) → Type 0
-  AcceptsIn post At = (index : Option ℕ) × At index × IfSome index (IsAcceptedIn post)
 
 -- the index in `result`
 abbrev pub full_seal_index : {K V : Type 0} → Option (ℕ × View K × Seal V) → Option ℕ

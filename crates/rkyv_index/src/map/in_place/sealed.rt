@@ -11,13 +11,12 @@
 ghost use Rattle.std.specs.Prelude.{IfSome, length, ◌+◌, ◌<◌, ◌≡◌, ◌≤◌};
 ghost use Rattle.rkyv_base.specs.{IsValidView, LiesIn, SealAt, Viewable, archive_in, bytes_in};
 ghost use Rattle.rkyv_base.specs.{entry_spec, pos_in, seal_pos, value_pos};
-ghost use Rattle.rkyv_keys.specs.{hash_at, hash_of};
+ghost use Rattle.rkyv_keys.specs.{hash_at, hash_of, query_of};
 ghost use Rattle.rkyv_table.specs.{LendsPair, LendsValue, len_at};
-ghost use Rattle.rkyv_index.specs.{AcceptsIn, CanCompareKeysOf, FindsBy, FindsFirstBy};
-ghost use Rattle.rkyv_index.specs.{FindsFirstKey, FindsKey, FindsOneKey, IsAcceptedIn};
-ghost use Rattle.rkyv_index.specs.{IsFullSeal, IsFullSealAt, IsIndex, IsIndexSeal, IsPairPosIn};
-ghost use Rattle.rkyv_index.specs.{IsPairSeal, IsStoredAt, IsValueSeal, SealsPair, SealsValue};
-ghost use Rattle.rkyv_index.specs.{index_bytes, index_in, index_pos};
+ghost use Rattle.rkyv_index.specs.{CanCompareKeysOf, FoundByHas, FoundKeyHas, IsFullSeal};
+ghost use Rattle.rkyv_index.specs.{IsFullSealAt, IsIndex, IsIndexSeal, IsPairPosIn, IsPairSeal};
+ghost use Rattle.rkyv_index.specs.{IsStoredIn, IsValueSeal, SealsPair, SealsValue, index_bytes};
+ghost use Rattle.rkyv_index.specs.{index_in, index_pos};
 
 use crate::map::{ArchivedIndexMap, IndexMapOf};
 use rkyv_base::element::Element;
@@ -69,16 +68,10 @@ impl<'a, K: KeyElement, V: Element, H: KeyHasher, W: Width> ArchivedIndexMap<'a,
         requires query { Q.can_read key.now }
         requires callable { CanCompareKeysOf (index_in W.word K.spec V.spec this.now)
             (F.pre cmp key) }
-        ensures stored { IfSome result (IsStoredAt W.word (archive_in this.now) (pos_in this.now)) }
-        ensures below { IfSome result
-            (λ i. i < len_at W.word (archive_in this.now) (pos_in this.now)) }
-        ensures accepted { IfSome result
-            (IsAcceptedIn W.word K.spec V.spec this.now (F.post cmp key.entry)) }
-        ensures finds { FindsBy (index_in W.word K.spec V.spec this.now)
-            (F.post cmp key.entry) (hash_of H.hasher Q.calls key.now) (IsIndex result) }
-        ensures first { FindsFirstBy (index_in W.word K.spec V.spec this.now)
-            (F.post cmp key.entry) (hash_of H.hasher Q.calls key.now)
-            (hash_at H.hasher K.key_calls) (IsIndex result) }
+        ensures stored { IfSome result (IsStoredIn W.word this.now) }
+        ensures finds { FoundByHas (index_in W.word K.spec V.spec this.now)
+            (hash_of H.hasher Q.calls key.now) (hash_at H.hasher K.key_calls)
+            (F.post cmp key.entry) (IsIndex result) }
     {
         Self::read(this).find(key, cmp, &mut Strides::new())
     }
@@ -91,15 +84,10 @@ impl<'a, K: KeyElement, V: Element, H: KeyHasher, W: Width> ArchivedIndexMap<'a,
     ) -> Option<usize>
         requires map { IsIndexSeal W.word K.spec V.spec this.now }
         requires query { Q.can_read key.now }
-        ensures stored { IfSome result (IsStoredAt W.word (archive_in this.now) (pos_in this.now)) }
-        ensures below { IfSome result
-            (λ i. i < len_at W.word (archive_in this.now) (pos_in this.now)) }
-        ensures finds { FindsKey (index_in W.word K.spec V.spec this.now)
-            (hash_of H.hasher Q.calls key.now) (Q.fits key.now) (IsIndex result) }
-        ensures first { FindsFirstKey (index_in W.word K.spec V.spec this.now)
-            (hash_at H.hasher K.key_calls) (Q.fits key.now) (IsIndex result) }
-        ensures complete { FindsOneKey (index_in W.word K.spec V.spec this.now)
-            (hash_at H.hasher K.key_calls) K.same (Q.fits key.now) (IsIndex result) }
+        ensures stored { IfSome result (IsStoredIn W.word this.now) }
+        ensures finds { FoundKeyHas (index_in W.word K.spec V.spec this.now)
+            (query_of H.hasher K.key_calls K.same (Q.calls key.now) (Q.fits key.now))
+            (IsIndex result) }
     {
         Self::read(this).find_key(key)
     }
@@ -152,9 +140,7 @@ impl<'a, K: KeyElement, V: Element, H: KeyHasher, W: Width> ArchivedIndexMap<'a,
         index: Option<usize>,
     ) -> Option<(usize, View<'a, K>, Seal<'a, V>)>
         requires map { IsIndexSeal W.word K.spec V.spec this }
-        requires stored { IfSome index (IsStoredAt W.word (archive_in this) (pos_in this)) }
-        requires below { IfSome index
-            (λ i. i < len_at W.word (archive_in this) (pos_in this)) }
+        requires stored { IfSome index (IsStoredIn W.word this) }
         ensures inside { IfSome result (λ full. LiesIn V.spec full.2) }
         ensures viewable { IfSome result (λ full. IsValidView K.spec full.1) }
         ensures walked { IfSome result (IsFullSeal W.word K.spec V.spec this.entry) }
@@ -172,9 +158,7 @@ impl<'a, K: KeyElement, V: Element, H: KeyHasher, W: Width> ArchivedIndexMap<'a,
         index: Option<usize>,
     ) -> Option<(View<'a, K>, Seal<'a, V>)>
         requires map { IsIndexSeal W.word K.spec V.spec this }
-        requires stored { IfSome index (IsStoredAt W.word (archive_in this) (pos_in this)) }
-        requires below { IfSome index
-            (λ i. i < len_at W.word (archive_in this) (pos_in this)) }
+        requires stored { IfSome index (IsStoredIn W.word this) }
         ensures inside { IfSome result (λ pair. LiesIn V.spec pair.1) }
         ensures viewable { IfSome result (λ pair. IsValidView K.spec pair.0) }
         ensures walked { IfSome result (IsPairSeal W.word K.spec V.spec this.entry) }
@@ -190,9 +174,7 @@ impl<'a, K: KeyElement, V: Element, H: KeyHasher, W: Width> ArchivedIndexMap<'a,
         index: Option<usize>,
     ) -> Option<Seal<'a, V>>
         requires map { IsIndexSeal W.word K.spec V.spec this }
-        requires stored { IfSome index (IsStoredAt W.word (archive_in this) (pos_in this)) }
-        requires below { IfSome index
-            (λ i. i < len_at W.word (archive_in this) (pos_in this)) }
+        requires stored { IfSome index (IsStoredIn W.word this) }
         ensures inside { IfSome result (LiesIn V.spec) }
         ensures viewable { IfSome result (λ value. Viewable V.spec (bytes_in value)
             (seal_pos value)) }
@@ -231,13 +213,9 @@ impl<'a, K: KeyElement, V: Element, H: KeyHasher, W: Width> ArchivedIndexMap<'a,
         ensures inside { IfSome result (λ full. LiesIn V.spec full.2) }
         ensures viewable { IfSome result (λ full. IsValidView K.spec full.1) }
         ensures walked { IfSome result (IsFullSeal W.word K.spec V.spec this.entry) }
-        ensures accepted { AcceptsIn W.word K.spec V.spec this.entry (F.post cmp key.entry)
-            (IsFullSealAt result) }
-        ensures finds { FindsBy (index_in W.word K.spec V.spec this.entry)
-            (F.post cmp key.entry) (hash_of H.hasher Q.calls key.now) (IsFullSealAt result) }
-        ensures first { FindsFirstBy (index_in W.word K.spec V.spec this.entry)
-            (F.post cmp key.entry) (hash_of H.hasher Q.calls key.now)
-            (hash_at H.hasher K.key_calls) (IsFullSealAt result) }
+        ensures finds { FoundByHas (index_in W.word K.spec V.spec this.entry)
+            (hash_of H.hasher Q.calls key.now) (hash_at H.hasher K.key_calls)
+            (F.post cmp key.entry) (IsFullSealAt result) }
     {
         let index = Self::find_in(&this, key, cmp);
         Self::full_seal_of(this, index)
@@ -284,12 +262,9 @@ impl<'a, K: KeyElement, V: Element, H: KeyHasher, W: Width> ArchivedIndexMap<'a,
         ensures inside { IfSome result (λ full. LiesIn V.spec full.2) }
         ensures viewable { IfSome result (λ full. IsValidView K.spec full.1) }
         ensures walked { IfSome result (IsFullSeal W.word K.spec V.spec this.entry) }
-        ensures finds { FindsKey (index_in W.word K.spec V.spec this.entry)
-            (hash_of H.hasher Q.calls key.now) (Q.fits key.now) (IsFullSealAt result) }
-        ensures first { FindsFirstKey (index_in W.word K.spec V.spec this.entry)
-            (hash_at H.hasher K.key_calls) (Q.fits key.now) (IsFullSealAt result) }
-        ensures complete { FindsOneKey (index_in W.word K.spec V.spec this.entry)
-            (hash_at H.hasher K.key_calls) K.same (Q.fits key.now) (IsFullSealAt result) }
+        ensures finds { FoundKeyHas (index_in W.word K.spec V.spec this.entry)
+            (query_of H.hasher K.key_calls K.same (Q.calls key.now) (Q.fits key.now))
+            (IsFullSealAt result) }
     {
         let index = Self::find_key_in(&this, key);
         Self::full_seal_of(this, index)
@@ -322,15 +297,9 @@ impl<'a, K: KeyElement, V: Element, H: KeyHasher, W: Width> ArchivedIndexMap<'a,
         ensures inside { IfSome result (λ pair. LiesIn V.spec pair.1) }
         ensures viewable { IfSome result (λ pair. IsValidView K.spec pair.0) }
         ensures walked { IfSome result (IsPairSeal W.word K.spec V.spec this.entry) }
-        ensures accepted { AcceptsIn W.word K.spec V.spec this.entry (F.post cmp key.entry)
-            (SealsPair W.word K.spec V.spec this.entry result) }
-        ensures finds { FindsBy (index_in W.word K.spec V.spec this.entry)
-            (F.post cmp key.entry) (hash_of H.hasher Q.calls key.now)
-            (SealsPair W.word K.spec V.spec this.entry result) }
-        ensures first { FindsFirstBy (index_in W.word K.spec V.spec this.entry)
-            (F.post cmp key.entry) (hash_of H.hasher Q.calls key.now)
-            (hash_at H.hasher K.key_calls)
-            (SealsPair W.word K.spec V.spec this.entry result) }
+        ensures finds { FoundByHas (index_in W.word K.spec V.spec this.entry)
+            (hash_of H.hasher Q.calls key.now) (hash_at H.hasher K.key_calls)
+            (F.post cmp key.entry) (SealsPair W.word K.spec V.spec this.entry result) }
     {
         let index = Self::find_in(&this, key, cmp);
         Self::pair_seal_of(this, index)
@@ -361,14 +330,8 @@ impl<'a, K: KeyElement, V: Element, H: KeyHasher, W: Width> ArchivedIndexMap<'a,
         ensures inside { IfSome result (λ pair. LiesIn V.spec pair.1) }
         ensures viewable { IfSome result (λ pair. IsValidView K.spec pair.0) }
         ensures walked { IfSome result (IsPairSeal W.word K.spec V.spec this.entry) }
-        ensures finds { FindsKey (index_in W.word K.spec V.spec this.entry)
-            (hash_of H.hasher Q.calls key.now) (Q.fits key.now)
-            (SealsPair W.word K.spec V.spec this.entry result) }
-        ensures first { FindsFirstKey (index_in W.word K.spec V.spec this.entry)
-            (hash_at H.hasher K.key_calls) (Q.fits key.now)
-            (SealsPair W.word K.spec V.spec this.entry result) }
-        ensures complete { FindsOneKey (index_in W.word K.spec V.spec this.entry)
-            (hash_at H.hasher K.key_calls) K.same (Q.fits key.now)
+        ensures finds { FoundKeyHas (index_in W.word K.spec V.spec this.entry)
+            (query_of H.hasher K.key_calls K.same (Q.calls key.now) (Q.fits key.now))
             (SealsPair W.word K.spec V.spec this.entry result) }
     {
         let index = Self::find_key_in(&this, key);
@@ -400,15 +363,9 @@ impl<'a, K: KeyElement, V: Element, H: KeyHasher, W: Width> ArchivedIndexMap<'a,
         ensures viewable { IfSome result (λ value. Viewable V.spec (bytes_in value)
             (seal_pos value)) }
         ensures walked { IfSome result (IsValueSeal W.word K.spec V.spec this.entry) }
-        ensures accepted { AcceptsIn W.word K.spec V.spec this.entry (F.post cmp key.entry)
-            (SealsValue W.word K.spec V.spec this.entry result) }
-        ensures finds { FindsBy (index_in W.word K.spec V.spec this.entry)
-            (F.post cmp key.entry) (hash_of H.hasher Q.calls key.now)
-            (SealsValue W.word K.spec V.spec this.entry result) }
-        ensures first { FindsFirstBy (index_in W.word K.spec V.spec this.entry)
-            (F.post cmp key.entry) (hash_of H.hasher Q.calls key.now)
-            (hash_at H.hasher K.key_calls)
-            (SealsValue W.word K.spec V.spec this.entry result) }
+        ensures finds { FoundByHas (index_in W.word K.spec V.spec this.entry)
+            (hash_of H.hasher Q.calls key.now) (hash_at H.hasher K.key_calls)
+            (F.post cmp key.entry) (SealsValue W.word K.spec V.spec this.entry result) }
     {
         let index = Self::find_in(&this, key, cmp);
         Self::value_seal_of(this, index)
@@ -453,14 +410,8 @@ impl<'a, K: KeyElement, V: Element, H: KeyHasher, W: Width> ArchivedIndexMap<'a,
         ensures viewable { IfSome result (λ value. Viewable V.spec (bytes_in value)
             (seal_pos value)) }
         ensures walked { IfSome result (IsValueSeal W.word K.spec V.spec this.entry) }
-        ensures finds { FindsKey (index_in W.word K.spec V.spec this.entry)
-            (hash_of H.hasher Q.calls key.now) (Q.fits key.now)
-            (SealsValue W.word K.spec V.spec this.entry result) }
-        ensures first { FindsFirstKey (index_in W.word K.spec V.spec this.entry)
-            (hash_at H.hasher K.key_calls) (Q.fits key.now)
-            (SealsValue W.word K.spec V.spec this.entry result) }
-        ensures complete { FindsOneKey (index_in W.word K.spec V.spec this.entry)
-            (hash_at H.hasher K.key_calls) K.same (Q.fits key.now)
+        ensures finds { FoundKeyHas (index_in W.word K.spec V.spec this.entry)
+            (query_of H.hasher K.key_calls K.same (Q.calls key.now) (Q.fits key.now))
             (SealsValue W.word K.spec V.spec this.entry result) }
     {
         let index = Self::find_key_in(&this, key);

@@ -9,8 +9,8 @@ write-requires g c = c.requires.callable _ c.in_ok-pos.pos refl c.in_ok-pos.ensu
 pub returns : goal.returns
 returns g c =
     let met = c.write.ensures in
-    found_implied _ _ _ _ (λ index at. search (rules, written_at_found)) c.in_ok-pos.ensures.finds
+    found_implied (λ index at. search (rules, written_at_found)) c.in_ok-pos.ensures.finds
 
 pub returns-in_err-pos : goal.returns-in_err-pos
 returns-in_err-pos g c =
-    found_implied _ _ _ _ (λ index at. rw c.from_residual.ensures (unwritten_if_none (goal.F-post g) c.args.write c.args.archive.now _ at)) c.in_err-pos.ensures.finds
+    found_implied (λ index at. rw c.from_residual.ensures (unwritten_if_none (goal.F-post g) c.args.write c.args.archive.now _ at)) c.in_err-pos.ensures.finds
