@@ -1,7 +1,7 @@
 -- The entries at one index of two index maps, compared.
 use Rattle.rkyv_base.specs.declared.element.HasSpec.{Ghosts as Specs}
 use Rattle.rkyv_base.specs.declared.width.Word.{Ghosts as Words}
-use Rattle.std.proofs.Common.{◌≡◌, ◌∙◌, ap, subst, Bool, ℕ, List}
+use Rattle.std.proofs.Common.{◌≡◌, ◌∙◌, ap, Bool, ℕ, List}
 use Rattle.std.specs.Borrow.{Bor}
 use Rattle.rkyv_base.specs.{bytes_of, entry_spec, pos_of}
 use Rattle.rkyv_base.specs.declared.entry.Entry.{Entry}
@@ -15,12 +15,10 @@ abbrev pub same_in : {K V H W : Type 0} {ks : Specs K} {vs : Specs V} {wt : Word
 same_in {ks = ks} {vs} {wt} key value a o = same_at wt.word (entry_spec ks.spec vs.spec) (entry_same ks.spec vs.spec key value) (index_bytes a) (index_pos a) (index_bytes o) (index_pos o)
 
 module _ {K V H W : Type 0} {ks : Specs K} {vs : Specs V} {wt : Words W} (same : Comparison) where
-  pub same_there : (own other : View (Entry K V)) (x y a o : ArchivedIndexMap K V H W ks vs wt) (i : ℕ) → IsEntryOf x i own → IsEntryOf y i other → x ≡ a → y ≡ o
+  pub same_there : (own other : View (Entry K V)) (a o : ArchivedIndexMap K V H W ks vs wt) (i : ℕ) → IsEntryOf a i own → IsEntryOf o i other
       → same (bytes_of own) (pos_of own) (bytes_of other) (pos_of other) ≡ same_at wt.word (entry_spec ks.spec vs.spec) same (index_bytes a) (index_pos a) (index_bytes o) (index_pos o) i
-  same_there own other x y a o i p q e f =
-      let p' : IsEntryOf a i own = subst (λ z. IsEntryOf z i own) e p in
-      let q' : IsEntryOf o i other = subst (λ z. IsEntryOf z i other) f q in
-      ap (λ (z : Bor (List ℕ)). same z.now own.pos (bytes_of other) other.pos) p'.at.0
-      ∙ ap (λ n. same (index_bytes a) n (bytes_of other) other.pos) p'.at.1
-      ∙ ap (λ (z : Bor (List ℕ)). same (index_bytes a) (key_pos a i) z.now other.pos) q'.at.0
-      ∙ ap (λ n. same (index_bytes a) (key_pos a i) (index_bytes o) n) q'.at.1
+  same_there own other a o i p q =
+      ap (λ (z : Bor (List ℕ)). same z.now own.pos (bytes_of other) other.pos) p.at.0
+      ∙ ap (λ n. same (index_bytes a) n (bytes_of other) other.pos) p.at.1
+      ∙ ap (λ (z : Bor (List ℕ)). same (index_bytes a) (key_pos a i) z.now other.pos) q.at.0
+      ∙ ap (λ n. same (index_bytes a) (key_pos a i) (index_bytes o) n) q.at.1

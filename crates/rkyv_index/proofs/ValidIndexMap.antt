@@ -10,7 +10,7 @@ use Rattle.rkyv_table.specs.{IsWalked, cap_at, item_at, len_at, table_controls, 
 use Rattle.rkyv_table.specs.Lemmas.TableLaws.{table_element}
 use Rattle.rkyv_table.proofs.ValidTable.{item_viewable}
 use Rattle.rkyv_table.proofs.Walks.{full_walked}
-use Rattle.rkyv_index.specs.{IsValidIndex, decode_entries, entries_pos, entry_at, index_spec, pair_pos, pair_positions, row, stored_index_spec}
+use Rattle.rkyv_index.specs.{IsValidIndex, decode_entries, entries_pos, entry_at, index_spec, pair_pos, row, stored_index_spec}
 use Rattle.rkyv_index.specs.Lemmas.IndexLaws.{All-unmap, each_is_valid, entry_inside, stored_index_element}
 use Rattle.rkyv_index.specs.Lemmas.IndexSpecs.{number_table_viewable}
 use Rattle.rkyv_index.proofs.Checking.{entry_aligned}
@@ -60,8 +60,9 @@ module _ (w : Width) (kind : IsArchiveWord w) (s : ElementSpec) (law : IsElement
         valid = valid_at s law b (entry_at s.size begin i) r.lower begin r.rest r.below u.0 r.is_valid;
       })
 
-  pub entries_viewable : All (Viewable s b) (pair_positions w s.size b p)
-  entries_viewable = All-row (Viewable s b) s.size (entries_pos w b p) (len_at w b p) entry_viewable
+  -- all entries are valid. `size`, `begin`, `n`, `d`: what the map, or its header, has
+  pub row_viewable : (size : ℕ) → size ≡ s.size → (begin : ℕ) → begin ≡ entries_pos w b p → (n : ℕ) → n ≡ len_at w b p → (d : List ℕ) → d ≡ b → All (Viewable s d) (row size begin n)
+  row_viewable size a begin e n l d same = rw (a, e, l, same) (All-row (Viewable s b) s.size (entries_pos w b p) (len_at w b p) entry_viewable)
 
   -- the index in a full bucket is inside the archive, and below the length
   pub index_inside : (i : ℕ) → IsWalked w b p i → item_at w (byte_len w) b p i + byte_len w ≤ length b

@@ -18,7 +18,7 @@ unfoldable pub use Map.{IsValueAt, IsWritten, MatchesAt, ReadsUpTo, ReadsWithinB
 unfoldable pub use Map.{fits_in, full_index, full_key_index, index_archive, index_bytes, index_cap}
 unfoldable pub use Map.{index_found, index_len, index_of, index_pos, index_strides, key_at, key_pos}
 unfoldable pub use Map.{key_positions, pair_indices, pair_positions, row, stored_index}
-pub use Map.{AreEntries, FindsIndexIn, Index, IsEntryOf, IsKeyIn, IsKeyOf, IsValueOf}
+pub use Map.{FindsIndexIn, Index, IsEntryOf, IsKeyIn, IsKeyOf, IsValueOf}
 unfoldable pub use Map.IndexLayout.{AreBelow, AreValidEntries, EntriesFail, FirstNotBelow}
 unfoldable pub use Map.IndexLayout.{IndexFails, IndicesBelow, decode_entries, distance_pos}
 unfoldable pub use Map.IndexLayout.{entries_pos, entry_at, index_spec, indices_of, pair_pos}

@@ -36,7 +36,6 @@ use Rattle.rkyv_table.specs.declared.table.ArchivedHashTable.{ArchivedHashTable}
 use Rattle.rkyv_index.specs.Map.IndexFormat.{IndexWrittenAt}
 use Rattle.rkyv_index.specs.Map.IndexLayout.{entries_pos, indices_of, pair_pos}
 use Rattle.rkyv_index.specs.declared.map.ArchivedIndexMap.{ArchivedIndexMap}
-use Rattle.rkyv_index.specs.declared.map.read.entries.Entries.{Entries}
 
 -- the positions of `n` values of `size` bytes in a row, from `q` on
 abbrev pub row : ℕ → ℕ → ℕ → List ℕ
@@ -328,8 +327,3 @@ full_index {K} {V} result = option_map (λ (full : ℕ × View K × View V). ful
 -- the index in `result`
 abbrev pub full_key_index : {K : Type 0} → Option (ℕ × View K) → Option ℕ
 full_key_index {K} result = option_map (λ (full : ℕ × View K). full.0) result
-
--- `entries`: a map, and the position of its first entry
-pub record AreEntries {K V H W : Type 0} {ks : Specs K} {vs : Specs V} {wt : Words W}
-    (entries : Entries K V H W ks vs wt) : Type 0 where
-  pub begin : entries.begin ≡ entries_pos wt.word (index_bytes entries.map) (index_pos entries.map)

@@ -48,7 +48,7 @@ fn value_pos_at<K: Element, V: Element, H, W: Width>(archive: &[u8], root: u64, 
     ensures inside { result + V.spec.size ≤ length archive.now }
 {
     let map = ArchivedIndexMap::<K, V, H, W>::of(View::new(archive, root));
-    map.entries().entry(index).value().pos()
+    map.entry(index).value().pos()
 }
 
 impl<'a, K: KeyElement, V: Element, H: KeyHasher, W: Width> ArchivedIndexMap<'a, K, V, H, W> {

@@ -210,7 +210,7 @@ impl<'a, K: KeyElement, H: KeyHasher, W: Width> ArchivedIndexSet<'a, K, H, W> {
         ensures { IsMemberAt self.entry result index }
     {
         match index {
-            Some(index) => Some(self.map.entries().entry(index).key()),
+            Some(index) => Some(self.map.entry(index).key()),
             None => None,
         }
     }

@@ -21,7 +21,7 @@ impl<'a, K: Element, H, W: Width> ArchivedIndexSet<'a, K, H, W> {
             MatchResult result (K.represents (set_bytes self.entry) at)
             (K.deserialize_fails (set_bytes self.entry) at) }
     {
-        K::deserialize(alloc, self.map.entries().entry(index).key())
+        K::deserialize(alloc, self.map.entry(index).key())
     }
 
     /// Deserializes the keys into a list, in order.

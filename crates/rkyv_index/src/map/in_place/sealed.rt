@@ -100,7 +100,7 @@ impl<'a, K: KeyElement, V: Element, H: KeyHasher, W: Width> ArchivedIndexMap<'a,
         ensures at { IsPairPosIn W.word K.spec V.spec this.now index result }
         ensures entry { Viewable (entry_spec K.spec V.spec) (archive_in this.now) result }
     {
-        Self::read(this).entries().entry(index).pos()
+        Self::read(this).entry(index).pos()
     }
 
     /// Returns a view of the key at `index` and a seal of its value.

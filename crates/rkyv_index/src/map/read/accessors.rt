@@ -155,6 +155,6 @@ impl<'a, K: Element, V: Element, H, W: Width> ArchivedIndexMap<'a, K, V, H, W> {
         if index >= self.len() {
             return None;
         }
-        Some(self.entries().pair(index))
+        Some(self.pair(index))
     }
 }

@@ -23,7 +23,7 @@ impl<'a, K: Element, V: Element, H, W: Width> ArchivedIndexMap<'a, K, V, H, W> {
             (IsPairRead K.represents V.represents self.entry index)
             (pair_deserialize_fails K.deserialize_fails V.deserialize_fails self.entry index) }
     {
-        Entry::<K, V>::deserialize(alloc, self.entries().entry(index))
+        Entry::<K, V>::deserialize(alloc, self.entry(index))
     }
 
     /// Deserializes the pairs into a list, in order.

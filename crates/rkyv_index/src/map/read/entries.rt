@@ -4,34 +4,18 @@ ghost use Rattle.std.specs.Int.{byte_len};
 ghost use Rattle.rkyv_base.specs.{IsAt, IsValidView, bytes_of, entry_spec, pos_of};
 ghost use Rattle.rkyv_table.specs.{CountsStrides, len_at};
 ghost use Rattle.rkyv_scan.specs.{generic_kind};
-ghost use Rattle.rkyv_index.specs.Map.{AreEntries, ComparesIndexBy, FindsIndexIn, IsEntryOf};
-ghost use Rattle.rkyv_index.specs.Map.{CanCompareIndex, CanCompareIndices, IsKeyIn, IsPairOf};
-ghost use Rattle.rkyv_index.specs.Map.{index_archive, index_len, index_pos, stored_index};
-ghost use Rattle.rkyv_index.specs.Map.IndexLayout.{entries_pos, entry_at, index_spec};
+ghost use Rattle.rkyv_index.specs.{CanCompareIndex, CanCompareIndices, ComparesIndexBy};
+ghost use Rattle.rkyv_index.specs.{FindsIndexIn, IsEntryOf, IsKeyIn, IsPairOf, entries_pos};
+ghost use Rattle.rkyv_index.specs.{entry_at, index_archive, index_len, index_pos, index_spec};
+ghost use Rattle.rkyv_index.specs.{stored_index};
 
 use crate::map::{ArchivedIndexMap, IndexMapOf};
-use rkyv_base::element::{Element, HasSpec};
+use rkyv_base::element::Element;
 use rkyv_base::entry::Entry;
 use rkyv_base::view::{PairView, View};
-use rkyv_base::width::{Width, Word};
+use rkyv_base::width::Width;
 use rkyv_table::Strides;
 use rkyv_table::table::{ArchivedHashTable, TableOf};
-use std::alloc::AllocError;
-
-/// An index map and the position of its first entry.
-pub(crate) struct Entries<'a, K: HasSpec, V: HasSpec, H, W: Word> {
-    pub(crate) map: ArchivedIndexMap<'a, K, V, H, W>,
-    pub(crate) begin: u64,
-}
-
-impl<'a, K: HasSpec, V: HasSpec, H, W: Word> Clone for Entries<'a, K, V, H, W> {
-    #[inline]
-    fn clone(&self) -> Result<Entries<'a, K, V, H, W>, AllocError> {
-        Ok(*self)
-    }
-}
-
-impl<'a, K: HasSpec, V: HasSpec, H, W: Word> Copy for Entries<'a, K, V, H, W> {}
 
 /// Returns the position of entry `i` of a row of entries from `begin` on.
 #[inline]
@@ -52,37 +36,21 @@ impl<'a, K: Element, V: Element, H, W: Width> ArchivedIndexMap<'a, K, V, H, W> {
         ArchivedHashTable::with_header(view, self.header)
     }
 
-    /// Returns the map and the position of its first entry.
-    #[inline]
-    pub(crate) fn entries(self) -> Entries<'a, K, V, H, W>
-        ensures entries { AreEntries result }
-        ensures map { result.map ≡ self.entry }
-    {
-        Entries {
-            map: self,
-            begin: self.begin,
-        }
-    }
-}
-
-impl<'a, K: Element, V: Element, H, W: Width> Entries<'a, K, V, H, W> {
     /// Returns a view of the entry at `index`.
     #[inline]
     pub(crate) fn entry(self, index: usize) -> View<'a, Entry<K, V>>
-        requires entries { AreEntries self }
-        requires below { index < index_len self.map }
-        ensures { IsEntryOf self.entry.map index result }
+        requires below { index < index_len self }
+        ensures { IsEntryOf self.entry index result }
     {
         let at = entry_pos(self.begin, index, Entry::<K, V>::size());
-        self.map.view.at::<Entry<K, V>>(at)
+        self.view.at::<Entry<K, V>>(at)
     }
 
     /// Returns views of the key and the value at `index`.
     #[inline]
     pub(crate) fn pair(self, index: usize) -> PairView<'a, K, V>
-        requires entries { AreEntries self }
-        requires below { index < index_len self.map }
-        ensures { IsPairOf self.entry.map index result }
+        requires below { index < index_len self }
+        ensures { IsPairOf self.entry index result }
     {
         let entry = self.entry(index);
         (entry.key(), entry.value())

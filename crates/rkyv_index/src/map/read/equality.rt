@@ -39,10 +39,8 @@ impl<'a, K: ElementEq, V: ElementEq, H, W: Width> ArchivedIndexMap<'a, K, V, H, 
         if len != other.len() {
             return false;
         }
-        let own = self.entries();
-        let others = other.entries();
         for index in 0..len {
-            if !Entry::<K, V>::same(own.entry(index), others.entry(index)) {
+            if !Entry::<K, V>::same(self.entry(index), other.entry(index)) {
                 return false;
             }
         }

@@ -191,7 +191,7 @@ impl<'a, K: Element, V: Element, H, W: Width> ArchivedIndexMap<'a, K, V, H, W> {
     {
         Iter {
             archive: self.view.bytes(),
-            at: self.entries().begin as usize,
+            at: self.begin as usize,
             size: Entry::<K, V>::size(),
             left: self.len(),
             key: PhantomData,

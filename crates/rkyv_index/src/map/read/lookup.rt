@@ -96,7 +96,7 @@ impl<'a, K: KeyElement, V: Element, H: KeyHasher, W: Width> ArchivedIndexMap<'a,
             (hash_at H.hasher K.key_calls) (F.post cmp key.entry) result }
     {
         let index = self.find(key, cmp, &mut Strides::new())?;
-        let entry = self.entries().entry(index);
+        let entry = self.entry(index);
         Some((index, entry.key(), entry.value()))
     }
 
@@ -168,7 +168,7 @@ impl<'a, K: KeyElement, V: Element, H: KeyHasher, W: Width> ArchivedIndexMap<'a,
             (query_of H.hasher K.key_calls K.same (Q.calls key.now) (Q.fits key.now)) result }
     {
         let index = self.find_key(key)?;
-        let entry = self.entries().entry(index);
+        let entry = self.entry(index);
         Some((index, entry.key(), entry.value()))
     }
 
@@ -178,7 +178,7 @@ impl<'a, K: KeyElement, V: Element, H: KeyHasher, W: Width> ArchivedIndexMap<'a,
         requires stored { IfSome index (IsStoredIndex self) }
         ensures { IsPairAt self.entry result index }
     {
-        Some(self.entries().pair(index?))
+        Some(self.pair(index?))
     }
 
     /// Returns the value at a found index.
@@ -187,7 +187,7 @@ impl<'a, K: KeyElement, V: Element, H: KeyHasher, W: Width> ArchivedIndexMap<'a,
         requires stored { IfSome index (IsStoredIndex self) }
         ensures { IsValueAt self.entry result index }
     {
-        Some(self.entries().entry(index?).value())
+        Some(self.entry(index?).value())
     }
 
     /// Returns a pair whose key the comparison accepts, or `None`.

@@ -4,12 +4,11 @@
 //! - `misplaced_up_to` ends at a limit on the strides that are read.
 ghost use Rattle.std.specs.Prelude.{◌+◌, ◌<◌, ◌^◌, ◌≡◌, ◌≤◌};
 ghost use Rattle.rkyv_keys.specs.{hash_at};
-ghost use Rattle.rkyv_index.specs.{AreEntries, CountsAllStrides, CountsRepeated, CountsUpTo};
-ghost use Rattle.rkyv_index.specs.{ReadsUpTo, ReadsWithinBound, ReturnsRepeated, index_len};
-ghost use Rattle.rkyv_index.specs.{index_misplaced, index_of, is_misplaced, own_strides};
+ghost use Rattle.rkyv_index.specs.{CountsAllStrides, CountsRepeated, CountsUpTo, ReadsUpTo};
+ghost use Rattle.rkyv_index.specs.{ReadsWithinBound, ReturnsRepeated, index_len, index_misplaced};
+ghost use Rattle.rkyv_index.specs.{index_of, is_misplaced, own_strides};
 
 use crate::map::ArchivedIndexMap;
-use crate::map::read::entries::Entries;
 use rkyv_base::element::Element;
 use rkyv_base::width::Width;
 use rkyv_keys::keys::KeyElement;
@@ -17,28 +16,25 @@ use rkyv_scan::hash::KeyHasher;
 use rkyv_table::Strides;
 use rkyv_table::table::misplaced::{finds_another_or_none, is_past};
 
-impl<'a, K: KeyElement, V: Element, H: KeyHasher, W: Width> Entries<'a, K, V, H, W> {
+impl<'a, K: KeyElement, V: Element, H: KeyHasher, W: Width> ArchivedIndexMap<'a, K, V, H, W> {
     // Returns `true` if and only if a lookup of the key at `index` doesn't find `index`.
     // The count is increased by the strides that the lookup reads.
     #[inline]
     fn is_misplaced(self, index: usize, strides: &mut Strides) -> bool
-        requires entries { AreEntries self }
-        requires below { index < index_len self.map }
+        requires below { index < index_len self }
         requires room { strides.old ≤ 2 ^ 63 }
-        ensures exact { result ≡ is_misplaced (index_of self.entry.map)
+        ensures exact { result ≡ is_misplaced (index_of self.entry)
             (hash_at H.hasher K.key_calls) K.same index }
-        ensures repeated { ReturnsRepeated (index_of self.entry.map)
+        ensures repeated { ReturnsRepeated (index_of self.entry)
             (hash_at H.hasher K.key_calls) K.same index result }
-        ensures bounded { ReadsWithinBound self.entry.map strides.old strides.new }
-        ensures counted { strides.new ≡ strides.old + own_strides (index_of self.entry.map)
+        ensures bounded { ReadsWithinBound self.entry strides.old strides.new }
+        ensures counted { strides.new ≡ strides.old + own_strides (index_of self.entry)
             (hash_at H.hasher K.key_calls) K.same index }
     {
         let key = self.entry(index).key();
-        finds_another_or_none(index, self.map.find_counted(&key, strides))
+        finds_another_or_none(index, self.find_counted(&key, strides))
     }
-}
 
-impl<'a, K: KeyElement, V: Element, H: KeyHasher, W: Width> ArchivedIndexMap<'a, K, V, H, W> {
     /// Returns the number of keys that a lookup of their own doesn't find.
     ///
     /// A key is found if the lookup returns its own index. Otherwise the lookup finds another key
@@ -67,10 +63,9 @@ impl<'a, K: KeyElement, V: Element, H: KeyHasher, W: Width> ArchivedIndexMap<'a,
         ensures repeated { CountsRepeated (index_of self.entry)
             (hash_at H.hasher K.key_calls) K.same result }
     {
-        let entries = self.entries();
         let mut count = 0;
         for index in 0..self.len() {
-            if entries.is_misplaced(index, &mut Strides::new()) {
+            if self.is_misplaced(index, &mut Strides::new()) {
                 count += 1;
             }
         }
@@ -129,11 +124,10 @@ impl<'a, K: KeyElement, V: Element, H: KeyHasher, W: Width> ArchivedIndexMap<'a,
             K.same strides.old strides.new result }
         ensures bounded { ReadsUpTo self.entry limit strides.old strides.new result }
     {
-        let entries = self.entries();
         let before = strides.count();
         let mut count = 0;
         for index in 0..self.len() {
-            let is_misplaced = entries.is_misplaced(index, strides);
+            let is_misplaced = self.is_misplaced(index, strides);
             if is_past(before, strides.count(), limit) {
                 return None;
             }

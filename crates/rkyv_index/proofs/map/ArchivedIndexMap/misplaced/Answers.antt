@@ -1,7 +1,6 @@
-use Rattle.std.proofs.Common.{subst, ◌≡◌, ◌<◌, ◌∙◌, ap, arith, sym, Bool, ℕ}
+use Rattle.std.proofs.Common.{◌≡◌, ◌<◌, ◌∙◌, arith, sym, Bool, ℕ}
 use Rattle.rkyv_keys.specs.{hash_at}
-use Rattle.rkyv_index.specs.{ReturnsRepeated, index_len, index_of, is_misplaced, is_repeated}
-use Rattle.rkyv_index.specs.declared.map.ArchivedIndexMap.{ArchivedIndexMap}
+use Rattle.rkyv_index.specs.{index_len, index_of, is_misplaced, is_repeated}
 use Rattle.rkyv_index.proofs.Counted.{count_is_all, left_first, none_more, one_more}
 use Rattle.rkyv_index.proofs.map.ArchivedIndexMap.misplaced.Goals.{else-is_misplaced, then-is_misplaced}
 use Rattle.rkyv_index.proofs.map.ArchivedIndexMap.misplaced.Goals as goal
@@ -17,8 +16,7 @@ loop-index-init g c =
 
 pub loop-index-preserved : goal.loop-index-preserved
 loop-index-preserved g c =
-    let index : ArchivedIndexMap _ _ _ _ _ _ _ → _ = index_of in
-    let m = index c.args.self in
+    let m = index_of c.args.self in
     let n : ℕ = index_len c.args.self in
     let key_hash = hash_at g.H.KeyHasher.hasher g.K.KeyElement.key_calls in
     let same = g.K.ElementEq.same in
@@ -28,11 +26,11 @@ loop-index-preserved g c =
     let end : c.len-index-end.result ≡ n = c.len-index-end.ensures in
     let test = c.loop-index-test.true in
     let below : i < n = omega (arith, test, end) in
-    let is : c.is_misplaced.result ≡ P i = c.is_misplaced.ensures.exact ∙ ap (λ x. is_misplaced (index x) key_hash same i) c.entries-entries.ensures.map in
+    let is = c.is_misplaced.ensures.exact in
     let inv = c.loop-index.invariant in
     let few = inv.few in
     let exact = inv.exact in
-    let repeats = subst (λ x. ReturnsRepeated (index x) key_hash same i c.is_misplaced.result) c.entries-entries.ensures.map c.is_misplaced.ensures.repeated in
+    let repeats = c.is_misplaced.ensures.repeated in
     elim c.if-is_misplaced.branch [
       | then-is_misplaced x ↦
           let e = x.count-is in

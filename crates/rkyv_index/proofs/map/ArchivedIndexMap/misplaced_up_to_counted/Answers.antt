@@ -1,10 +1,8 @@
-use Rattle.std.proofs.Common.{subst, ◌≡◌, ◌+◌, ◌-◌, ◌/◌, ◌<◌, ◌≤◌, ◌^◌, ◌⊎◌, ◌∙◌, ap, arith, sym, Bool, ℕ}
+use Rattle.std.proofs.Common.{subst, ◌≡◌, ◌+◌, ◌-◌, ◌<◌, ◌≤◌, ◌^◌, ◌⊎◌, ◌∙◌, arith, sym, Bool, ℕ}
 use Rattle.std.specs.List.{range_with_len, sum_by}
 use Rattle.rkyv_keys.specs.{hash_at}
-use Rattle.rkyv_table.specs.{cap_at, probe_capacity}
 use Rattle.rkyv_table.proofs.MisplacedIn.{past_all, reads_on}
-use Rattle.rkyv_index.specs.{index_bytes, index_len, index_of, index_pos, is_misplaced, keys_strides, own_strides}
-use Rattle.rkyv_index.specs.declared.map.ArchivedIndexMap.{ArchivedIndexMap}
+use Rattle.rkyv_index.specs.{index_len, index_of, is_misplaced, keys_strides, own_strides}
 use Rattle.rkyv_index.proofs.Counted.{count_is_all, left_first, none_more, one_more, sum_end, sum_first, sum_step}
 use Rattle.rkyv_index.proofs.map.ArchivedIndexMap.misplaced_up_to_counted.Goals.{After-is_misplaced-is_misplaced, else-is_misplaced, then-is_misplaced}
 use Rattle.rkyv_index.proofs.map.ArchivedIndexMap.misplaced_up_to_counted.Goals as goal
@@ -28,12 +26,10 @@ module _ (g : _) (c : After-is_misplaced-is_misplaced g) where
       ≡ c.is_misplaced-is_misplaced.new.strides + sum_by (own_strides (index_of c.args.self) (hash_at g.H.KeyHasher.hasher g.K.KeyElement.key_calls) g.K.ElementEq.same)
       (range_with_len (c.loop-index.index + 1) (index_len c.args.self - (c.loop-index.index + 1)))
   spent =
-      let index : ArchivedIndexMap _ _ _ _ _ _ _ → _ = index_of in
       let key_hash = hash_at g.H.KeyHasher.hasher g.K.KeyElement.key_calls in
       let same = g.K.ElementEq.same in
-      let f : ℕ → ℕ = own_strides (index c.args.self) key_hash same in
-      let now : c.is_misplaced-is_misplaced.new.strides ≡ c.loop-index.strides + f c.loop-index.index =
-      c.is_misplaced-is_misplaced.ensures.counted ∙ ap (λ x. c.loop-index.strides + own_strides (index x) key_hash same c.loop-index.index) c.entries-entries.ensures.map in
+      let f : ℕ → ℕ = own_strides (index_of c.args.self) key_hash same in
+      let now : c.is_misplaced-is_misplaced.new.strides ≡ c.loop-index.strides + f c.loop-index.index = c.is_misplaced-is_misplaced.ensures.counted in
       let step = sum_step f c.loop-index.index (index_len c.args.self) below in
       omega (arith, now, step, c.loop-index.invariant.spent)
 
@@ -61,9 +57,7 @@ pub returns-then-is_past-clause-bounded : goal.returns-then-is_past-clause-bound
 returns-then-is_past-clause-bounded g c =
     let now = c.is_misplaced-is_misplaced.new.strides in
     let more = on g (goal.at.returns-then-is_past-clause-bounded g c).After-is_misplaced-is_misplaced in
-    let cap = λ (x : ArchivedIndexMap _ _ _ _ _ _ _). probe_capacity (cap_at g.W.Word.word (index_bytes x) (index_pos x)) / 16 in
-    let most : c.is_misplaced-is_misplaced.new.strides ≤ c.loop-index.strides + cap c.args.self =
-    subst (λ x. c.is_misplaced-is_misplaced.new.strides ≤ c.loop-index.strides + cap x) c.entries-entries.ensures.map c.is_misplaced-is_misplaced.ensures.bounded.most in
+    let most = c.is_misplaced-is_misplaced.ensures.bounded.most in
     let within = c.loop-index.invariant.within in
     let before = c.count-before.ensures in
     record {
@@ -74,15 +68,14 @@ returns-then-is_past-clause-bounded g c =
 
 pub loop-index-preserved : goal.loop-index-preserved
 loop-index-preserved g c =
-    let index : ArchivedIndexMap _ _ _ _ _ _ _ → _ = index_of in
     let n : ℕ = index_len c.args.self in
     let key_hash = hash_at g.H.KeyHasher.hasher g.K.KeyElement.key_calls in
     let same = g.K.ElementEq.same in
-    let P : ℕ → Bool = is_misplaced (index c.args.self) key_hash same in
+    let P : ℕ → Bool = is_misplaced (index_of c.args.self) key_hash same in
     let i : ℕ = c.loop-index.index in
     let at = (goal.at.loop-index-preserved g c).After-is_misplaced-is_misplaced in
     let lt = below g at in
-    let is : c.is_misplaced-is_misplaced.result ≡ P i = c.is_misplaced-is_misplaced.ensures.exact ∙ ap (λ x. is_misplaced (index x) key_hash same i) c.entries-entries.ensures.map in
+    let is = c.is_misplaced-is_misplaced.ensures.exact in
     let inv = c.loop-index.invariant in
     let few = inv.few in
     let all = spent g at in

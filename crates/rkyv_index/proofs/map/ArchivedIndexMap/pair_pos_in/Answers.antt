@@ -1,18 +1,17 @@
-use Rattle.std.proofs.Common.{◌≡◌, ◌<◌, ◌∙◌, ap, refl, subst, sym, List, ℕ}
+use Rattle.std.proofs.Common.{◌≡◌, ◌<◌, ◌∙◌, refl, subst, sym, List, ℕ}
 use Rattle.rkyv_base.specs.{Viewable, entry_spec}
 use Rattle.rkyv_base.specs.Lemmas.Entry.{entry_element}
 use Rattle.rkyv_table.specs.{len_at}
-use Rattle.rkyv_index.specs.{IsPairPos, index_len, key_pos, pair_at}
+use Rattle.rkyv_index.specs.{IsPairPos, key_pos, pair_at}
 use Rattle.rkyv_index.proofs.ValidIndexMap.{entry_viewable}
 use Rattle.rkyv_table.proofs.Moved.{moved}
 use Rattle.rkyv_index.proofs.SealedIndex.{as_read}
 use Rattle.rkyv_index.proofs.ValueWrites.{pair_position}
 use Rattle.rkyv_index.proofs.map.ArchivedIndexMap.pair_pos_in.Goals as goal
 
-pub entry-requires-clause-below : goal.entry-requires-clause-below
-entry-requires-clause-below g c =
-    subst (λ m. c.args.index < index_len m) (sym c.entries.ensures.map)
-    (moved (λ d r. c.args.index < len_at g.W.Word.word d r) _ _ _ _ (sym c.read.ensures.bytes) (sym c.read.ensures.pos) c.requires.below)
+pub entry-requires : goal.entry-requires
+entry-requires g c =
+    record { below = moved (λ d r. c.args.index < len_at g.W.Word.word d r) _ _ _ _ (sym c.read.ensures.bytes) (sym c.read.ensures.pos) c.requires.below }
 
 pub returns-clause-at : goal.returns-clause-at
 returns-clause-at g c =
@@ -20,7 +19,7 @@ returns-clause-at g c =
     let k = g.K.HasSpec.spec in
     let v = g.V.HasSpec.spec in
     let there : (b : List ℕ) → ℕ → ℕ = λ b p. pair_at w k v b p c.args.index in
-    let is = c.pos.ensures ∙ c.entry.ensures.at.1 ∙ ap (λ m. key_pos m c.args.index) c.entries.ensures.map
+    let is = c.pos.ensures ∙ c.entry.ensures.at.1
     ∙ as_read c.read.result _ _ c.read.ensures.bytes c.read.ensures.pos (λ d r. key_pos c.read.result c.args.index ≡ there d r) refl in
     subst (IsPairPos w k v _ _ c.args.index) (sym is)
     (pair_position w g.met.W.Width.layout.kind k v g.K.HasSpec.laws g.V.HasSpec.laws _ _ c.requires.map c.args.index c.requires.below)

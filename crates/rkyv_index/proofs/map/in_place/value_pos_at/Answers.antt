@@ -1,18 +1,17 @@
 use Rattle.std.proofs.Common.{◌≤◌, ◌<◌, ◌+◌, ◌≡◌, ◌∙◌, ap, length, refl, subst, sym}
 use Rattle.rkyv_base.specs.{value_offset}
 use Rattle.rkyv_table.specs.{len_at}
-use Rattle.rkyv_index.specs.{index_len, key_pos, pair_at}
+use Rattle.rkyv_index.specs.{key_pos, pair_at}
 use Rattle.rkyv_table.proofs.Moved.{moved}
 use Rattle.rkyv_index.proofs.SealedIndex.{as_read}
 use Rattle.rkyv_index.proofs.ValueWrites.{pair_position}
 use Rattle.rkyv_index.proofs.map.in_place.value_pos_at.Goals as goal
 
-pub entry-requires-clause-below : goal.entry-requires-clause-below
-entry-requires-clause-below g c =
+pub entry-requires : goal.entry-requires
+entry-requires g c =
     let bytes = ap (λ v. v.archive.now) c.of-map.ensures.view ∙ ap (λ a. a.now) c.new.ensures.0 in
     let pos = ap (λ v. v.pos) c.of-map.ensures.view ∙ c.new.ensures.1 in
-    subst (λ m. c.args.index < index_len m) (sym c.entries.ensures.map)
-    (moved (λ d r. c.args.index < len_at g.W.Word.word d r) _ _ _ _ (sym bytes) (sym pos) c.requires.below)
+    record { below = moved (λ d r. c.args.index < len_at g.W.Word.word d r) _ _ _ _ (sym bytes) (sym pos) c.requires.below }
 
 pub returns-clause-at : goal.returns-clause-at
 returns-clause-at g c =
@@ -22,8 +21,7 @@ returns-clause-at g c =
     let k = g.K.HasSpec.spec in
     let v = g.V.HasSpec.spec in
     let i = c.args.index in
-    let entry = c.entry.ensures.at.1 ∙ ap (λ m. key_pos m i) c.entries.ensures.map
-    ∙ as_read c.of-map.result _ _ bytes pos (λ d r. key_pos c.of-map.result i ≡ pair_at w k v d r i) refl in
+    let entry = c.entry.ensures.at.1 ∙ as_read c.of-map.result _ _ bytes pos (λ d r. key_pos c.of-map.result i ≡ pair_at w k v d r i) refl in
     c.pos.ensures ∙ c.value.ensures.at.1 ∙ ap (λ n. n + value_offset k v) entry
 
 pub returns-clause-inside : goal.returns-clause-inside
