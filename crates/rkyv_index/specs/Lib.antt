@@ -46,7 +46,7 @@ unfoldable pub use Map.SealedIndex.{IsFullSeal, IsFullSealAt, IsIndexSeal, IsPai
 unfoldable pub use Map.SealedIndex.{IsStoredIn, IsValueSeal, SealsPair, SealsValue, full_seal_index}
 unfoldable pub use Map.SealedIndex.{index_at, index_in}
 pub use Map.SealedIndex.{IsKeyAt, IsPairPos}
-unfoldable pub use Map.Walking.{EndsBelow}
+unfoldable pub use Map.Walking.{EndsBelow, WalksAll}
 pub use Map.Walking.{IsWalk}
 unfoldable pub use Map.Equality.{CountsAllStrides, CountsRepeated, CountsUpTo, ReturnsRepeated}
 unfoldable pub use Map.Equality.{index_equal, index_map_equal, index_maps_equal, index_misplaced}

@@ -10,8 +10,9 @@ ghost use Rattle.std.specs.Prelude.{IfSome, IsTrue, MatchOption, length, ◌↔�
 ghost use Rattle.rkyv_base.specs.{IsAt, IsValidView, archive_of, entry_spec, pos_of, unit_spec};
 ghost use Rattle.rkyv_table.specs.{AllValid};
 ghost use Rattle.rkyv_index.specs.{FoundKeyHas, GetsKey, IsKeyOf, IsMemberAt, IsStoredIndex};
-ghost use Rattle.rkyv_index.specs.{full_key_part, index_archive, index_cap, index_len, index_part};
-ghost use Rattle.rkyv_index.specs.{index_of_set, index_set_spec, key_part, key_positions, keys_of};
+ghost use Rattle.rkyv_index.specs.{WalksAll, full_key_part, index_archive, index_cap, index_len};
+ghost use Rattle.rkyv_index.specs.{index_of_set, index_part, index_set_spec, key_part};
+ghost use Rattle.rkyv_index.specs.{key_positions, keys_of};
 ghost use Rattle.rkyv_keys.specs.{IsFoundAt, query_of};
 
 use crate::map::read::iter::Keys;
@@ -77,8 +78,7 @@ impl<'a, K: Element, H, W: Width> ArchivedIndexSet<'a, K, H, W> {
     #[inline]
     pub fn iter(self) -> Keys<'a, K, ()>
         ensures archive { result.archive ≡ index_archive (keys_of self.entry) }
-        ensures positions { result.positions ≡ key_positions
-            (keys_of self.entry) }
+        ensures positions { result.positions ≡ key_positions (keys_of self.entry) }
         ensures count { length result.positions ≡ index_len (keys_of self.entry) }
         ensures all_valid { AllValid (entry_spec K.spec unit_spec) result }
     {
@@ -116,15 +116,11 @@ impl<'a, K: Element, H, W: Width> IntoIterator for ArchivedIndexSet<'a, K, H, W>
 
     type IntoIter = Keys<'a, K, ()>;
 
-    ghost into_iter_gives = { λ set keys. (keys.archive ≡ index_archive (keys_of set))
-        × (keys.positions ≡ key_positions (keys_of set))
-        × (length keys.positions ≡ index_len (keys_of set)) };
+    ghost into_iter_gives = { λ set. WalksAll (keys_of set) };
 
     #[inline]
     fn into_iter(self) -> Keys<'a, K, ()>
-        ensures into_iter_gives { (result.archive ≡ index_archive (keys_of self.entry))
-            × (result.positions ≡ key_positions (keys_of self.entry))
-            × (length result.positions ≡ index_len (keys_of self.entry)) }
+        ensures into_iter_gives { WalksAll (keys_of self.entry) result }
     {
         self.iter()
     }
@@ -136,15 +132,11 @@ impl<'a, K: Element, H, W: Width> IntoIterator for &ArchivedIndexSet<'a, K, H, W
 
     type IntoIter = Keys<'a, K, ()>;
 
-    ghost into_iter_gives = { λ set keys. (keys.archive ≡ index_archive (keys_of set.now))
-        × (keys.positions ≡ key_positions (keys_of set.now))
-        × (length keys.positions ≡ index_len (keys_of set.now)) };
+    ghost into_iter_gives = { λ set. WalksAll (keys_of set.now) };
 
     #[inline]
     fn into_iter(self) -> Keys<'a, K, ()>
-        ensures into_iter_gives { (result.archive ≡ index_archive (keys_of self.entry.now))
-            × (result.positions ≡ key_positions (keys_of self.entry.now))
-            × (length result.positions ≡ index_len (keys_of self.entry.now)) }
+        ensures into_iter_gives { WalksAll (keys_of self.entry.now) result }
     {
         self.iter()
     }
@@ -209,10 +201,7 @@ impl<'a, K: KeyElement, H: KeyHasher, W: Width> ArchivedIndexSet<'a, K, H, W> {
         requires stored { IfSome index (IsStoredIndex (keys_of self)) }
         ensures { IsMemberAt self.entry result index }
     {
-        match index {
-            Some(index) => Some(self.map.entry(index).key()),
-            None => None,
-        }
+        Some(self.map.entry(index?).key())
     }
 
     /// Returns the index of the key that the query finds, or `None`.

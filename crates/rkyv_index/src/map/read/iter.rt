@@ -5,7 +5,7 @@ ghost use Rattle.std.specs.Prelude.{length, ◌≡◌};
 ghost use Rattle.std.specs.Iterator.{at_most};
 ghost use Rattle.rkyv_base.specs.{entry_spec};
 ghost use Rattle.rkyv_table.specs.{AllValid, HintsExactly, YieldsKey, YieldsPair, YieldsValue};
-ghost use Rattle.rkyv_index.specs.{index_archive, index_len, key_positions};
+ghost use Rattle.rkyv_index.specs.{WalksAll, index_archive, index_len, key_positions};
 
 use crate::map::ArchivedIndexMap;
 use rkyv_base::element::{Element, HasSpec};
@@ -228,14 +228,11 @@ impl<'a, K: Element, V: Element, H, W: Width> IntoIterator for ArchivedIndexMap<
 
     type IntoIter = Iter<'a, K, V>;
 
-    ghost into_iter_gives = { λ map pairs. (pairs.archive ≡ index_archive map)
-        × (pairs.positions ≡ key_positions map) × (length pairs.positions ≡ index_len map) };
+    ghost into_iter_gives = { λ map. WalksAll map };
 
     #[inline]
     fn into_iter(self) -> Iter<'a, K, V>
-        ensures into_iter_gives { (result.archive ≡ index_archive self.entry)
-            × (result.positions ≡ key_positions self.entry)
-            × (length result.positions ≡ index_len self.entry) }
+        ensures into_iter_gives { WalksAll self.entry result }
     {
         self.iter()
     }
@@ -247,15 +244,11 @@ impl<'a, K: Element, V: Element, H, W: Width> IntoIterator for &ArchivedIndexMap
 
     type IntoIter = Iter<'a, K, V>;
 
-    ghost into_iter_gives = { λ map pairs. (pairs.archive ≡ index_archive map.now)
-        × (pairs.positions ≡ key_positions map.now)
-        × (length pairs.positions ≡ index_len map.now) };
+    ghost into_iter_gives = { λ map. WalksAll map.now };
 
     #[inline]
     fn into_iter(self) -> Iter<'a, K, V>
-        ensures into_iter_gives { (result.archive ≡ index_archive self.entry.now)
-            × (result.positions ≡ key_positions self.entry.now)
-            × (length result.positions ≡ index_len self.entry.now) }
+        ensures into_iter_gives { WalksAll self.entry.now result }
     {
         self.iter()
     }
