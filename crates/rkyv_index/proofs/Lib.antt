@@ -17,7 +17,6 @@ pub mod Counted
 pub mod FirstAccepted
 pub mod ListSteps
 pub mod SameIndex
-pub mod SameLookups
 pub mod ValueWrites
 pub mod Alike
 pub mod NestedWrites

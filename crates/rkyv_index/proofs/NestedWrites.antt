@@ -16,8 +16,7 @@ use Rattle.rkyv_table.proofs.NestedEntries.{entry_written, key_of_other, key_of_
 use Rattle.rkyv_table.proofs.NestedItems.{above_same, items_kept, other_stays, own_before, sealed_parts}
 use Rattle.rkyv_index.specs.{EntriesIn, IndexRepresents, IsValidIndex, KeepsOuterIndexMap, decode_entries, entries_pos, entry_at, index_spec, indices_of, pair_pos, stored_index_spec}
 use Rattle.rkyv_index.specs.Lemmas.IndexLaws.{filter_every, index_again, stored_index_element}
-use Rattle.rkyv_index.proofs.SameLookups.{lookup_same}
-use Rattle.rkyv_index.proofs.SameIndex.{controls_same, entry_before, new_value_represents, positions_same, read_same, some_buckets, table_below, written_same}
+use Rattle.rkyv_index.proofs.SameIndex.{controls_same, entry_before, lookup_same, new_value_represents, positions_same, read_same, some_buckets, table_below, written_same}
 
 module _ (w : Width) (kind : IsArchiveWord w) (k v : ElementSpec) (kl : IsElement k) (vl : IsElement v) (b : List ℕ) (p : ℕ) (view : Viewable (index_spec w (entry_spec k v)) b p)
     (c : List ℕ) (i : ℕ) (below : i < len_at w b p) (writes : WritesAmongParts v b c (value_pos k v (pair_pos w (entry_spec k v).size b p i))) where

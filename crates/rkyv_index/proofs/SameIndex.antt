@@ -1,20 +1,31 @@
--- An index map whose header and table of indices are unchanged.
-use Rattle.std.proofs.Common.{◌≡◌, ◌≢◌, ℕ, ◌+◌, ◌*◌, ◌<◌, ◌≤◌, ◌∙◌, sym, ap, subst, arith, List, length, Some}
+-- An index map whose header and table of indices are unchanged, and lookups in it.
+use Rattle.std.proofs.Common.{◌≡◌, ◌≢◌, ℕ, ◌+◌, ◌*◌, ◌<◌, ◌≤◌, ◌^◌, ◌∙◌, refl, sym, ap, subst, arith, Bool, List, Option, length, None, Some}
 use Rattle.std.specs.Prelude.{slice_get, slice_set, unsigned_abs}
 use Rattle.std.specs.Int.{Width, byte_len}
+use Rattle.std.specs.Option.{option_map}
 use Rattle.std.proofs.lemmas.List.{length-set}
 use Rattle.std.proofs.lemmas.Option.{slice_get_within}
+use Rattle.rkyv_scan.specs.{generic_kind}
+use Rattle.rkyv_scan.specs.Lemmas.KindLaws.{word_lawful}
 use Rattle.rkyv_base.specs.{AgreeOn, ElementSpec, IsArchiveWord, IsElement, PairRepresents, Viewable, entry_spec, number_at}
 use Rattle.rkyv_base.specs.Lemmas.Entry.{entry_element}
-use Rattle.rkyv_table.specs.{IsValidWithin, IsWalked, cap_at, capacity, item_at, len_at, table_controls}
+use Rattle.rkyv_table.specs.{IsValidWithin, IsWalked, cap_at, capacity, found, item_at, len_at, table_controls, table_spec}
 use Rattle.rkyv_table.specs.Lemmas.SameControls.{same_controls}
 use Rattle.rkyv_table.specs.Lemmas.SameHeader.{cap_same, len_same}
 use Rattle.rkyv_table.proofs.Lists.{set_each}
-use Rattle.rkyv_table.proofs.ValidTable.{some_cap}
-use Rattle.rkyv_index.specs.{IndexRepresents, IndexWrittenAt, IsValidIndex, entries_pos, entry_at, index_spec, pair_pos, stored_index_spec}
+use Rattle.rkyv_table.proofs.Misplaced.{found_walked}
+use Rattle.rkyv_table.proofs.SameLookups.{found_same}
+use Rattle.rkyv_table.proofs.ValidTable.{controls_accepted, some_cap}
+use Rattle.rkyv_table.proofs.Walks.{walked_full}
+use Rattle.rkyv_index.specs.{IndexRepresents, IndexWrittenAt, IsValidIndex, entries_pos, entry_at, fits_in, index_found, index_spec, pair_pos, stored_index_spec}
 use Rattle.rkyv_index.specs.Lemmas.IndexLaws.{decoded_same, each_is_valid, entry_inside, head_same, index_same_at, listed_below, stored_index_element}
 use Rattle.rkyv_index.specs.Lemmas.IndexLocal.{written_again}
-use Rattle.rkyv_index.proofs.ValidIndexMap.{begin_is, entries_inside, entry_viewable, table_there}
+use Rattle.rkyv_index.proofs.ValidIndexMap.{begin_is, entries_inside, entry_viewable, index_below, table_there}
+
+-- a found item is read alike if each item is
+read_alike : (f g f' g' : ℕ → ℕ) (o : Option ℕ) → ((i : ℕ) → o ≡ Some i → f (g i) ≡ f' (g' i)) → option_map f (option_map g o) ≡ option_map f' (option_map g' o)
+read_alike f g f' g' None same = refl
+read_alike f g f' g' (Some i) same = ap Some (same i refl)
 
 module _ (w : Width) (kind : IsArchiveWord w) (k v : ElementSpec) (kl : IsElement k) (vl : IsElement v) (b : List ℕ) (p : ℕ) (view : Viewable (index_spec w (entry_spec k v)) b p) where
   abbrev S : ElementSpec
@@ -28,6 +39,9 @@ module _ (w : Width) (kind : IsArchiveWord w) (k v : ElementSpec) (kl : IsElemen
 
   abbrev valid : IsValidIndex w S b p 0 p view.valid.0
   valid = view.valid.1
+
+  abbrev table : Viewable (table_spec w (stored_index_spec w)) b p
+  table = table_there w kind S law b p view
 
   begins : entries_pos w b p ≡ valid.entries.begin
   begins = begin_is w kind S law b p view
@@ -54,7 +68,7 @@ module _ (w : Width) (kind : IsArchiveWord w) (k v : ElementSpec) (kl : IsElemen
   table_below = let above = valid.entries.part.above in omega (arith, above, begins)
 
   pub some_buckets : (i : ℕ) → i < len_at w b p → 0 < cap_at w b p
-  some_buckets i below = some_cap w (stored_index_spec w) (stored_index_element w kind) b p (table_there w kind S law b p view) (omega (arith, below))
+  some_buckets i below = some_cap w (stored_index_spec w) (stored_index_element w kind) b p table (omega (arith, below))
 
   -- in `c` the header is the same, and the bytes up to the end of the table
   module _ (c : List ℕ) (header : AgreeOn b c p (p + 4 * byte_len w)) (front : AgreeOn b c 0 valid.middle) where
@@ -69,6 +83,33 @@ module _ (w : Width) (kind : IsArchiveWord w) (k v : ElementSpec) (kl : IsElemen
 
     pub read_same : (j : ℕ) → IsWalked w b p j → number_at w b (item_at w (byte_len w) b p j) ≡ number_at w c (item_at w (byte_len w) c p j)
     read_same = index_same_at w kind b c p 0 p valid.middle (omega arith) head front valid.table
+
+    -- if the map isn't empty, and a comparison accepts the same keys, a lookup finds the same index
+    module _ (i : ℕ) (below : i < len_at w b p) (hash : ℕ) (small : hash < 2 ^ 64) (fits : List ℕ → ℕ → Bool) (same : (j : ℕ) → j < len_at w b p → fits c (at j) ≡ fits b (at j)) where
+      abbrev index_in : List ℕ → ℕ → ℕ
+      index_in d j = number_at w d (item_at w (byte_len w) d p j)
+
+      abbrev fits_bucket : List ℕ → ℕ → Bool
+      fits_bucket d j = fits d (pair_pos w S.size d p (index_in d j))
+
+      abbrev bucket : Option ℕ
+      bucket = found generic_kind (table_controls w b p) (cap_at w b p) (len_at w b p) hash (fits_bucket b)
+
+      fits_same : (j : ℕ) → IsWalked w b p j → fits_bucket c j ≡ fits_bucket b j
+      fits_same j there =
+          ap (λ m. fits c (pair_pos w S.size c p m)) (sym (read_same j there))
+          ∙ ap (fits c) (positions_same (index_in b j))
+          ∙ same (index_in b j) (index_below w kind S law b p view j there)
+
+      pub lookup_same : index_found w c p hash (fits_in w k v c p fits) ≡ index_found w b p hash (fits_in w k v b p fits)
+      lookup_same =
+          let of : List ℕ → Option ℕ → Option ℕ = λ d o. option_map (number_at w d) (option_map (item_at w (byte_len w) d p) o) in
+          let some = some_buckets i below in
+          ap (of c) (found_same w b c p head (sym (controls_same some)) (stored_index_spec w) (stored_index_element w kind) table hash small (fits_bucket c) (fits_bucket b) fits_same)
+          ∙ read_alike (number_at w c) (item_at w (byte_len w) c p) (number_at w b) (item_at w (byte_len w) b p) bucket (λ j is.
+          let walked = found_walked generic_kind (cap_at w b p) (len_at w b p) hash (table_controls w b p) word_lawful
+          (controls_accepted w (stored_index_spec w) (stored_index_element w kind) b p table some) small (fits_bucket b) j is in
+          sym (read_same j (walked_full (cap_at w b p) (table_controls w b p) j walked.1)))
 
     -- the hashes of the keys are the same
     module _ (key_hash : List ℕ → ℕ → ℕ) (hashes : (j : ℕ) → j < len_at w b p → key_hash c (at j) ≡ key_hash b (at j)) where

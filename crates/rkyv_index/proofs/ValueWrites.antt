@@ -17,8 +17,7 @@ use Rattle.rkyv_table.specs.Lemmas.TableLaws.{table_element}
 use Rattle.rkyv_table.proofs.SealedTable.{all_kept, parts_below}
 use Rattle.rkyv_index.specs.{EntriesIn, IndexRepresents, IsPairPos, IsValidIndex, KeepsEntries, KeepsIndexMap, decode_entries, entries_pos, entry_at, fits_in, index_found, index_kind, index_spec, indices_of, pair_pos, stored_index_spec}
 use Rattle.rkyv_index.specs.Lemmas.IndexLaws.{entry_inside, head_same, index_again, indices_below, stored_index_element}
-use Rattle.rkyv_index.proofs.SameIndex.{entry_before, entry_parts, entry_there, new_value_represents, positions_same, table_below, written_same}
-use Rattle.rkyv_index.proofs.SameLookups.{lookup_same}
+use Rattle.rkyv_index.proofs.SameIndex.{entry_before, entry_parts, entry_there, lookup_same, new_value_represents, positions_same, table_below, written_same}
 
 -- a write at the position of the value of a pair writes the value of that pair
 pub value_written : (w : Width) (k v : ElementSpec) (b c : List ℕ) (at q : ℕ) → at ≡ value_pos k v q → ModifiesOnly b at v.size c → StaysValid v b c at → WritesValue k v b c q
