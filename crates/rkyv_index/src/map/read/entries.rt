@@ -1,13 +1,13 @@
 //! The entries of an index map, and the indices in its table.
 ghost use Rattle.std.specs.Prelude.{length, ◌*◌, ◌+◌, ◌<◌, ◌^◌, ◌≡◌, ◌≤◌};
 ghost use Rattle.std.specs.Int.{byte_len};
-ghost use Rattle.rkyv_base.specs.{IsAt, IsValidView, bytes_of, entry_spec, pos_of};
+ghost use Rattle.rkyv_base.specs.{IsAt, IsValidView, archive_of, bytes_of, entry_spec, pos_of};
 ghost use Rattle.rkyv_table.specs.{CountsStrides, len_at};
 ghost use Rattle.rkyv_scan.specs.{generic_kind};
 ghost use Rattle.rkyv_index.specs.{CanCompareIndex, CanCompareIndices, ComparesIndexBy};
 ghost use Rattle.rkyv_index.specs.{FindsIndexIn, IsEntryOf, IsKeyIn, IsPairOf, entries_pos};
 ghost use Rattle.rkyv_index.specs.{entry_at, index_archive, index_len, index_pos, index_spec};
-ghost use Rattle.rkyv_index.specs.{stored_index};
+ghost use Rattle.rkyv_index.specs.{pair_at, stored_index};
 
 use crate::map::{ArchivedIndexMap, IndexMapOf};
 use rkyv_base::element::Element;
@@ -26,6 +26,24 @@ fn entry_pos(begin: u64, i: usize, size: usize) -> u64
     begin + (i * size) as u64
 }
 
+/// Returns a view of the entry at `index` of the map at `view`, with the entries from `begin` on.
+#[inline]
+fn entry_in<'a, K: Element, V: Element, H, W: Width>(
+    view: View<'a, IndexMapOf<K, V, H, W>>,
+    begin: u64,
+    index: usize,
+) -> View<'a, Entry<K, V>>
+    requires map { IsValidView (index_spec W.word (entry_spec K.spec V.spec)) view }
+    requires begin { begin ≡ entries_pos W.word (bytes_of view) (pos_of view) }
+    requires below { index < len_at W.word (bytes_of view) (pos_of view) }
+    ensures at { IsAt result (archive_of view.entry)
+        (pair_at W.word K.spec V.spec (bytes_of view.entry) (pos_of view.entry) index) }
+    ensures viewable { IsValidView (entry_spec K.spec V.spec) result }
+{
+    let at = entry_pos(begin, index, Entry::<K, V>::size());
+    view.at::<Entry<K, V>>(at)
+}
+
 impl<'a, K: Element, V: Element, H, W: Width> ArchivedIndexMap<'a, K, V, H, W> {
     /// Returns the table of the indices.
     #[inline]
@@ -42,8 +60,7 @@ impl<'a, K: Element, V: Element, H, W: Width> ArchivedIndexMap<'a, K, V, H, W> {
         requires below { index < index_len self }
         ensures { IsEntryOf self.entry index result }
     {
-        let at = entry_pos(self.begin, index, Entry::<K, V>::size());
-        self.view.at::<Entry<K, V>>(at)
+        entry_in(self.view, self.begin, index)
     }
 
     /// Returns views of the key and the value at `index`.
@@ -57,7 +74,7 @@ impl<'a, K: Element, V: Element, H, W: Width> ArchivedIndexMap<'a, K, V, H, W> {
     }
 }
 
-/// Returns a view of the key at `index` of the map at `view`.
+/// Returns a view of the key at `index` of the map at `view`, with the entries from `begin` on.
 #[inline]
 pub(crate) fn key_in<'a, K: Element, V: Element, H, W: Width>(
     view: View<'a, IndexMapOf<K, V, H, W>>,
@@ -69,8 +86,7 @@ pub(crate) fn key_in<'a, K: Element, V: Element, H, W: Width>(
     requires below { index < len_at W.word (bytes_of view) (pos_of view) }
     ensures { IsKeyIn W.word K.spec V.spec view.entry index result }
 {
-    let at = entry_pos(begin, index, Entry::<K, V>::size());
-    view.at::<Entry<K, V>>(at).key()
+    entry_in(view, begin, index).key()
 }
 
 /// Returns the index at an item of a table of indices.

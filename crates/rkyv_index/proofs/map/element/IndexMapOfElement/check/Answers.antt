@@ -1,14 +1,11 @@
-use Rattle.std.proofs.Common.{◌≡◌, inl, inr, refl, subst, List, ℕ}
+use Rattle.std.proofs.Common.{inl, inr, refl, List, ℕ}
 use Rattle.std.proofs.lemmas.Result.{err_from_is_err_and}
 use Rattle.rkyv_base.specs.{entry_spec}
+use Rattle.rkyv_table.proofs.Moved.{moved}
 use Rattle.rkyv_index.specs.{EntriesFail, EntriesIn, decode_entries}
 use Rattle.rkyv_index.specs.Lemmas.IndexSpecs.{index_table_fails, index_table_is_valid}
 use Rattle.rkyv_index.proofs.Checking.{table_viewable}
 use Rattle.rkyv_index.proofs.map.element.IndexMapOfElement.check.Goals as goal
-
--- a property of two numbers is one of equal numbers
-both : (F : ℕ → ℕ → Type 0) (n n' hi hi' : ℕ) → n ≡ n' → hi ≡ hi' → F n hi → F n' hi'
-both F n n' hi hi' e f x = subst (F n') f (subst (λ k. F k hi) e x)
 
 pub returns-in_err-rest : goal.returns-in_err-rest
 returns-in_err-rest g c =
@@ -43,7 +40,7 @@ returns-in_err-end g c =
       table,
       inr (
         c.in_ok-len.ensures.below,
-        both (λ n hi. EntriesFail (entry_spec g.K.HasSpec.spec g.V.HasSpec.spec) b (decode_entries w b c.args.pos) n m hi c.in_err-end.field-0.0) _ _ _ _ c.in_ok-len.ensures.len c.in_ok-rest.ensures.0 c.in_err-end.ensures,
+        moved (λ n hi. EntriesFail (entry_spec g.K.HasSpec.spec g.V.HasSpec.spec) b (decode_entries w b c.args.pos) n m hi c.in_err-end.field-0.0) _ _ _ _ c.in_ok-len.ensures.len c.in_ok-rest.ensures.0 c.in_err-end.ensures,
       ),
     ))
 
@@ -57,6 +54,6 @@ returns g c =
         middle = m;
         table = index_table_is_valid w g.W.Place.HasSpec.spec g.W.Place.Scalar.encoding g.met.W.Place.Scalar.laws g.met.W.Width.index b c.args.pos c.args.range.lo c.args.range.hi m c.in_ok-rest.ensures.1;
         below = c.in_ok-len.ensures.below;
-        entries = both (λ n hi. EntriesIn (entry_spec g.K.HasSpec.spec g.V.HasSpec.spec) b (decode_entries w b c.args.pos) n m hi c.in_ok-end.end) _ _ _ _ c.in_ok-len.ensures.len c.in_ok-rest.ensures.0 c.in_ok-end.ensures;
+        entries = moved (λ n hi. EntriesIn (entry_spec g.K.HasSpec.spec g.V.HasSpec.spec) b (decode_entries w b c.args.pos) n m hi c.in_ok-end.end) _ _ _ _ c.in_ok-len.ensures.len c.in_ok-rest.ensures.0 c.in_ok-end.ensures;
       },
     )

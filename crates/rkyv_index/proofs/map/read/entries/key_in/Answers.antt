@@ -1,36 +1,7 @@
-use Rattle.std.proofs.Common.{◌≡◌, ◌∙◌, ap}
-use Rattle.rkyv_base.specs.{IsAt, entry_spec}
-use Rattle.rkyv_base.specs.Lemmas.Entry.{entry_element}
-use Rattle.rkyv_index.specs.{entry_at, pair_pos}
-use Rattle.rkyv_index.proofs.Checking.{view_there}
-use Rattle.rkyv_index.proofs.ValidIndexMap.{entry_viewable}
+use Rattle.std.proofs.Common.{◌∙◌}
 use Rattle.rkyv_index.proofs.map.read.entries.key_in.Goals as goal
-
-pub at-requires : goal.at-requires
-at-requires g c =
-    let m = c.args.view in
-    let k = g.K.HasSpec.spec in
-    let v = g.V.HasSpec.spec in
-    let there = entry_viewable g.W.Word.word g.met.W.Width.layout.kind (entry_spec k v) (entry_element k v g.K.HasSpec.laws g.V.HasSpec.laws) m.archive.now m.pos c.requires.map c.args.index c.requires.below in
-    rw (c.entry_pos-at.ensures, c.size.ensures, c.requires.begin) there
-
-pub key-requires : goal.key-requires
-key-requires g c =
-    let m = c.args.view in
-    let w = g.W.Word.word in
-    let k = g.K.HasSpec.spec in
-    let v = g.V.HasSpec.spec in
-    let s = entry_spec k v in
-    let there = entry_viewable w g.met.W.Width.layout.kind s (entry_element k v g.K.HasSpec.laws g.V.HasSpec.laws) m.archive.now m.pos c.requires.map c.args.index c.requires.below in
-    let at : c.entry_pos-at.result ≡ pair_pos w s.size m.archive.now m.pos c.args.index =
-    c.entry_pos-at.ensures ∙ ap (λ n. entry_at n c.args.begin c.args.index) c.size.ensures ∙ ap (λ q. entry_at s.size q c.args.index) c.requires.begin in
-    let is : IsAt c.at.result m.archive (pair_pos w s.size m.archive.now m.pos c.args.index) = (c.at.ensures.0, c.at.ensures.1 ∙ at) in
-    view_there s c.at.result m.archive (pair_pos w s.size m.archive.now m.pos c.args.index) is there
 
 pub returns : goal.returns
 returns g c =
-    let m = c.args.view in
-    let s = entry_spec g.K.HasSpec.spec g.V.HasSpec.spec in
-    let at : c.entry_pos-at.result ≡ pair_pos g.W.Word.word s.size m.archive.now m.pos c.args.index =
-    c.entry_pos-at.ensures ∙ ap (λ n. entry_at n c.args.begin c.args.index) c.size.ensures ∙ ap (λ q. entry_at s.size q c.args.index) c.requires.begin in
-    record { below = c.requires.below; at = (c.key.ensures.at.0 ∙ c.at.ensures.0, c.key.ensures.at.1 ∙ c.at.ensures.1 ∙ at); viewable = c.key.ensures.viewable }
+    let at = c.entry_in.ensures.at in
+    record { below = c.requires.below; at = (c.key.ensures.at.0 ∙ at.0, c.key.ensures.at.1 ∙ at.1); viewable = c.key.ensures.viewable }
