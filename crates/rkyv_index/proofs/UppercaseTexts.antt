@@ -16,7 +16,7 @@ use Rattle.rkyv_index.proofs.ValueWrites.{value_written, written_value_represent
 pub text_written : (w : Width) (k : ElementSpec) (b : List ℕ) (p : ℕ) (c : List ℕ) (i pos : ℕ) (inline : Bool) → pos ≡ value_pos k (text_spec w) (pair_at w k (text_spec w) b p i)
     → pos + text_size w ≤ length b → Uppercases w b pos c inline → WritesValue k (text_spec w) b c (pair_at w k (text_spec w) b p i)
 text_written w k b p c i pos inline is inside uppercased =
-    value_written w k (text_spec w) b c pos (pair_at w k (text_spec w) b p i) is (uppercased_sealed w b pos inside c inline uppercased) (uppercased_valid w b pos inside c inline uppercased)
+    value_written is (uppercased_sealed w b pos inside c inline uppercased) (uppercased_valid w b pos inside c inline uppercased)
 
 module _ (w : Width) (kind : IsArchiveWord w) (k : ElementSpec) (kl : IsElement k) (tl : IsElement (text_spec w)) (b : List ℕ) (p : ℕ) (view : Viewable (index_spec w (entry_spec k (text_spec w))) b p)
     (c : List ℕ) (i : ℕ) (below : i < len_at w b p) {A : Type 0} (key : List ℕ → ℕ → A → Type 0) (key_hash : List ℕ → ℕ → ℕ) (local : HashLocal k key_hash) (kn : RepresentsLocally k key)

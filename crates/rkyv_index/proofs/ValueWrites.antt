@@ -5,13 +5,11 @@ use Rattle.std.specs.Int.{Width, byte_len}
 use Rattle.std.proofs.Math.Nat.{mul-le-mul_right}
 use Rattle.std.proofs.lemmas.Bool.{cases_eq, cases_lt}
 use Rattle.rkyv_base.specs.{AgreeOn, ElementSpec, IsArchiveWord, IsElement, ModifiesOnly, Outside, PairRepresents, RepresentsLocally, StaysValid, Viewable, entry_spec, value_pos, whole_size}
-use Rattle.rkyv_base.specs.Lemmas.Entry.{entry_element, key_and_value_inside, same_key, size_of_small}
-use Rattle.rkyv_base.specs.Lemmas.Entry.{viewable_key, viewable_value}
+use Rattle.rkyv_base.specs.Lemmas.Entry.{entry_element, key_and_value_inside, same_key, size_of_small, viewable_key, viewable_value}
 use Rattle.rkyv_base.specs.Lemmas.Pairs.{pair_local}
 use Rattle.rkyv_base.proofs.Sealing.{entry_kept, same_outside, sealed_wider, viewable_kept}
 use Rattle.rkyv_keys.specs.{HashLocal, RestsOnKeys}
-use Rattle.rkyv_table.specs.{IsValidWithin, RestsOnKey, RestsOnParts, SameValue}
-use Rattle.rkyv_table.specs.{WritesAmongParts, WritesValue, len_at}
+use Rattle.rkyv_table.specs.{IsValidWithin, RestsOnKey, RestsOnParts, SameValue, WritesAmongParts, WritesValue, len_at}
 use Rattle.rkyv_table.specs.Lemmas.SameHeader.{len_same}
 use Rattle.rkyv_table.specs.Lemmas.TableLaws.{table_element}
 use Rattle.rkyv_table.proofs.SealedTable.{all_kept, parts_below}
@@ -20,8 +18,8 @@ use Rattle.rkyv_index.specs.Lemmas.IndexLaws.{entry_inside, head_same, index_aga
 use Rattle.rkyv_index.proofs.SameIndex.{entry_before, entry_parts, entry_there, lookup_same, new_value_represents, positions_same, table_below, written_same}
 
 -- a write at the position of the value of a pair writes the value of that pair
-pub value_written : (w : Width) (k v : ElementSpec) (b c : List ℕ) (at q : ℕ) → at ≡ value_pos k v q → ModifiesOnly b at v.size c → StaysValid v b c at → WritesValue k v b c q
-value_written w k v b c at q is sealed keeps = record { sealed = subst (λ n. ModifiesOnly b n v.size c) is sealed; keeps = subst (StaysValid v b c) is keeps }
+pub value_written : {k v : ElementSpec} {b c : List ℕ} {at q : ℕ} → at ≡ value_pos k v q → ModifiesOnly b at v.size c → StaysValid v b c at → WritesValue k v b c q
+value_written {v = v} {b} {c} is sealed keeps = record { sealed = subst (λ n. ModifiesOnly b n v.size c) is sealed; keeps = subst (StaysValid v b c) is keeps }
 
 -- two entries share no byte
 entries_apart : (size begin i j : ℕ) → j ≢ i → Outside (entry_at size begin i) size (entry_at size begin j) (entry_at size begin j + size)

@@ -1,11 +1,7 @@
-use Rattle.rkyv_keys.specs.{hash_at}
 use Rattle.rkyv_keys.specs.Lemmas.QueryLaws.{hash_local}
 use Rattle.rkyv_index.proofs.ValueWrites.{index_kept}
 use Rattle.rkyv_index.proofs.map.laws.value_writes_keep_index_maps.Goals as goal
 
 pub returns : goal.returns
 returns g c = λ b d p i view below writes.
-    let h = g.H.KeyHasher in
-    index_kept g.W.Word.word g.met.W.Width.layout.kind g.K.HasSpec.spec g.V.HasSpec.spec g.K.HasSpec.laws g.V.HasSpec.laws b p view d i below writes
-    (hash_at h.hasher g.K.KeyElement.key_calls)
-    (hash_local h.hasher g.met.K.KeyElement.key)
+    index_kept _ g.met.W.Width.layout.kind _ _ g.K.HasSpec.laws g.V.HasSpec.laws b p view d i below writes _ (hash_local g.H.KeyHasher.hasher g.met.K.KeyElement.key)

@@ -1,4 +1,4 @@
-use Rattle.rkyv_keys.specs.{hash_at, hash_of}
+use Rattle.rkyv_keys.specs.{hash_of}
 use Rattle.rkyv_keys.specs.Lemmas.QueryLaws.{hash_local, rests_on_keys}
 use Rattle.rkyv_index.proofs.NestedWrites.{nested_kept}
 use Rattle.rkyv_index.proofs.ValueWrites.{rests_on_parts}
@@ -6,11 +6,6 @@ use Rattle.rkyv_index.proofs.map.laws.nested.nested_writes_keep_lookups.Goals as
 
 pub returns : goal.returns
 returns g c = λ b d p i view below writes q ready.
-    let h = g.H.KeyHasher in
-    let k = g.K.HasSpec.spec in
-    let kept = nested_kept g.W.Word.word g.met.W.Width.layout.kind k g.V.HasSpec.spec g.K.HasSpec.laws g.V.HasSpec.laws b p view d i below writes
-    (hash_at h.hasher g.K.KeyElement.key_calls)
-    (hash_local h.hasher g.met.K.KeyElement.key) in
+    let kept = nested_kept g.W.Word.word g.met.W.Width.layout.kind g.K.HasSpec.spec g.V.HasSpec.spec g.K.HasSpec.laws g.V.HasSpec.laws b p view d i below writes _ (hash_local g.H.KeyHasher.hasher g.met.K.KeyElement.key) in
     let rests = rests_on_keys g.K.HasSpec.laws g.met.K.ElementEquiv.equivalence g.met.K.KeyElement.key g.met.Q.Query.query in
-    kept.lookups (hash_of h.hasher g.Q.KeyHash.calls q) (g.Q.Query.fits q) (g.met.H.KeyHasher.fits (g.Q.KeyHash.calls q))
-    (rests_on_parts k g.Q.KeyHash.can_read g.Q.Query.fits rests q ready)
+    kept.lookups (hash_of g.H.KeyHasher.hasher g.Q.KeyHash.calls q) (g.Q.Query.fits q) (g.met.H.KeyHasher.fits (g.Q.KeyHash.calls q)) (rests_on_parts _ _ _ rests q ready)
