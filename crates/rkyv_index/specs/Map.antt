@@ -63,6 +63,13 @@ abbrev pub index_strides : Width → List ℕ → ℕ → ℕ → (ℕ → Bool)
 index_strides w b p hash accept = probe_length_at generic_kind w (byte_len w) b p hash (λ q.
     accept (number_at w b q))
 
+-- `key`: view of the key at index `i` of the map at `m`
+pub record IsKeyIn {M K : Type 0} (w : Width) (k v : ElementSpec) (m : View M) (i : ℕ)
+    (key : View K) : Type 0 where
+  pub below : i < len_at w (bytes_of m) (pos_of m)
+  pub at : IsAt key (archive_of m) (pair_pos w (entry_spec k v).size (bytes_of m) (pos_of m) i)
+  pub viewable : IsValidView k key
+
 module _ {K V H W : Type 0} {ks : Specs K} {vs : Specs V} {wt : Words W} where
   -- the archive of the map
   abbrev pub index_archive : ArchivedIndexMap K V H W ks vs wt → Bor (List ℕ)
@@ -94,10 +101,8 @@ module _ {K V H W : Type 0} {ks : Specs K} {vs : Specs V} {wt : Words W} where
       (index_pos m)
 
   -- `key`: view of the key at index `i`
-  pub record IsKeyOf (m : ArchivedIndexMap K V H W ks vs wt) (i : ℕ) (key : View K) : Type 0 where
-    pub below : i < index_len m
-    pub at : IsAt key (index_archive m) (key_pos m i)
-    pub viewable : IsValidView ks.spec key
+  abbrev pub IsKeyOf : ArchivedIndexMap K V H W ks vs wt → ℕ → View K → Type 0
+  IsKeyOf m i key = IsKeyIn wt.word ks.spec vs.spec m.view i key
 
   -- `value`: view of the value at index `i`
   pub record IsValueOf (m : ArchivedIndexMap K V H W ks vs wt) (i : ℕ) (value : View V) : Type 0
@@ -177,13 +182,6 @@ pub record FindsIndexIn {P W : Type 0} {ts : Specs P} {wt : Words W} (post : ℕ
   pub item : Option (View P)
   pub found : FindsItem (ComparesIndexBy wt.word post) generic_kind t hash item
   pub is : result ≡ option_map (stored_index wt.word) item
-
--- `key`: view of the key at index `i` of the map at `m`
-pub record IsKeyIn {M K : Type 0} (w : Width) (k v : ElementSpec) (m : View M) (i : ℕ)
-    (key : View K) : Type 0 where
-  pub below : i < len_at w (bytes_of m) (pos_of m)
-  pub at : IsAt key (archive_of m) (pair_pos w (entry_spec k v).size (bytes_of m) (pos_of m) i)
-  pub viewable : IsValidView k key
 
 -- the condition `pre` is met for each key of the map at `m`
 abbrev pub CanCompareKeysIn : {M K : Type 0} → Width → ElementSpec → ElementSpec → View M → (View K

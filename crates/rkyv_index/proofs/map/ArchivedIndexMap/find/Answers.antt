@@ -1,6 +1,6 @@
 use Rattle.std.proofs.Common.{None, refl, subst, sym, ◌∙◌, ◌<◌}
 use Rattle.rkyv_keys.specs.{hash_at}
-use Rattle.rkyv_index.specs.{IsKeyIn, index_len}
+use Rattle.rkyv_index.specs.{IsKeyOf, index_len}
 use Rattle.rkyv_index.proofs.Lookups.{counts_index, item_index}
 use Rattle.rkyv_index.proofs.IndicesFound.{gets_index, reads_few, stored_index_found}
 use Rattle.rkyv_index.proofs.map.ArchivedIndexMap.find.Goals as goal
@@ -21,7 +21,7 @@ find_index-requires g c κs =
                   m.begins,
                   (
                     subst (λ n. n < index_len m) (sym e) there.1,
-                    λ j key is. c.requires.callable j key (record { below = is.below; at = is.at; viewable = is.viewable }),
+                    c.requires.callable,
                   ),
                 ),
               ),
@@ -31,16 +31,11 @@ find_index-requires g c κs =
 
 pub returns-clause-found : goal.returns-clause-found
 returns-clause-found g c =
-    let w = g.W.Word.word in
-    let k = g.K.HasSpec.spec in
-    let v = g.V.HasSpec.spec in
     let m = c.args.self in
     let f = c.find_index.ensures.found in
     gets_index m g.W.Place.Scalar.encoding g.met.W.Place.Scalar.laws g.met.W.Width.index c.table-table.result c.table-table.ensures.at
     (hash_at g.H.KeyHasher.hasher g.K.KeyElement.key_calls) _ (goal.F-post g c.args.cmp c.args.key)
-    (λ h r x.
-    let there = subst (λ n. IsKeyIn w k v m.view n x.2.0) x.1 x.2.1 in
-    (x.2.0, record { below = there.below; at = there.at; viewable = there.viewable }, x.2.2))
+    (λ h r x. (x.2.0, subst (λ n. IsKeyOf m n x.2.0) x.1 x.2.1, x.2.2))
     c.hash_value-hash.result _ c.hash_value-hash.ensures f.item f.found c.find_index.result
     (f.is ∙ stored_index_found m g.W.Place.Scalar.encoding g.met.W.Place.Scalar.laws g.met.W.Width.index c.table-table.result c.table-table.ensures.at f.item f.found.walked)
 
@@ -51,13 +46,8 @@ returns-clause-bounded g c =
 
 pub returns-clause-counted : goal.returns-clause-counted
 returns-clause-counted g c = λ accept compares.
-    let w = g.W.Word.word in
-    let k = g.K.HasSpec.spec in
-    let v = g.V.HasSpec.spec in
     let m = c.args.self in
     counts_index m g.W.Place.Scalar.encoding g.met.W.Place.Scalar.laws g.met.W.Width.index c.table-table.result c.table-table.ensures.at
     _ (goal.F-post g c.args.cmp c.args.key)
-    (λ h r x.
-    let there = subst (λ n. IsKeyIn w k v m.view n x.2.0) x.1 x.2.1 in
-    (x.2.0, record { below = there.below; at = there.at; viewable = there.viewable }, x.2.2))
+    (λ h r x. (x.2.0, subst (λ n. IsKeyOf m n x.2.0) x.1 x.2.1, x.2.2))
     None accept compares c.hash_value-hash.result _ _ _ c.hash_value-hash.ensures c.find_index.ensures.counts.counted
