@@ -6,9 +6,7 @@ use Rattle.std.specs.Option.{is_some}
 use Rattle.std.specs.Prelude.{IfSome}
 use Rattle.rkyv_base.specs.declared.view.View.{View}
 use Rattle.rkyv_keys.specs.{IsFoundAt, KeyLookup}
-use Rattle.rkyv_index.specs.{FoundKeyHas, GetsBy, GetsKey, IsFullKeyIn, IsStored, IsStoredIndex}
-use Rattle.rkyv_index.specs.{MatchesAt, Part, full_index, full_key_index, full_key_part, full_part}
-use Rattle.rkyv_index.specs.{index_of, index_part, part_at}
+use Rattle.rkyv_index.specs.{FoundKeyHas, GetsBy, GetsKey, IsFullKeyIn, IsStored, IsStoredIndex, MatchesAt, Part, full_index, full_key_index, full_key_part, full_part, index_of, index_part, part_at}
 use Rattle.rkyv_index.specs.declared.map.ArchivedIndexMap.{ArchivedIndexMap}
 
 -- `is_found` is `true` if and only if an index is found

@@ -12,14 +12,11 @@ use Rattle.rkyv_base.specs.Lemmas.Entry.{entry_element}
 use Rattle.rkyv_base.specs.declared.element.HasSpec.{Ghosts as Specs}
 use Rattle.rkyv_base.specs.declared.view.View.{View}
 use Rattle.rkyv_base.specs.declared.width.Word.{Ghosts as Words}
-use Rattle.rkyv_keys.specs.{FindsByView, FitsItsEqual, FoundValues, IsFoundAt, IsFoundValue}
-use Rattle.rkyv_keys.specs.{NativeKeys, first_pair}
+use Rattle.rkyv_keys.specs.{FindsByView, FitsItsEqual, FoundValues, IsFoundAt, IsFoundValue, NativeKeys, first_pair}
 use Rattle.rkyv_keys.specs.Lemmas.OfEntries.{valid_key}
 use Rattle.rkyv_table.specs.{with_units}
 use Rattle.rkyv_table.proofs.Moved.{moved}
-use Rattle.rkyv_index.specs.{FoundAreListed, IndexRepresents, IsValueAt, IsWritten}
-use Rattle.rkyv_index.specs.{MembersFoundAreListed, fits_at, index_bytes, index_len, index_of}
-use Rattle.rkyv_index.specs.{index_pos, index_root, key_pos, keys_of, pair_indices}
+use Rattle.rkyv_index.specs.{FoundAreListed, IndexRepresents, IsValueAt, IsWritten, MembersFoundAreListed, fits_at, index_bytes, index_len, index_of, index_pos, index_root, key_pos, keys_of, pair_indices}
 use Rattle.rkyv_index.specs.Lemmas.IndexLaws.{listed_below}
 use Rattle.rkyv_index.specs.declared.map.ArchivedIndexMap.{ArchivedIndexMap}
 use Rattle.rkyv_index.proofs.ValidIndexMap.{entry_viewable}

@@ -8,8 +8,7 @@ use Rattle.rkyv_base.specs.Lemmas.Empty.{unit_element}
 use Rattle.rkyv_base.specs.declared.view.View.{View}
 use Rattle.rkyv_keys.specs.{Comparison, unit_same}
 use Rattle.rkyv_index.specs.Map.Equality.{index_map_equal, index_maps_equal}
-use Rattle.rkyv_index.specs.Map.{Index, IsKeyOf, MatchesAt, index_bytes}
-use Rattle.rkyv_index.specs.Map.{index_of, index_pos}
+use Rattle.rkyv_index.specs.Map.{Index, IsKeyOf, MatchesAt, index_bytes, index_of, index_pos}
 use Rattle.rkyv_index.specs.Map.IndexLayout.{index_spec}
 use Rattle.rkyv_index.specs.declared.map.ArchivedIndexMap.{ArchivedIndexMap}
 use Rattle.rkyv_index.specs.declared.set.ArchivedIndexSet.{ArchivedIndexSet}
