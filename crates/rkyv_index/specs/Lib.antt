@@ -13,11 +13,12 @@ unfoldable pub use Map.{AreUnderHash, CanCompareIndex, CanCompareIndices, CanCom
 unfoldable pub use Map.{CanCompareKeysIn, CanCompareKeysOf, ComparesIndexBy, ComparesKeysBy}
 unfoldable pub use Map.{CountsBy, CountsKey, FindsBy, FindsFirstBy, FindsFirstIndex, FindsFirstKey}
 unfoldable pub use Map.{FindsIndex, FindsKey, IsAccepted, IsFullKeyIn, IsFullResult, IsIndex}
-unfoldable pub use Map.{IsIndexOf, IsKeyOf, IsPairAt, IsPairOf, IsStored, IsStoredAt, IsStoredIndex}
-unfoldable pub use Map.{IsValueAt, IsWritten, MatchesAt, ReadsUpTo, ReadsWithinBound, fits_at}
-unfoldable pub use Map.{fits_in, full_index, full_key_index, index_archive, index_bytes, index_cap}
-unfoldable pub use Map.{index_found, index_len, index_of, index_pos, index_strides, key_at, key_pos}
-unfoldable pub use Map.{key_positions, pair_indices, pair_positions, row, stored_index}
+unfoldable pub use Map.{IsIndexOf, IsKeyOf, IsPairAt, IsPairOf, IsStored, IsStoredAt, IsStoredBelow}
+unfoldable pub use Map.{IsStoredIndex, IsValueAt, IsWritten, MatchesAt, ReadsUpTo, ReadsWithinBound}
+unfoldable pub use Map.{fits_at, fits_in, full_index, full_key_index, index_archive, index_bytes}
+unfoldable pub use Map.{index_cap, index_found, index_len, index_of, index_pos, index_strides}
+unfoldable pub use Map.{key_at, key_pos, key_positions, pair_indices, pair_positions, row}
+unfoldable pub use Map.{stored_index}
 pub use Map.{FindsIndexIn, Index, IsEntryOf, IsKeyIn, IsValueOf}
 unfoldable pub use Map.IndexLayout.{AreBelow, AreValidEntries, EntriesFail, FirstNotBelow}
 unfoldable pub use Map.IndexLayout.{IndexFails, IndicesBelow, decode_entries, distance_pos}

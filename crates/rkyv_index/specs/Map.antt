@@ -51,6 +51,10 @@ abbrev pub IsStoredAt : Width → List ℕ → ℕ → ℕ → Type 0
 IsStoredAt w b p i = (bucket : ℕ) × IsWalked w b p bucket
     × (number_at w b (item_at w (byte_len w) b p bucket) ≡ i)
 
+-- a full bucket has the index `i`, and it is below the length
+abbrev pub IsStoredBelow : Width → List ℕ → ℕ → ℕ → Type 0
+IsStoredBelow w b p i = IsStoredAt w b p i × (i < len_at w b p)
+
 -- the index that a lookup under `hash` finds. `accept i`: the key at index `i` is accepted
 abbrev pub index_found : Width → List ℕ → ℕ → ℕ → (ℕ → Bool) → Option ℕ
 index_found w b p hash accept =
@@ -128,7 +132,7 @@ module _ {K V H W : Type 0} {ks : Specs K} {vs : Specs V} {wt : Words W} where
 
   -- a full bucket of the map has the index `i`, and it is below the length
   abbrev pub IsStoredIndex : ArchivedIndexMap K V H W ks vs wt → ℕ → Type 0
-  IsStoredIndex m i = IsStored m i × (i < index_len m)
+  IsStoredIndex m i = IsStoredBelow wt.word (index_bytes m) (index_pos m) i
 
   -- `full`: an index in a full bucket, and views of its key and its value
   abbrev pub IsFullResult : ArchivedIndexMap K V H W ks vs wt → ℕ × View K × View V → Type 0

@@ -8,7 +8,7 @@ use Rattle.rkyv_base.specs.declared.seal.ArchiveSeal.{ArchiveSeal}
 use Rattle.rkyv_base.specs.declared.seal.Seal.{Seal}
 use Rattle.rkyv_base.specs.declared.view.View.{View}
 use Rattle.rkyv_table.specs.{LendsPair, LendsValue, len_at}
-use Rattle.rkyv_index.specs.Map.{Index, IsStoredAt, MatchesAt}
+use Rattle.rkyv_index.specs.Map.{Index, IsStoredAt, IsStoredBelow, MatchesAt}
 use Rattle.rkyv_index.specs.Map.IndexLayout.{index_spec}
 use Rattle.rkyv_index.specs.Map.ValueWrites.{KeptByWrites, pair_at}
 use Rattle.rkyv_index.specs.declared.map.IndexMapOf.{IndexMapOf}
@@ -20,8 +20,7 @@ IsIndexSeal w k v a = Viewable (index_spec w (entry_spec k v)) (archive_in a) (p
 
 -- a full bucket of the map at the seal `a` has the index `i`, and it is below the length
 abbrev pub IsStoredIn : {K V H W : Type 0} → Width → ArchiveSeal (IndexMapOf K V H W) → ℕ → Type 0
-IsStoredIn w a i =
-    IsStoredAt w (archive_in a) (pos_in a) i × (i < len_at w (archive_in a) (pos_in a))
+IsStoredIn w a i = IsStoredBelow w (archive_in a) (pos_in a) i
 
 -- `key`: view of the key at index `i` of the map at `p`, in the bytes `b`
 pub record IsKeyAt {K : Type 0} (w : Width) (k v : ElementSpec) (b : List ℕ) (p i : ℕ)
