@@ -29,8 +29,8 @@ use Rattle.rkyv_table.specs.Lemmas.TableLaws.{table_element}
 use Rattle.rkyv_table.proofs.RawWalks.{walked_all}
 use Rattle.rkyv_table.proofs.SameTable.{same_walk}
 use Rattle.rkyv_index.specs.Map.IndexLayout.{AreValidEntries, EntriesFail, EntriesIn, FirstNotBelow}
-use Rattle.rkyv_index.specs.Map.IndexLayout.{IndexFails, IndicesBelow, IsValidIndex, distance_pos}
-use Rattle.rkyv_index.specs.Map.IndexLayout.{decode_entries, entry_at, index_spec, indices_of}
+use Rattle.rkyv_index.specs.Map.IndexLayout.{IndexFails, IndicesBelow, IsValidIndex, decode_entries}
+use Rattle.rkyv_index.specs.Map.IndexLayout.{distance_pos, entry_at, index_spec, indices_of}
 use Rattle.rkyv_index.specs.Map.IndexLayout.{stored_index_spec}
 
 -- an index in a bucket is an element

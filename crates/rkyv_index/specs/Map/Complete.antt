@@ -1,5 +1,5 @@
 -- Lookups that find the one key that fits.
-use Rattle.std.specs.Prelude.{◌≡◌, ℕ, ◌<◌, Bool, true, false, Option, MatchOption, List}
+use Rattle.std.specs.Prelude.{◌≡◌, ℕ, ◌<◌, Bool, true, false, List, Option, MatchOption}
 use Rattle.rkyv_keys.specs.{Comparison}
 use Rattle.rkyv_table.specs.{len_at}
 use Rattle.rkyv_index.specs.Map.Equality.{index_misplaced}

@@ -9,9 +9,9 @@ use Rattle.std.specs.Option.{is_some}
 use Rattle.rkyv_base.specs.{ElementSpec, entry_spec}
 use Rattle.rkyv_keys.specs.{Comparison, entry_same}
 use Rattle.rkyv_table.specs.{is_found_at, len_at}
-use Rattle.rkyv_index.specs.Map.{Index, IsWritten, index_bytes, index_found, pair_indices}
-use Rattle.rkyv_index.specs.Map.{index_strides, index_pos, key_at}
-use Rattle.rkyv_index.specs.Map.IndexLayout.{pair_pos, indices_of}
+use Rattle.rkyv_index.specs.Map.{Index, IsWritten, index_bytes, index_found, index_pos}
+use Rattle.rkyv_index.specs.Map.{index_strides, key_at, pair_indices}
+use Rattle.rkyv_index.specs.Map.IndexLayout.{indices_of, pair_pos}
 use Rattle.rkyv_index.specs.declared.map.ArchivedIndexMap.{ArchivedIndexMap}
 
 module _ (w : Width) (s : ElementSpec) (same : Comparison) where

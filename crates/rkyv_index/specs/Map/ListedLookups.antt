@@ -5,8 +5,8 @@ use Rattle.std.specs.Prelude.{◌≡◌, ℕ, ◌<◌, Bool, true, false, List, 
 use Rattle.std.specs.List.{find}
 use Rattle.rkyv_base.specs.{ElementSpec, PairRepresents, ValidAt}
 use Rattle.rkyv_keys.specs.{NativePairs}
-use Rattle.rkyv_index.specs.Map.{IsWritten, fits_at, index_bytes, index_of, pair_indices, index_pos}
-use Rattle.rkyv_index.specs.Map.{key_pos}
+use Rattle.rkyv_index.specs.Map.{IsWritten, fits_at, index_bytes, index_of, index_pos, key_pos}
+use Rattle.rkyv_index.specs.Map.{pair_indices}
 use Rattle.rkyv_index.specs.Map.IndexFormat.{IndexRepresents}
 use Rattle.rkyv_index.specs.declared.map.ArchivedIndexMap.{ArchivedIndexMap}
 

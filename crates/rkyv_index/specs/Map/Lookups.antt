@@ -6,9 +6,9 @@ use Rattle.rkyv_base.specs.declared.view.View.{View}
 use Rattle.rkyv_keys.specs.{KeyLookup}
 use Rattle.rkyv_index.specs.Map.Complete.{FindsOneKey}
 use Rattle.rkyv_index.specs.Map.{FindsBy, FindsFirstBy, FindsFirstKey, FindsKey, Index, IsAccepted}
-use Rattle.rkyv_index.specs.Map.{IsFullKeyIn, IsFullResult, IsKeyOf, IsStored, IsStoredIndex}
-use Rattle.rkyv_index.specs.Map.{IsPairOf, IsIndex, IsValueOf, MatchesAt, full_index}
-use Rattle.rkyv_index.specs.Map.{full_key_index, index_of}
+use Rattle.rkyv_index.specs.Map.{IsFullKeyIn, IsFullResult, IsIndex, IsKeyOf, IsPairOf, IsStored}
+use Rattle.rkyv_index.specs.Map.{IsStoredIndex, IsValueOf, MatchesAt, full_index, full_key_index}
+use Rattle.rkyv_index.specs.Map.{index_of}
 use Rattle.rkyv_index.specs.declared.map.ArchivedIndexMap.{ArchivedIndexMap}
 
 -- `P` is a property of the index that a lookup finds: in any map, in a written map,
