@@ -14,6 +14,13 @@ value_under outer inner maps =
     option_and_then (λ m. first_value (λ other. inner == other) m.map.entries)
     (first_value (λ other. outer == other) maps.map.entries)
 
+-- the value under `inner` of the map in the pair under `outer`
+abbrev pub value_beside : {C S T H G : Type 0} → ℕ → ℕ
+    → Hashed (HashMap ℕ (C × Hashed (HashMap ℕ ℕ S) H) T) G → Option ℕ
+value_beside outer inner maps =
+    option_and_then (λ pair. first_value (λ other. inner == other) pair.1.map.entries)
+    (first_value (λ other. outer == other) maps.map.entries)
+
 -- whether the set under `outer` has the key `inner`
 abbrev pub has_under : {S T H G : Type 0} → ℕ → ℕ
     → Hashed (HashMap ℕ (Hashed (HashSet ℕ S) H) T) G → Option Bool

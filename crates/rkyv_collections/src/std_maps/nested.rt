@@ -1,12 +1,13 @@
-//! Maps and sets of std that are values of maps of std.
+//! Maps and sets of std that are values of maps of std, or parts of such values.
 //!
 //! By `Represents`, an archived map has the pairs of a map of std. Only a written map also has them
 //! where lookups find them. The laws of this module keep this fact of inner maps: they are about
 //! values under any `WrittenRelation`, and `EntriesRelation` is that of written maps of std.
 
 ghost use Rattle.std.specs.Prelude.{List, ℕ};
-ghost use Rattle.rkyv_base.specs.{IsFormat, SameValues};
+ghost use Rattle.rkyv_base.specs.{IsFormat, PairRepresents, SameValues};
 ghost use Rattle.rkyv_base.specs.Lemmas.Empty.{unit_element, unit_is_format};
+ghost use Rattle.rkyv_base.specs.Lemmas.Pairs.{pair_is_format};
 ghost use Rattle.rkyv_keys.specs.{found_views, hash_at, native_keys, native_pairs, queried};
 ghost use Rattle.rkyv_table.specs.{with_units};
 ghost use Rattle.rkyv_collections.specs.{FindsInWrittenMap, FoundAreListed, IsListOfEntries};
@@ -92,6 +93,27 @@ where
         (λ x. with_units x.map.keys) };
 }
 
+/// The relation of entries to pairs, whose parts have the relations `R` and `S`.
+///
+/// So a part of a pair may be a map of std. For a map of pairs of a number and a map of std,
+/// the relation is `EntriesRelation<PairRelation<ValueRelation, EntriesRelation<ValueRelation>>>`.
+pub struct PairRelation<R, S> {
+    parts: PhantomData<(R, S)>,
+}
+
+impl<
+    W: Width,
+    A: Archive<W>,
+    B: Archive<W>,
+    R: WrittenRelation<W, A>,
+    S: WrittenRelation<W, B>,
+> WrittenRelation<W, (A, B)> for PairRelation<R, S> {
+    ghost related = { PairRepresents A.Archived.spec B.Archived.spec R.related S.related };
+
+    ghost written = { pair_is_format A.Archived.spec B.Archived.spec A.Archived.laws
+        B.Archived.laws R.related S.related A.format B.format R.written S.written };
+}
+
 /// States that a lookup in an archive of a map of std finds a value with the relation `R`.
 ///
 /// It finds the value of the accepted key, and no key if and only if the map of std has none.
@@ -175,14 +197,15 @@ where
         R.related (hash_at H.hasher A.Archived.key_calls) }
 {}
 
-/// States the definitions of the relations of values, of maps of std and of sets of std.
-pub fn written_relations_are_defined<W: Width, H: KeyHasher, K, V, A, B, T: BuildHasher, R>()
+/// States the definitions of the relations of values, of maps of std, of sets of std and of pairs.
+pub fn written_relations_are_defined<W: Width, H: KeyHasher, K, V, A, B, T: BuildHasher, R, S>()
 where
     K: KeyElement + Represents<A>,
     V: Represents<B>,
     A: NativeKey<K> + Archive<W, Archived = K> + Hash,
     B: Archive<W, Archived = V>,
     R: WrittenRelation<W, B>,
+    S: WrittenRelation<W, A>,
     ensures values { SameValues ⟦<ValueRelation as WrittenRelation<W, B>>⟧.related V.represents }
     ensures maps { SameValues
         ⟦<EntriesRelation<R> as WrittenRelation<W, Hashed<HashMap<A, B, T>, H>>>⟧.related
@@ -191,4 +214,6 @@ where
     ensures sets { SameValues
         ⟦<KeysRelation as WrittenRelation<W, Hashed<HashSet<A, T>, H>>>⟧.related
         (IsListOfKeys W.word K.Represents (hash_at H.hasher K.key_calls)) }
+    ensures pairs { SameValues ⟦<PairRelation<S, R> as WrittenRelation<W, (A, B)>>⟧.related
+        (PairRepresents K.spec V.spec S.related R.related) }
 {}

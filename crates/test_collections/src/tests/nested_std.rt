@@ -1,13 +1,14 @@
-//! Lookups in maps and sets of std that are values of maps of std.
+//! Lookups in maps and sets of std that are values of maps of std, or parts of such values.
 
 ghost use Rattle.std.specs.Prelude.{◌==◌, ◌≡◌, Ok};
 ghost use Rattle.rkyv_collections.specs.{IsNarrowWritten, map_bytes, map_pos};
 ghost use Rattle.rkyv_keys.specs.{first_value};
-ghost use Rattle.test_collections.specs.InStdMaps.{has_under, value_under};
+ghost use Rattle.test_collections.specs.InStdMaps.{has_under, value_beside, value_under};
 
 use rkyv_base::access::access;
 use rkyv_base::archive::Archive;
 use rkyv_base::element::Represents;
+use rkyv_base::entry::Entry;
 use rkyv_base::errors::VerifyError;
 use rkyv_base::root::to_bytes;
 use rkyv_base::width::Narrow;
@@ -17,9 +18,9 @@ use rkyv_collections::set::laws::lookups_find_listed as set_lookups_find_listed;
 use rkyv_collections::set::{ArchivedHashSet, HashSetOf};
 use rkyv_collections::std_maps::hashed::Hashed;
 use rkyv_collections::std_maps::nested::{
-    EntriesRelation, KeysRelation, ValueRelation, WrittenRelation, nested_lookups_find_listed,
-    nested_maps_are_lists, nested_maps_are_looked_up, nested_walks_visit_each,
-    written_relations_are_defined,
+    EntriesRelation, KeysRelation, PairRelation, ValueRelation, WrittenRelation,
+    nested_lookups_find_listed, nested_maps_are_lists, nested_maps_are_looked_up,
+    nested_walks_visit_each, written_relations_are_defined,
 };
 use rkyv_scan::hash::FxHasher64;
 use std::alloc::Global;
@@ -157,6 +158,65 @@ fn a_line_of_a_city(rt: HostRuntime) -> Result<(), Fail> {
     Ok(())
 }
 
+// The days of a season, and its fares.
+type Season = (u8, FareMap);
+
+type SeasonMap = Hashed<HashMap<u32, Season>>;
+
+type Seasons = HashMapOf<u32, Entry<u8, Fares>>;
+
+type SeasonRelation = PairRelation<ValueRelation, FareRelation>;
+
+// Returns the value under `line` of the map in the pair that an archived map has under `season`.
+fn season_fare(table: &[u8], season: u32, line: u32) -> Result<Option<u64>, VerifyError>
+    ensures { (seasons : _) → IsNarrowWritten ⟦<Seasons as Represents<SeasonMap>>⟧
+        ⟦<SeasonMap as Archive<Narrow>>⟧.format table.now seasons
+        → result ≡ Ok (value_beside season line seasons) }
+{
+    nested_maps_are_lists::<
+        Narrow,
+        FxHasher64,
+        u32,
+        Season,
+        BuildHasherDefault<FoldHasher>,
+        SeasonRelation,
+    >();
+    nested_lookups_find_listed::<u32, Narrow, FxHasher64, u32, Season, SeasonRelation>();
+    let seasons = ArchivedHashMap::of(access::<Seasons>(table)?);
+    match seasons.get(&season) {
+        Some(pair) => Ok(fare_in(ArchivedHashMap::of(pair.value()), line)),
+        None => Ok(None),
+    }
+}
+
+// Archives the map of 1 to the pair of 90 and the map of 2 to 3.
+fn write_season(alloc: Global) -> Result<Vec<u8>, Fail> {
+    let mut fares = HashMap::new(alloc);
+    fares.insert(2, 3)?;
+    let fares: FareMap = Hashed::new(fares);
+    let mut seasons = HashMap::new(alloc);
+    seasons.insert(1, (90, fares))?;
+    let seasons: SeasonMap = Hashed::new(seasons);
+    Ok(to_bytes(alloc, &seasons)?)
+}
+
+// Returns the results of lookups under both keys, and under other ones.
+fn season_fares_found(alloc: Global) -> Result<[Option<u64>; 3], Fail> {
+    let table = write_season(alloc)?;
+    Ok([
+        season_fare(table.as_slice(), 1, 2)?,
+        season_fare(table.as_slice(), 1, 1)?,
+        season_fare(table.as_slice(), 2, 2)?,
+    ])
+}
+
+#[test]
+fn a_fare_of_a_season(rt: HostRuntime) -> Result<(), Fail> {
+    let found = season_fares_found(rt.alloc())?;
+    expect_eq!(rt; found, [Some(3), None, None]);
+    Ok(())
+}
+
 type Deep = EntriesRelation<FareRelation>;
 
 #[test]
@@ -173,5 +233,6 @@ fn laws_of_deeper_maps(_rt: HostRuntime) {
         FareMap,
         RandomState,
         FareRelation,
+        ValueRelation,
     >();
 }
