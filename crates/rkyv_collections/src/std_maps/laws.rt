@@ -13,6 +13,7 @@ ghost use Rattle.rkyv_collections.specs.{std_map_format, std_set_fails};
 use crate::map::HashMapOf;
 use crate::set::HashSetOf;
 use crate::std_maps::hashed::Hashed;
+use crate::std_maps::nested::{ValueRelation, nested_maps_are_lists, nested_maps_are_looked_up};
 use rkyv_base::archive::Archive;
 use rkyv_base::element::Represents;
 use rkyv_base::width::Width;
@@ -44,7 +45,9 @@ where
     ensures { let format = ⟦<Hashed<HashMap<A, B, T>, H> as Archive<W>>⟧.format in
         FindsInWrittenMap W.word A.Archived.Represents B.Archived.Represents
         (queried H.hasher Q.calls Q.fits) Q.can_read format }
-{}
+{
+    nested_maps_are_looked_up::<Q, W, H, A, B, T, ValueRelation>();
+}
 
 /// States that a lookup in an archive of a set of std agrees with that set.
 ///
@@ -163,7 +166,9 @@ where
     ensures { let format = ⟦<Hashed<HashMap<A, B, T>, H> as Archive<W>>⟧.format in
         WrittenMapsAreLists W.word A.Archived.Represents B.Archived.Represents
         (hash_at H.hasher A.Archived.key_calls) format }
-{}
+{
+    nested_maps_are_lists::<W, H, A, B, T, ValueRelation>();
+}
 
 /// States that the root of an archive of a set of std represents the list of its keys.
 ///

@@ -1,27 +1,16 @@
-use Rattle.std.proofs.Common.{◌≡◌, List, ap, length, refl, rules, sym, ◌∙◌}
-use Rattle.std.specs.Borrow.{Bor}
-use Rattle.std.specs.Iterator.{Drains, YieldsFirstBy}
+use Rattle.std.proofs.Common.{refl, rules}
+use Rattle.std.specs.Map.Iter.{deref_pair}
 use Rattle.std.specs.Slice.Iter.{iter_rest}
 use Rattle.rkyv_keys.specs.{hash_of}
-use Rattle.rkyv_table.specs.{YieldsOtherCount, pair_values}
-use Rattle.rkyv_collections.specs.{map_format}
 use Rattle.rkyv_table.specs.declared.table.list_inputs.PairRefs.{PairRefs}
-use Rattle.rkyv_table.proofs.Listing.{all_came, no_other_came, results_listed}
+use Rattle.rkyv_collections.specs.{map_format}
+use Rattle.rkyv_collections.proofs.StdWriting.{writes_rest}
 use Rattle.rkyv_collections.proofs.lists.pairs.MapPairsSerialize.serialize.Goals as goal
 
 pub returns : goal.returns
 returns g c =
-    let values = c.args.self.now.pairs.now in
-    let pairs : PairRefs g.row.A.Denot g.row.B.Denot = c.of-pairs.result in
-    let view : Bor g.row.A.Denot × Bor g.row.B.Denot → g.row.A.Denot × g.row.B.Denot = λ pair. (pair.0.now, pair.1.now) in
-    let rest : PairRefs g.row.A.Denot g.row.B.Denot → List (g.row.A.Denot × g.row.B.Denot) = λ s. iter_rest s.pairs in
-    let steps = YieldsFirstBy view rest in
-    let factor = c.args.self.now.load_factor in
     let hash = hash_of g.H.KeyHasher.hasher g.A.KeyHash.calls in
-    let f = map_format g.W.Word.word g.A.Archived.HasSpec.spec g.B.Archived.HasSpec.spec g.A.Archive.format g.B.Archive.format hash factor in
-    let all : iter_rest pairs.pairs ≡ values = search rules in
-    let count : length values ≡ length values = refl in
-    results_listed (Drains steps pairs) (YieldsOtherCount steps (length values) pairs) (pair_values (λ k. k.now) (λ k. k.now)) values
-    (λ items d. all_came view rest items pairs d ∙ all) (λ n h. no_other_came view rest (length values) pairs (ap length all ∙ sym count) n h)
-    (length values) count factor g.W.Width.MAX_CAPACITY g.W.Width.LIMIT f (g.S.Writer.output c.args.serializer.now) (g.S.Writer.output c.serialize_from_iter.new.serializer)
+    let f = map_format g.W.Word.word g.A.Archived.HasSpec.spec g.B.Archived.HasSpec.spec g.A.Archive.format g.B.Archive.format hash c.args.self.now.load_factor in
+    writes_rest deref_pair (λ (s : PairRefs g.row.A.Denot g.row.B.Denot). iter_rest s.pairs) (λ values. values) (λ values. refl) c.of-pairs.result c.args.self.now.pairs.now (search rules) _ refl
+    c.args.self.now.load_factor g.W.Width.MAX_CAPACITY g.W.Width.LIMIT f (g.S.Writer.output c.args.serializer.now) (g.S.Writer.output c.serialize_from_iter.new.serializer)
     c.serialize_from_iter.result c.serialize_from_iter.ensures

@@ -1,9 +1,9 @@
 use Rattle.std.proofs.Common.{refl}
 use Rattle.std.specs.Map.Iter.{deref_pair}
 use Rattle.rkyv_keys.specs.{hash_of}
-use Rattle.rkyv_table.specs.{listed, pair_values}
+use Rattle.rkyv_table.specs.{listed}
 use Rattle.rkyv_collections.specs.{map_format}
-use Rattle.rkyv_collections.proofs.StdWriting.{writes_distinct, writes_shown}
+use Rattle.rkyv_collections.proofs.StdWriting.{writes_distinct, writes_rest}
 use Rattle.rkyv_collections.proofs.std_maps.hash_map.HashedHashMapSerialize.serialize.Goals as goal
 
 pub returns : goal.returns
@@ -14,5 +14,5 @@ returns g c =
     let o = g.S.Writer.output c.args.serializer.now in
     let o' = g.S.Writer.output c.serialize_from_iter.new.serializer in
     writes_distinct g.A.PartialEq.eq (listed g.W.Width.MAX_CAPACITY (7, 8) f) m.entries c.iter.ensures.unique g.W.Width.LIMIT o o' c.serialize_from_iter.result
-    (writes_shown deref_pair (pair_values (λ k. k.now) (λ k. k.now)) (λ xs. refl) m.entries c.iter.result c.iter.ensures.rest c.len.result c.len.ensures.len
+    (writes_rest deref_pair (λ left. left) (λ entries. entries) (λ entries. refl) c.iter.result m.entries c.iter.ensures.rest c.len.result c.len.ensures.len
     (7, 8) g.W.Width.MAX_CAPACITY g.W.Width.LIMIT f o o' c.serialize_from_iter.result c.serialize_from_iter.ensures)
