@@ -3,95 +3,87 @@ use Rattle.std.proofs.Common.{◌≡◌, ℕ, refl, ap, ◌∙◌, Bool, true, f
 use Rattle.std.specs.Borrow.{Bor}
 use Rattle.std.specs.Int.{Width}
 use Rattle.std.specs.HashSet.{HashSet, Updates}
-use Rattle.std.specs.List.{All, find, list_any}
+use Rattle.std.specs.List.{AllZip, find, list_any}
 use Rattle.std.specs.Option.{option_or}
 use Rattle.std.specs.Map.{keys_of, lookup, update_all}
+use Rattle.std.proofs.lemmas.List.{map-append}
 use Rattle.std.proofs.lemmas.List.Folds.{find-append}
-use Rattle.std.proofs.lemmas.List.Elements.{All-head, All-map, All-tail, All-weaker}
-use Rattle.rkyv_base.specs.{ElementSpec, IsElement, PairRepresents, entry_spec}
-use Rattle.rkyv_base.specs.Lemmas.Entry.{entry_element}
-use Rattle.rkyv_table.specs.{IsWalked, ItemsLeft, YieldsFirstPos, cap_at, item_at, item_positions, table_controls, walk, with_units}
-use Rattle.rkyv_table.proofs.RawWalks.{walked_all}
-use Rattle.rkyv_collections.specs.{AddsKey, ArePairsAt, IsKeyPosAt}
+use Rattle.std.proofs.lemmas.Map.{update_all_push}
+use Rattle.rkyv_base.specs.{ElementSpec, PairRepresents, entry_spec, unit_represents, unit_spec}
+use Rattle.rkyv_base.specs.declared.errors.ReadError.{ReadError}
+use Rattle.rkyv_keys.specs.{DeserializeErrors}
+use Rattle.rkyv_table.specs.{ItemsLeft, YieldsFirstPos, item_positions, with_units}
+use Rattle.rkyv_collections.specs.{AddsKey, ArePairsAt, ReadInOrderFails}
 use Rattle.rkyv_collections.specs.Lemmas.StdSet.{unit_lookup}
 
--- each position of the walk is that of a key of the map
-keys_walked : (w : Width) (k v : ElementSpec) → IsElement k → IsElement v → (b : List ℕ) (p : ℕ) → All (IsKeyPosAt w k v b p) (item_positions w (entry_spec k v).size b p)
-keys_walked w k v kl vl b p =
-    let ws = walk (table_controls w b p) (cap_at w b p) in
-    All-map (IsKeyPosAt w k v b p) (item_at w (entry_spec k v).size b p) ws
-    (All-weaker (IsWalked w b p) (λ i. IsKeyPosAt w k v b p (item_at w (entry_spec k v).size b p i)) (λ i h. (i, h, refl)) ws (walked_all w (entry_spec k v) (entry_element k v kl vl) b p))
+-- one more value at the next position
+read_push : {V : Type 0} (Read : ℕ → V → Type 0) (positions : List ℕ) (values : List V) (pos : ℕ) (value : V) → AllZip Read positions values → Read pos value → AllZip Read (positions ++ pos ∷ []) (values ++ value ∷ [])
+read_push Read [] [] pos value read next = (next, tt)
+read_push Read [] (v ∷ vs) pos value read next = absurd read
+read_push Read (q ∷ qs) [] pos value read next = absurd read
+read_push Read (q ∷ qs) (v ∷ vs) pos value read next = (read.0, read_push Read qs vs pos value read.1 next)
 
-module _ {A B : Type 0} (k v : ElementSpec) (key : List ℕ → ℕ → A → Type 0) (value : List ℕ → ℕ → B → Type 0) (equal : A → A → Bool) (b : List ℕ) (all : List ℕ) where
-  -- All pairs, inserted in order into an empty map: a lookup finds the values `f`,
-  -- and the stored keys are among `ks`
-  abbrev pub ReadsAll : (A → Option B) → List A → Type 0
-  ReadsAll f ks =
-      (pairs : List (A × B)) × ArePairsAt k v key value b all pairs × ((q : A) → f q ≡ update_all equal (λ _. None) pairs q)
-      × ((q : A) → find (equal q) ks ≡ find (equal q) (keys_of pairs))
+-- the keys of pairs with the unit value
+pub keys_read : {A : Type 0} (k : ElementSpec) (key : List ℕ → ℕ → A → Type 0) (b positions : List ℕ) (pairs : List (A × Unit {0})) → ArePairsAt k unit_spec key unit_represents b positions pairs → AllZip (key b) positions (keys_of pairs)
+keys_read k key b [] [] read = tt
+keys_read k key b [] (x ∷ xs) read = absurd read
+keys_read k key b (q ∷ qs) [] read = absurd read
+keys_read k key b (q ∷ qs) (x ∷ xs) read = (read.0.0, keys_read k key b qs xs read.1)
 
-  -- the insertion of the remaining pairs into the found ones is that of all pairs in order
-  -- into an empty map
-  abbrev LeadsOn : List ℕ → (A → Option B) → List A → Type 0
-  LeadsOn left f ks =
-      (rest : List (A × B)) → ArePairsAt k v key value b left rest → (g : A → Option B) → ((q : A) → g q ≡ update_all equal f rest q)
-      → (ns : List A) → ((q : A) → find (equal q) ns ≡ find (equal q) (ks ++ keys_of rest)) → ReadsAll g ns
-
-  leads_first : (f : A → Option B) (ks : List A) → ((q : A) → f q ≡ None) → ks ≡ [] → LeadsOn all f ks
-  leads_first f ks empty none rest read g e ns stored =
-      (rest, read, λ q. e q ∙ ap (λ (h : A → Option B). update_all equal h rest q) (λ i x. empty x i), λ q. stored q ∙ ap (λ (xs : List A). find (equal q) (xs ++ keys_of rest)) none)
-
-  -- a key behind others
-  added_first : (ks ms : List A) (a : A) → AddsKey equal ks ms a → (rest : List A) (q : A) → find (equal q) (ms ++ rest) ≡ find (equal q) (ks ++ a ∷ rest)
-  added_first ks ms a adds rest q =
-      find-append (equal q) ms rest ∙ ap (λ (o : Option A). option_or o (find (equal q) rest)) (adds q) ∙ sym (find-append (equal q) (ks ++ a ∷ []) rest)
-      ∙ ap (find (equal q)) (append_assoc ks (a ∷ []) rest)
-
-  leads_next : (key_pos : ℕ) (left : List ℕ) (f f' : A → Option B) (ks ms : List A) (a : A) (x : B) → LeadsOn (key_pos ∷ left) f ks → PairRepresents k v key value b key_pos (a, x)
-      → ((q : A) → f' q ≡ cond (equal a q) (Some x) (f q)) → AddsKey equal ks ms a → LeadsOn left f' ms
-  leads_next key_pos left f f' ks ms a x h st u adds rest read g e ns stored =
-      h ((a, x) ∷ rest) (st, read) g (λ q. e q ∙ ap (λ (t : A → Option B). update_all equal t rest q) (λ i z. u z i)) ns (λ q. stored q ∙ added_first ks ms a adds (keys_of rest) q)
-
-  leads_last : (f : A → Option B) (ks : List A) → LeadsOn [] f ks → ReadsAll f ks
-  leads_last f ks h = h [] tt f (λ q. refl) ks (λ q. ap (find (equal q)) (sym (append-nil ks)))
-
--- The remaining pairs of a walk are in the archived map at `p`. Their insertion into the found ones
--- is that of all pairs in order
 module _ {A B : Type 0} (w : Width) (k v : ElementSpec) (key : List ℕ → ℕ → A → Type 0) (value : List ℕ → ℕ → B → Type 0) (equal : A → A → Bool) (archive : Bor (List ℕ)) (p : ℕ) where
   abbrev pub all_positions : List ℕ
   all_positions = item_positions w (entry_spec k v).size archive.now p
 
-  abbrev pub WalksOn : ItemsLeft → (A → Option B) → List A → Type 0
-  WalksOn left found stored = (left.archive ≡ archive) × All (IsKeyPosAt w k v archive.now p) left.positions
-      × LeadsOn k v key value equal archive.now all_positions left.positions found stored
+  -- The pairs before those of a walk over the archived map at `p` were inserted in order into an empty map.
+  -- A lookup in it finds the values `found`, and the stored keys are `stored`
+  pub record WalksOn (left : ItemsLeft) (found : A → Option B) (stored : List A) : Type 0 where
+    pub same_archive : left.archive ≡ archive
+    pub before : List ℕ
+    pub in_order : all_positions ≡ before ++ left.positions
+    pub pairs : List (A × B)
+    pub read : ArePairsAt k v key value archive.now before pairs
+    pub inserted : (q : A) → found q ≡ update_all equal (λ _. None) pairs q
+    pub first_kept : (q : A) → find (equal q) stored ≡ find (equal q) (keys_of pairs)
 
-  pub walks_first : IsElement k → IsElement v → (left walk : ItemsLeft) → left ≡ walk → walk.archive ≡ archive → walk.positions ≡ all_positions
+  pub walks_first : (left walk : ItemsLeft) → left ≡ walk → walk.archive ≡ archive → walk.positions ≡ all_positions
       → (found : A → Option B) (stored : List A) → ((q : A) → found q ≡ None) → stored ≡ [] → WalksOn left found stored
-  walks_first kl vl left walk same whole positions found stored empty none =
-      let at : left.positions ≡ all_positions = ap (λ (x : ItemsLeft). x.positions) same ∙ positions in (
-        ap (λ (x : ItemsLeft). x.archive) same ∙ whole,
-        subst (All (IsKeyPosAt w k v archive.now p)) (sym at) (keys_walked w k v kl vl archive.now p),
-        subst (λ (xs : List ℕ). LeadsOn k v key value equal archive.now all_positions xs found stored) (sym at) (leads_first k v key value equal archive.now all_positions found stored empty none),
-      )
+  walks_first left walk same whole positions found stored empty none = record {
+    same_archive = ap (λ (x : ItemsLeft). x.archive) same ∙ whole;
+    before = [];
+    in_order = sym (ap (λ (x : ItemsLeft). x.positions) same ∙ positions);
+    pairs = [];
+    read = tt;
+    inserted = empty;
+    first_kept = λ q. ap (find (equal q)) none;
+  }
 
   module _ (before after : ItemsLeft) (key_pos : ℕ) (found : A → Option B) (stored : List A) (step : YieldsFirstPos before key_pos after) (on : WalksOn before found stored) where
-    -- the next key is one of the map, in the same bytes
-    pub walks_key : IsKeyPosAt w k v archive.now p key_pos
-    walks_key = All-head (IsKeyPosAt w k v archive.now p) key_pos after.positions (subst (All (IsKeyPosAt w k v archive.now p)) step.first on.1)
+    -- the positions around the next key
+    pub walks_split : all_positions ≡ on.before ++ key_pos ∷ after.positions
+    walks_split = on.in_order ∙ ap (λ (ps : List ℕ). on.before ++ ps) step.first
 
     pub walks_next : (found' : A → Option B) (stored' : List A) (a : A) (x : B) → PairRepresents k v key value archive.now key_pos (a, x) → ((q : A) → found' q ≡ cond (equal a q) (Some x) (found q))
         → AddsKey equal stored stored' a → WalksOn after found' stored'
-    walks_next found' stored' a x represents inserted adds = (
-      step.archive ∙ on.0,
-      All-tail (IsKeyPosAt w k v archive.now p) key_pos after.positions (subst (All (IsKeyPosAt w k v archive.now p)) step.first on.1),
-      leads_next k v key value equal archive.now all_positions key_pos after.positions found found' stored stored' a x
-          (subst (λ (xs : List ℕ). LeadsOn k v key value equal archive.now all_positions xs found stored) step.first on.2) represents inserted adds,
-    )
+    walks_next found' stored' a x represents inserted adds = record {
+      same_archive = step.archive ∙ on.same_archive;
+      before = on.before ++ key_pos ∷ [];
+      in_order = walks_split ∙ sym (append_assoc on.before (key_pos ∷ []) after.positions);
+      pairs = on.pairs ++ (a, x) ∷ [];
+      read = read_push (PairRepresents k v key value archive.now) on.before on.pairs key_pos (a, x) on.read represents;
+      inserted = λ q. inserted q ∙ update_all_push equal (λ _. None) found on.pairs (a, x) q (on.inserted q);
+      first_kept = λ q.
+          adds q ∙ find-append (equal q) stored (a ∷ []) ∙ ap (λ (o : Option A). option_or o (find (equal q) (a ∷ []))) (on.first_kept q)
+          ∙ sym (find-append (equal q) (keys_of on.pairs) (a ∷ [])) ∙ ap (find (equal q)) (sym (map-append (λ (e : A × B). e.0) on.pairs ((a, x) ∷ [])));
+    }
 
-  pub walks_last : (left : ItemsLeft) (found : A → Option B) (stored : List A) → WalksOn left found stored → left.positions ≡ []
-      → ReadsAll k v key value equal archive.now all_positions found stored
+    -- the error of the next key or value
+    pub walks_fail : (fails : DeserializeErrors) (e : ReadError) → fails archive.now key_pos e → ReadInOrderFails (PairRepresents k v key value) fails archive.now all_positions e
+    walks_fail fails e error = record { before = on.before; pos = key_pos; after = after.positions; in_order = walks_split; values = on.pairs; read = on.read; error = error }
+
+  -- no position remains
+  pub walks_last : (left : ItemsLeft) (found : A → Option B) (stored : List A) (on : WalksOn left found stored) → left.positions ≡ [] → ArePairsAt k v key value archive.now all_positions on.pairs
   walks_last left found stored on none =
-      leads_last k v key value equal archive.now all_positions found stored (subst (λ (xs : List ℕ). LeadsOn k v key value equal archive.now all_positions xs found stored) none on.2)
+      subst (λ (ps : List ℕ). ArePairsAt k v key value archive.now ps on.pairs) (sym (on.in_order ∙ ap (λ (ps : List ℕ). on.before ++ ps) none ∙ append-nil on.before)) on.read
 
 either_way : {X : Type 0} (x : X) (s t : Bool) → cond (cond s true t) (Some x) None ≡ cond s (Some x) (cond t (Some x) None)
 either_way x true t = refl

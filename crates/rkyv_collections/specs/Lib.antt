@@ -7,7 +7,7 @@ pub mod Listed
 unfoldable pub use StdMaps.StdMap.{AddsKey, ArePairsAt, InsertsPair, InsertsRead, ReadsStdMap}
 unfoldable pub use StdMaps.StdMap.{StdMapRepresents, inner, insert_pair_fails, of_entries}
 unfoldable pub use StdMaps.StdMap.{std_map_fails}
-pub use StdMaps.StdMap.{EntriesRepresent}
+pub use StdMaps.StdMap.{EntriesRepresent, ReadInOrderFails}
 unfoldable pub use StdMaps.StdEquality.{EntriesEqual, FindsPair, FindsPairIn, StdMapEquals}
 unfoldable pub use StdMaps.StdEquality.{StdMapEqualsIn}
 unfoldable pub use StdMaps.StdSet.{InsertsKey, ReadsStdSet, StdSetEquals, StdSetEqualsIn}

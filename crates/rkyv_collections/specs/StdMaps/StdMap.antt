@@ -9,10 +9,9 @@ use Rattle.rkyv_base.specs.{AtView, ElementSpec, Format, PairRepresents, entry_s
 use Rattle.rkyv_base.specs.declared.errors.ReadError.{ReadError}
 use Rattle.rkyv_base.specs.declared.errors.ReadError.TheVariants.{Memory}
 use Rattle.rkyv_base.specs.declared.view.View.{View}
-use Rattle.rkyv_keys.specs.{DeserializeErrors, entry_deserialize_fails}
+use Rattle.rkyv_keys.specs.{DeserializeErrors, DeserializeMembers, entry_deserialize_fails}
 use Rattle.rkyv_table.specs.{item_positions}
 use Rattle.rkyv_collections.specs.declared.std_maps.hashed.Hashed.{Hashed}
-use Rattle.rkyv_collections.specs.Map.MapSpec.{IsKeyPosAt}
 
 -- the map or set of std inside the wrapper
 abbrev pub inner : {M H : Type 0} → Hashed M H → M
@@ -50,12 +49,26 @@ of_entries equal f = record {
   overflow = f.overflow;
 }
 
--- `e`: error of deserializing the map at `p`. Memory could not be allocated,
--- or a key or a value of the map has the error
-abbrev pub std_map_fails : Width → ElementSpec → ElementSpec → DeserializeErrors
-    → DeserializeErrors → DeserializeErrors
-std_map_fails w k v key value b p e =
-    (e ≡ Memory) ⊎ ((q : ℕ) × IsKeyPosAt w k v b p q × entry_deserialize_fails k v key value b q e)
+-- `e`: error at one of the positions, after the values at all positions before it were read
+pub record ReadInOrderFails {V : Type 0} (represents : List ℕ → ℕ → V → Type 0)
+    (fails : DeserializeErrors) (b positions : List ℕ) (e : ReadError) : Type 0 where
+  pub before : List ℕ
+  pub pos : ℕ
+  pub after : List ℕ
+  pub in_order : positions ≡ before ++ pos ∷ after
+  pub values : List V
+  pub read : AllZip (represents b) before values
+  pub error : fails b pos e
+
+-- `e`: error of deserializing the map at `p`. It is `Memory`, or the error of a key or a value,
+-- after all pairs before it, in bucket order, were deserialized
+abbrev pub std_map_fails : {A B : Type 0} → Width → DeserializeMembers A → DeserializeMembers B
+    → DeserializeErrors
+std_map_fails w k v b p e =
+    (e ≡ Memory)
+    ⊎ ReadInOrderFails (PairRepresents k.spec v.spec k.represents v.represents)
+    (entry_deserialize_fails k.spec v.spec k.deserialize_fails v.deserialize_fails) b
+    (item_positions w (entry_spec k.spec v.spec).size b p) e
 
 -- `result`: map of std that the view represents, with the hash state `state`, or an error
 abbrev pub ReadsStdMap : {A B S T : Type 0} → (List ℕ → ℕ → HashMap A B S → Type 0)

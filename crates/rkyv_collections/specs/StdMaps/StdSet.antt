@@ -5,17 +5,16 @@ use Rattle.std.specs.Prelude.{◌≡◌, ℕ, ◌⊎◌, Bool, true, List, Match
 use Rattle.std.specs.HashSet.{HashSet, IsUnique, Updates, hash_set_len, hasher_of}
 use Rattle.std.specs.List.{All}
 use Rattle.std.specs.Int.{Width}
-use Rattle.rkyv_base.specs.{AtView, ElementSpec, unit_represents, unit_spec}
+use Rattle.rkyv_base.specs.{AtView, ElementSpec, entry_spec, unit_represents, unit_spec}
 use Rattle.rkyv_base.specs.declared.errors.ReadError.{ReadError}
 use Rattle.rkyv_base.specs.declared.errors.ReadError.TheVariants.{Memory}
 use Rattle.rkyv_base.specs.declared.view.View.{View}
-use Rattle.rkyv_keys.specs.{DeserializeErrors, Queried}
-use Rattle.rkyv_table.specs.{len_at, with_units}
-use Rattle.rkyv_collections.specs.Map.MapSpec.{IsKeyPosAt}
+use Rattle.rkyv_keys.specs.{DeserializeErrors, DeserializeMembers, Queried}
+use Rattle.rkyv_table.specs.{item_positions, len_at, with_units}
 use Rattle.rkyv_collections.specs.Set.{set_bytes, set_pos}
 use Rattle.rkyv_collections.specs.StdMaps.StdEquality.{FindsPair}
 use Rattle.rkyv_collections.specs.declared.set.ArchivedHashSet.{ArchivedHashSet}
-use Rattle.rkyv_collections.specs.StdMaps.StdMap.{AddsKey, EntriesRepresent}
+use Rattle.rkyv_collections.specs.StdMaps.StdMap.{AddsKey, EntriesRepresent, ReadInOrderFails}
 
 -- the set at `p` represents a set of std: its keys, each with the unit value
 abbrev pub StdSetRepresents : {A S : Type 0} → ElementSpec → (List ℕ → ℕ → A → Type 0) → Width
@@ -34,11 +33,13 @@ InsertsKey {A} equal Fact s n =
 abbrev pub insert_key_fails : DeserializeErrors → DeserializeErrors
 insert_key_fails key b q e = (e ≡ Memory) ⊎ key b q e
 
--- `e`: error of deserializing the set at `p`. Memory could not be allocated,
--- or a key of the set has the error
-abbrev pub std_set_fails : Width → ElementSpec → DeserializeErrors → DeserializeErrors
-std_set_fails w k key b p e =
-    (e ≡ Memory) ⊎ ((q : ℕ) × IsKeyPosAt w k unit_spec b p q × key b q e)
+-- `e`: error of deserializing the set at `p`. It is `Memory`, or the error of a key,
+-- after all keys before it, in bucket order, were deserialized
+abbrev pub std_set_fails : {A : Type 0} → Width → DeserializeMembers A → DeserializeErrors
+std_set_fails w k b p e =
+    (e ≡ Memory)
+    ⊎ ReadInOrderFails k.represents k.deserialize_fails b
+    (item_positions w (entry_spec k.spec unit_spec).size b p) e
 
 -- `result`: set of std that the view represents, with the hash state `state`, or an error
 abbrev pub ReadsStdSet : {A S T : Type 0} → (List ℕ → ℕ → HashSet A S → Type 0)

@@ -52,7 +52,7 @@ impl<'a, K: Element, V: Element, H, W: Width> ArchivedHashMap<'a, K, V, H, W> {
     /// # Errors
     ///
     /// - `Memory`: memory for the map could not be allocated.
-    /// - The error of deserializing a key or a value.
+    /// - The first error of deserializing a key or a value, in bucket order.
     ///
     /// # Examples
     ///
@@ -76,7 +76,7 @@ impl<'a, K: Element, V: Element, H, W: Width> ArchivedHashMap<'a, K, V, H, W> {
         K: Deserialize<A>,
         V: Deserialize<B>,
         ensures { ReadsStdMap (StdMapRepresents K.spec V.spec K.represents V.represents W.word A.eq)
-            (std_map_fails W.word K.spec V.spec K.deserialize_fails V.deserialize_fails)
+            (std_map_fails W.word K.Deserialize V.Deserialize)
             (map_view self.entry) state result }
     {
         let mut map = HashMap::with_capacity_and_hasher(alloc, self.len(), state)?;
@@ -90,15 +90,14 @@ impl<'a, K: Element, V: Element, H, W: Width> ArchivedHashMap<'a, K, V, H, W> {
 impl<K: Deserialize<A>, V: Deserialize<B>, H, W: Width, A: Eq + Hash + Drop, B: Drop> Deserialize<
     HashMap<A, B>,
 > for HashMapOf<K, V, H, W> {
-    ghost deserialize_fails = { std_map_fails W.word K.spec V.spec K.deserialize_fails
-        V.deserialize_fails };
+    ghost deserialize_fails = { std_map_fails W.word K.Deserialize V.Deserialize };
 
     #[inline]
     fn deserialize(alloc: Global, view: View<'_, Self>) -> Result<HashMap<A, B>, ReadError>
         requires { IsValidView (map_spec W.word K.spec V.spec) view }
         ensures { Deserializes
             (StdMapRepresents K.spec V.spec K.represents V.represents W.word A.eq)
-            (std_map_fails W.word K.spec V.spec K.deserialize_fails V.deserialize_fails)
+            (std_map_fails W.word K.Deserialize V.Deserialize)
             view.entry result }
     {
         ArchivedHashMap::of(view).deserialize_std(alloc, BuildHasherDefault::new())
@@ -108,8 +107,7 @@ impl<K: Deserialize<A>, V: Deserialize<B>, H, W: Width, A: Eq + Hash + Drop, B: 
 impl<K: Deserialize<A>, V: Deserialize<B>, H, W: Width, A: Eq + Hash + Drop, B: Drop> Deserialize<
     Hashed<HashMap<A, B>, H>,
 > for HashMapOf<K, V, H, W> {
-    ghost deserialize_fails = { std_map_fails W.word K.spec V.spec K.deserialize_fails
-        V.deserialize_fails };
+    ghost deserialize_fails = { std_map_fails W.word K.Deserialize V.Deserialize };
 
     #[inline]
     fn deserialize(
@@ -119,7 +117,7 @@ impl<K: Deserialize<A>, V: Deserialize<B>, H, W: Width, A: Eq + Hash + Drop, B: 
         requires { IsValidView (map_spec W.word K.spec V.spec) view }
         ensures { Deserializes (RepresentsAs inner
             (StdMapRepresents K.spec V.spec K.represents V.represents W.word A.eq))
-            (std_map_fails W.word K.spec V.spec K.deserialize_fails V.deserialize_fails)
+            (std_map_fails W.word K.Deserialize V.Deserialize)
             view.entry result }
     {
         let map = ArchivedHashMap::of(view).deserialize_std(alloc, BuildHasherDefault::new())?;

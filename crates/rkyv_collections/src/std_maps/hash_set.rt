@@ -132,7 +132,7 @@ impl<'a, K: Element, H, W: Width> ArchivedHashSet<'a, K, H, W> {
     /// # Errors
     ///
     /// - `Memory`: memory for the set could not be allocated.
-    /// - The error of deserializing a key.
+    /// - The first error of deserializing a key, in bucket order.
     ///
     /// # Examples
     ///
@@ -153,7 +153,7 @@ impl<'a, K: Element, H, W: Width> ArchivedHashSet<'a, K, H, W> {
     where
         K: Deserialize<A>,
         ensures { ReadsStdSet (StdSetRepresents K.spec K.represents W.word A.eq)
-            (std_set_fails W.word K.spec K.deserialize_fails) (set_view self.entry) state result }
+            (std_set_fails W.word K.Deserialize) (set_view self.entry) state result }
     {
         let mut set = HashSet::with_capacity_and_hasher(alloc, self.len(), state)?;
         for key in self.iter() {
@@ -270,13 +270,13 @@ where
 
 impl<K: Deserialize<A>, H, W: Width, A: Eq + Hash + Drop> Deserialize<HashSet<A>>
     for HashSetOf<K, H, W> {
-    ghost deserialize_fails = { std_set_fails W.word K.spec K.deserialize_fails };
+    ghost deserialize_fails = { std_set_fails W.word K.Deserialize };
 
     #[inline]
     fn deserialize(alloc: Global, view: View<'_, Self>) -> Result<HashSet<A>, ReadError>
         requires { IsValidView (set_spec W.word K.spec) view }
         ensures { Deserializes (StdSetRepresents K.spec K.represents W.word A.eq)
-            (std_set_fails W.word K.spec K.deserialize_fails) view.entry result }
+            (std_set_fails W.word K.Deserialize) view.entry result }
     {
         ArchivedHashSet::of(view).deserialize_std(alloc, BuildHasherDefault::new())
     }
@@ -284,14 +284,14 @@ impl<K: Deserialize<A>, H, W: Width, A: Eq + Hash + Drop> Deserialize<HashSet<A>
 
 impl<K: Deserialize<A>, H, W: Width, A: Eq + Hash + Drop> Deserialize<Hashed<HashSet<A>, H>>
     for HashSetOf<K, H, W> {
-    ghost deserialize_fails = { std_set_fails W.word K.spec K.deserialize_fails };
+    ghost deserialize_fails = { std_set_fails W.word K.Deserialize };
 
     #[inline]
     fn deserialize(alloc: Global, view: View<'_, Self>) -> Result<Hashed<HashSet<A>, H>, ReadError>
         requires { IsValidView (set_spec W.word K.spec) view }
         ensures { Deserializes
             (RepresentsAs inner (StdSetRepresents K.spec K.represents W.word A.eq))
-            (std_set_fails W.word K.spec K.deserialize_fails) view.entry result }
+            (std_set_fails W.word K.Deserialize) view.entry result }
     {
         let set = ArchivedHashSet::of(view).deserialize_std(alloc, BuildHasherDefault::new())?;
         Ok(Hashed::new(set))

@@ -98,7 +98,8 @@ where
 
 /// States which errors deserializing a map of std can return.
 ///
-/// Memory could not be allocated, or a key or a value of the map has the error.
+/// Memory could not be allocated, or a key or a value has the error, after all pairs before it,
+/// in bucket order, were deserialized.
 pub fn std_maps_fail_as_pairs<K, V, A, B, H, W: Width>()
 where
     K: Deserialize<A>,
@@ -107,23 +108,24 @@ where
     B: Drop,
     ensures maps { let m = ⟦<HashMapOf<K, V, H, W> as Deserialize<HashMap<A, B>>>⟧ in
         SameErrors m.deserialize_fails
-        (std_map_fails W.word K.spec V.spec K.deserialize_fails V.deserialize_fails) }
+        (std_map_fails W.word K.Deserialize V.Deserialize) }
     ensures hashed { let m = ⟦<HashMapOf<K, V, H, W> as Deserialize<Hashed<HashMap<A, B>, H>>>⟧ in
         SameErrors m.deserialize_fails
-        (std_map_fails W.word K.spec V.spec K.deserialize_fails V.deserialize_fails) }
+        (std_map_fails W.word K.Deserialize V.Deserialize) }
 {}
 
 /// States which errors deserializing a set of std can return.
 ///
-/// Memory could not be allocated, or a key of the set has the error.
+/// Memory could not be allocated, or a key has the error, after all keys before it,
+/// in bucket order, were deserialized.
 pub fn std_sets_fail_as_keys<K, A, H, W: Width>()
 where
     K: Deserialize<A>,
     A: Eq + Hash + Drop,
     ensures sets { SameErrors ⟦<HashSetOf<K, H, W> as Deserialize<HashSet<A>>>⟧.deserialize_fails
-        (std_set_fails W.word K.spec K.deserialize_fails) }
+        (std_set_fails W.word K.Deserialize) }
     ensures hashed { let s = ⟦<HashSetOf<K, H, W> as Deserialize<Hashed<HashSet<A>, H>>>⟧ in
-        SameErrors s.deserialize_fails (std_set_fails W.word K.spec K.deserialize_fails) }
+        SameErrors s.deserialize_fails (std_set_fails W.word K.Deserialize) }
 {}
 
 /// States that a map of std is written as the map of its entries, whose keys are distinct.

@@ -6,14 +6,14 @@ use Rattle.std.proofs.lemmas.Result.{err_from_is_err_and}
 use Rattle.rkyv_base.specs.{PairRepresents}
 use Rattle.rkyv_keys.specs.{entry_deserialize_fails}
 use Rattle.rkyv_collections.specs.{map_archive, map_pos}
-use Rattle.rkyv_collections.proofs.StdReading.{walks_first, walks_key, walks_last, walks_next}
+use Rattle.rkyv_collections.proofs.StdReading.{walks_fail, walks_first, walks_last, walks_next}
 use Rattle.rkyv_collections.proofs.map.ArchivedHashMap.deserialize_std.Goals as goal
 
 pub loop-key-init : goal.loop-key-init
 loop-key-init g c =
     let walk = c.iter-key-items.ensures in
     let empty = c.in_ok-map.ensures in (
-      walks_first g.W.Word.word g.K.HasSpec.spec g.V.HasSpec.spec g.K.Represents.represents g.V.Represents.represents g.A.PartialEq.eq (map_archive c.args.self) (map_pos c.args.self) g.K.HasSpec.laws g.V.HasSpec.laws
+      walks_first g.W.Word.word g.K.HasSpec.spec g.V.HasSpec.spec g.K.Represents.represents g.V.Represents.represents g.A.PartialEq.eq (map_archive c.args.self) (map_pos c.args.self)
           c.into_iter-key-iterator.result c.iter-key-items.result c.into_iter-key-iterator.ensures.into_iter_gives walk.archive walk.positions
           (get g.A.PartialEq.eq c.in_ok-map.map) (keys c.in_ok-map.map) (λ q. ap (lookup (g.A.PartialEq.eq q)) empty.empty) (ap keys_of empty.empty),
       empty.unique,
@@ -25,7 +25,7 @@ loop-key-preserved g c =
     let on = c.loop-key.invariant in
     let step = c.in-Some.ensures.steps in
     let made = c.in_ok-insert_read.ensures in
-    let there = subst (λ (a : Bor (List ℕ)). PairRepresents g.K.HasSpec.spec g.V.HasSpec.spec g.K.Represents.represents g.V.Represents.represents a.now c.in-Some.key.pos made.0) (step.1.at.0 ∙ on.0.0) made.1 in (
+    let there = subst (λ (a : Bor (List ℕ)). PairRepresents g.K.HasSpec.spec g.V.HasSpec.spec g.K.Represents.represents g.V.Represents.represents a.now c.in-Some.key.pos made.0) (step.1.at.0 ∙ on.0.same_archive) made.1 in (
       walks_next g.W.Word.word g.K.HasSpec.spec g.V.HasSpec.spec g.K.Represents.represents g.V.Represents.represents g.A.PartialEq.eq (map_archive c.args.self) (map_pos c.args.self)
           c.loop-key.key-iterator c.next.new.self c.in-Some.key.pos (get g.A.PartialEq.eq c.loop-key.map) (keys c.loop-key.map) step.0 on.0
           (get g.A.PartialEq.eq c.insert_read.new.map) (keys c.insert_read.new.map) made.0.0 made.0.1 there made.2.0 made.3,
@@ -37,21 +37,19 @@ pub returns-in_err-insert_read : goal.returns-in_err-insert_read
 returns-in_err-insert_read g c =
     let on = c.loop-key.invariant in
     let step = c.in-Some.ensures.steps in
-    let key = walks_key g.W.Word.word g.K.HasSpec.spec g.V.HasSpec.spec g.K.Represents.represents g.V.Represents.represents g.A.PartialEq.eq (map_archive c.args.self) (map_pos c.args.self)
-    c.loop-key.key-iterator c.next.new.self c.in-Some.key.pos (get g.A.PartialEq.eq c.loop-key.map) (keys c.loop-key.map) step.0 on.0 in
+    let fails = entry_deserialize_fails g.K.HasSpec.spec g.V.HasSpec.spec g.K.Deserialize.deserialize_fails g.V.Deserialize.deserialize_fails in
+    let error = c.in_err-insert_read.field-0.0 in
     let p = err_from_is_err_and c.from_residual-in_err-insert_read.result c.from_residual-in_err-insert_read.ensures.1 in
     rw (p.1, p.2) (elim c.in_err-insert_read.ensures [
       | inl memory ↦ inl memory
-      | inr part ↦ inr (
-        c.in-Some.key.pos,
-        key,
-        subst (λ (a : Bor (List ℕ)). entry_deserialize_fails g.K.HasSpec.spec g.V.HasSpec.spec g.K.Deserialize.deserialize_fails g.V.Deserialize.deserialize_fails a.now c.in-Some.key.pos c.in_err-insert_read.field-0.0) (step.1.at.0 ∙ on.0.0) part,
-      )
+      | inr part ↦ inr (walks_fail g.W.Word.word g.K.HasSpec.spec g.V.HasSpec.spec g.K.Represents.represents g.V.Represents.represents g.A.PartialEq.eq (map_archive c.args.self) (map_pos c.args.self)
+          c.loop-key.key-iterator c.next.new.self c.in-Some.key.pos (get g.A.PartialEq.eq c.loop-key.map) (keys c.loop-key.map) step.0 on.0 fails error
+          (subst (λ (a : Bor (List ℕ)). fails a.now c.in-Some.key.pos error) (step.1.at.0 ∙ on.0.same_archive) part))
     ])
 
 pub returns : goal.returns
 returns g c =
     let on = c.loop-key.invariant in
-    let last = walks_last g.W.Word.word g.K.HasSpec.spec g.V.HasSpec.spec g.K.Represents.represents g.V.Represents.represents g.A.PartialEq.eq (map_archive c.args.self) (map_pos c.args.self)
+    let read = walks_last g.W.Word.word g.K.HasSpec.spec g.V.HasSpec.spec g.K.Represents.represents g.V.Represents.represents g.A.PartialEq.eq (map_archive c.args.self) (map_pos c.args.self)
     c.loop-key.key-iterator (get g.A.PartialEq.eq c.loop-key.map) (keys c.loop-key.map) on.0 c.in-None.ensures.steps.none in
-    (record { pairs = last.0; read = last.1; inserted = (last.2, on.1); stored = last.3 }, on.2 ∙ c.in_ok-map.ensures.hasher)
+    (record { pairs = on.0.pairs; read = read; inserted = (on.0.inserted, on.1); stored = on.0.first_kept }, on.2 ∙ c.in_ok-map.ensures.hasher)

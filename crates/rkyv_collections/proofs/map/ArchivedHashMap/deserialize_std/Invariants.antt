@@ -4,8 +4,7 @@ use Rattle.rkyv_collections.specs.{map_archive, map_pos}
 use Rattle.rkyv_collections.proofs.StdReading.{WalksOn}
 use Rattle.rkyv_collections.proofs.map.ArchivedHashMap.deserialize_std.Given as goal
 
--- the remaining pairs are in the archived map, and their insertion ends with all pairs
--- inserted in order
+-- the pairs before those that remain were inserted in order
 abbrev pub invariant-loop-key : goal.invariant-loop-key
 invariant-loop-key g l =
     WalksOn g.W.Word.word g.K.HasSpec.spec g.V.HasSpec.spec g.K.Represents.represents g.V.Represents.represents g.A.PartialEq.eq
