@@ -13,7 +13,6 @@ pub mod StdWriting
 pub mod StdReading
 pub mod StdComparing
 pub mod StdFinding
-pub mod StdListing
 pub mod WrittenRoots
 pub mod FoundPairs
 pub mod ListedLookups

@@ -18,7 +18,7 @@ unfoldable pub use StdMaps.StdLookups.{IsValueBehind}
 unfoldable pub use StdMaps.RoundTrips.{ArchivesRoundTrip}
 unfoldable pub use StdMaps.ListArchives.{IsListOfEntries, IsListOfKeys, IsNarrowWritten}
 unfoldable pub use StdMaps.ListArchives.{IsWideWritten, WrittenMapsAreLists, WrittenMapsListEntries}
-unfoldable pub use StdMaps.ListArchives.{WrittenSetsAreLists, with_relation}
+unfoldable pub use StdMaps.ListArchives.{WrittenRootsAre, WrittenSetsAreLists, with_relation}
 pub use StdMaps.ListArchives.{IsWrittenArchive}
 unfoldable pub use Map.{AreUnderHash, AreUnderHashAt, CanCompareKeys, ComparesKeysBy, FindsBy}
 unfoldable pub use Map.{FindsFirstBy, FindsFirstKey, FindsFirstKeyAt, FindsKey, FindsKeyAt}

@@ -1,15 +1,13 @@
 -- Archives that were written of a map or a set of std, as archives of the list of its entries.
-use Rattle.rkyv_base.specs.{ElementMembers, Format, IsFormat, IsValidArchive, RootBytes}
-use Rattle.rkyv_base.specs.{narrow_limit, wide_limit}
+use Rattle.rkyv_base.specs.{ElementMembers, ElementSpec, Format, IsFormat, IsValidArchive}
+use Rattle.rkyv_base.specs.{RootBytes, narrow_limit, wide_limit}
 use Rattle.std.specs.Prelude.{ℕ, ◌-◌, List, length}
 use Rattle.std.specs.HashMap.{HashMap}
 use Rattle.std.specs.HashSet.{HashSet}
 use Rattle.std.specs.Int.{Width}
-use Rattle.rkyv_collections.specs.Map.ListArchives.{map_root}
 use Rattle.rkyv_collections.specs.Map.MapFormat.{MapRepresents}
 use Rattle.rkyv_collections.specs.Map.MapSpec.{map_spec}
 use Rattle.rkyv_collections.specs.Set.{set_spec}
-use Rattle.rkyv_collections.specs.Set.ListArchives.{set_root}
 use Rattle.rkyv_collections.specs.Set.SetFormat.{SetRepresents}
 use Rattle.rkyv_collections.specs.declared.std_maps.hashed.Hashed.{Hashed}
 
@@ -28,24 +26,13 @@ IsNarrowWritten element format b value = IsWrittenArchive narrow_limit element f
 abbrev pub IsWideWritten : {V R : Type 0} → ElementMembers V → Format V R → List ℕ → V → Type 0
 IsWideWritten element format b value = IsWrittenArchive wide_limit element format b value
 
--- The root of an archive with the written bytes of a map of std represents the list of its entries.
--- `k`, `v`: its keys and values, `hash`: hash of the key at a position
-abbrev pub WrittenMapsAreLists : {A B S H R : Type 0} → Width → ElementMembers A
-    → ElementMembers B → (List ℕ → ℕ → ℕ) → Format (Hashed (HashMap A B S) H) R → Type 0
-WrittenMapsAreLists {A} {B} {S} {H} w k v hash format =
-    (b : List ℕ) (x : Hashed (HashMap A B S) H)
-    → RootBytes (map_spec w k.spec v.spec).align format x 0 b (map_root w k.spec v.spec b)
-    → MapRepresents w k.spec v.spec k.represents v.represents hash (7, 8) b
-    (map_root w k.spec v.spec b) x.map.entries
-
--- The root of an archive with the written bytes of a set of std represents the list of its keys.
--- `k`: its keys, `hash`: hash of the key at a position
-abbrev pub WrittenSetsAreLists : {A S H R : Type 0} → Width → ElementMembers A → (List ℕ → ℕ → ℕ)
-    → Format (Hashed (HashSet A S) H) R → Type 0
-WrittenSetsAreLists {A} {S} {H} w k hash format =
-    (b : List ℕ) (x : Hashed (HashSet A S) H)
-    → RootBytes (set_spec w k.spec).align format x 0 b (set_root w k.spec b)
-    → SetRepresents w k.spec k.represents hash (7, 8) b (set_root w k.spec b) x.map.keys
+-- The root of an archive with the written bytes of a value has the relation `related` to it.
+-- `s`: element of the root
+abbrev pub WrittenRootsAre : {V R : Type 0} → ElementSpec → (List ℕ → ℕ → V → Type 0)
+    → Format V R → Type 0
+WrittenRootsAre {V} s related format =
+    (b : List ℕ) (x : V) → RootBytes s.align format x 0 b (length b - s.size)
+    → related b (length b - s.size) x
 
 -- the element, whose values have the relation `related` to the native values
 abbrev pub with_relation : {B C : Type 0} → ElementMembers B → (List ℕ → ℕ → C → Type 0)
@@ -63,6 +50,20 @@ abbrev pub IsListOfKeys : {A S H : Type 0} → Width → ElementMembers A → (L
     → List ℕ → ℕ → Hashed (HashSet A S) H → Type 0
 IsListOfKeys w k hash b p x =
     SetRepresents w k.spec k.represents hash (7, 8) b p x.map.keys
+
+-- The root of an archive with the written bytes of a map of std represents the list of its entries.
+-- `k`, `v`: its keys and values, `hash`: hash of the key at a position
+abbrev pub WrittenMapsAreLists : {A B S H R : Type 0} → Width → ElementMembers A
+    → ElementMembers B → (List ℕ → ℕ → ℕ) → Format (Hashed (HashMap A B S) H) R → Type 0
+WrittenMapsAreLists w k v hash format =
+    WrittenRootsAre (map_spec w k.spec v.spec) (IsListOfEntries w k v hash) format
+
+-- The root of an archive with the written bytes of a set of std represents the list of its keys.
+-- `k`: its keys, `hash`: hash of the key at a position
+abbrev pub WrittenSetsAreLists : {A S H R : Type 0} → Width → ElementMembers A → (List ℕ → ℕ → ℕ)
+    → Format (Hashed (HashSet A S) H) R → Type 0
+WrittenSetsAreLists w k hash format =
+    WrittenRootsAre (set_spec w k.spec) (IsListOfKeys w k hash) format
 
 -- In any archive with the written bytes of a map of std, the map represents the list
 -- of its entries. `k`, `v`: its keys and values, `hash`: hash of the key at a position

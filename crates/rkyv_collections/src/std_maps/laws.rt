@@ -13,7 +13,10 @@ ghost use Rattle.rkyv_collections.specs.{std_map_format, std_set_fails};
 use crate::map::HashMapOf;
 use crate::set::HashSetOf;
 use crate::std_maps::hashed::Hashed;
-use crate::std_maps::nested::{ValueRelation, nested_maps_are_lists, nested_maps_are_looked_up};
+use crate::std_maps::nested::{
+    KeysRelation, ValueRelation, nested_maps_are_lists, nested_maps_are_looked_up,
+    written_values_are_related,
+};
 use rkyv_base::archive::Archive;
 use rkyv_base::element::Represents;
 use rkyv_base::width::Width;
@@ -182,7 +185,9 @@ where
     ensures { let format = ⟦<Hashed<HashSet<A, T>, H> as Archive<W>>⟧.format in
         WrittenSetsAreLists W.word A.Archived.Represents
         (hash_at H.hasher A.Archived.key_calls) format }
-{}
+{
+    written_values_are_related::<W, Hashed<HashSet<A, T>, H>, KeysRelation>();
+}
 
 /// States that the root of an archive of a value equals the value.
 ///

@@ -13,7 +13,7 @@ ghost use Rattle.rkyv_table.specs.{with_units};
 ghost use Rattle.rkyv_collections.specs.{FindsInWrittenMap, FoundAreListed, IsListOfEntries};
 ghost use Rattle.rkyv_collections.specs.{IsListOfKeys, LookupsFindListed, WalksVisitEach};
 ghost use Rattle.rkyv_collections.specs.{WalksVisitPairs, WrittenMapsAreLists};
-ghost use Rattle.rkyv_collections.specs.{WrittenMapsListEntries, with_relation};
+ghost use Rattle.rkyv_collections.specs.{WrittenMapsListEntries, WrittenRootsAre, with_relation};
 ghost use Rattle.rkyv_collections.specs.Lemmas.StdLists.{entries_listed};
 
 use crate::std_maps::hashed::Hashed;
@@ -114,6 +114,15 @@ impl<
         B.Archived.laws R.related S.related A.format B.format R.written S.written };
 }
 
+/// States that the written bytes of a value have the relation `R` to it.
+///
+/// - `root`: at the root of an archive.
+/// - `written`: anywhere in an archive.
+pub fn written_values_are_related<W: Width, B: Archive<W>, R: WrittenRelation<W, B>>()
+    ensures root { WrittenRootsAre B.Archived.spec R.related B.format }
+    ensures written { IsFormat B.Archived.spec R.related B.format }
+{}
+
 /// States that a lookup in an archive of a map of std finds a value with the relation `R`.
 ///
 /// It finds the value of the accepted key, and no key if and only if the map of std has none.
@@ -156,7 +165,9 @@ where
     ensures written { WrittenMapsListEntries W.word A.Archived.Represents
         (with_relation B.Archived.Represents R.related) (hash_at H.hasher A.Archived.key_calls)
         ⟦<Hashed<HashMap<A, B, T>, H> as Archive<W>>⟧.format }
-{}
+{
+    written_values_are_related::<W, Hashed<HashMap<A, B, T>, H>, EntriesRelation<R>>();
+}
 
 /// States that a lookup finds the first pair of the represented list, whose value has relation `R`.
 ///

@@ -20,7 +20,7 @@ use rkyv_collections::std_maps::hashed::Hashed;
 use rkyv_collections::std_maps::nested::{
     EntriesRelation, KeysRelation, PairRelation, ValueRelation, WrittenRelation,
     nested_lookups_find_listed, nested_maps_are_lists, nested_maps_are_looked_up,
-    nested_walks_visit_each, written_relations_are_defined,
+    nested_walks_visit_each, written_relations_are_defined, written_values_are_related,
 };
 use rkyv_scan::hash::FxHasher64;
 use std::alloc::Global;
@@ -224,6 +224,7 @@ fn laws_of_deeper_maps(_rt: HostRuntime) {
     nested_maps_are_looked_up::<u32, Narrow, FxHasher64, u32, CityMap, RandomState, Deep>();
     nested_maps_are_lists::<Narrow, FxHasher64, u32, CityMap, RandomState, Deep>();
     nested_walks_visit_each::<Narrow, FxHasher64, u32, CityMap, Deep>();
+    written_values_are_related::<Narrow, Season, SeasonRelation>();
     written_relations_are_defined::<
         Narrow,
         FxHasher64,
