@@ -1,8 +1,33 @@
--- The statuses of containers' errors.
-use Rattle.std.proofs.Common.{◌≡◌, arith}
+-- The statuses of errors: of validation, and of containers.
+use Rattle.std.proofs.Common.{◌≡◌, ◌∙◌, ◌⊎◌, ℕ, List, ap, arith, inl, inr, refl}
+use Rattle.std.specs.Prelude.{pos as int}
+use Rattle.rkyv_base.specs.{AccessFails, ElementSpec, IsValidArchive}
+use Rattle.rkyv_base.specs.declared.errors.VerifyError.{VerifyError}
+use Rattle.rkyv_base.specs.declared.errors.VerifyError.TheVariants as verify
 use Rattle.rkyv_container.specs.declared.errors.ContainerError.{ContainerError}
 use Rattle.rkyv_container.specs.declared.errors.ContainerError.TheVariants as container
-use Rattle.ffi_calls.specs.{container_status}
+use Rattle.ffi_calls.specs.{Explains, Opens, container_status, explain, explained, verify_status}
+use Rattle.ffi_calls.specs.declared.explanation.Explanation.{Explanation}
+
+-- the status of an error's explanation is that of the error
+explained_status : (e : VerifyError) → (explain e).status ≡ verify_status e
+unfolding explain verify_status
+explained_status (verify.OutOfRange pos size) = refl
+explained_status (verify.Unaligned pos align) = refl
+explained_status (verify.InvalidLength len cap) = refl
+explained_status (verify.WrongNumberOfElements expected actual) = refl
+explained_status (verify.UnwrappedControlByte index) = refl
+explained_status (verify.PlaceOutOfRange place len) = refl
+explained_status (verify.InvalidValue pos) = refl
+explained_status (verify.Refused reason) = refl
+
+opened_by : (limit : ℕ) (s : ElementSpec) (b : List ℕ) (result : Explanation) → (IsValidArchive limit s b × (result ≡ explained 0 (int 0) 0 0)) ⊎ ((e : VerifyError) × AccessFails limit s b e × (result ≡ explain e)) → Opens limit s b result.status
+opened_by limit s b result (inl h) = inl (h.0, ap (λ r. r.status) h.1)
+opened_by limit s b result (inr h) = inr (h.0, h.1, ap (λ r. r.status) h.2 ∙ explained_status h.0)
+
+-- the status of the explanation is that of opening the archive
+pub opened : {limit : ℕ} {s : ElementSpec} {b : List ℕ} {result : Explanation} → Explains limit s b result → Opens limit s b result.status
+opened {limit} {s} {b} {result} e = opened_by limit s b result e.explains
 
 -- no status of a container's error is that of success
 pub container_status_above_0 : (e : ContainerError) → container_status e ≡ 0 → ⊥

@@ -63,9 +63,10 @@ explain_container_error (container.WrongChecksum expected found) =
     explained 47 (int 0) expected found
 
 -- `b` is valid and there is no error, or it is the first validation error
-abbrev pub Explains : ℕ → ElementSpec → List ℕ → Explanation → Type 0
-Explains limit s b result = (IsValidArchive limit s b × (result ≡ explained 0 (int 0) 0 0))
-    ⊎ ((e : VerifyError) × AccessFails limit s b e × (result ≡ explain e))
+pub record Explains (limit : ℕ) (s : ElementSpec) (b : List ℕ) (result : Explanation) : Type 0 where
+  pub explains : (IsValidArchive limit s b × (result ≡ explained 0 (int 0) 0 0))
+      ⊎ ((e : VerifyError) × AccessFails limit s b e × (result ≡ explain e))
+  pub accepts : IsValidArchive limit s b → result.status ≡ 0
 
 -- `b` is a container with these contents and there is no error, or it is the container's first one
 abbrev pub ExplainsAs : Contents → List ℕ → Explanation → Type 0

@@ -63,8 +63,9 @@ unfoldable pub use Containers.{AreUnknown, HasCodes, IsWrittenAs, MatchCodes, Op
 unfoldable pub use Containers.{OpensContainer, OpensOwn, OpensOwnCodes, ReadsWidth}
 unfoldable pub use Containers.{UpdatesContainer, WritesContainerHeader, codes_of}
 unfoldable pub use Containers.{container_width_by}
-unfoldable pub use Explanation.{Explains, ExplainsAs, ExplainsContainer, explain}
-unfoldable pub use Explanation.{explain_container_error, explained, nearest}
+unfoldable pub use Explanation.{ExplainsAs, ExplainsContainer, explain, explain_container_error}
+unfoldable pub use Explanation.{explained, nearest}
+pub use Explanation.{Explains}
 unfoldable pub use Sets.{FindsItem, FindsListedNumber, FindsListedText, FindsNumber, FindsText}
 unfoldable pub use Sets.{IsFoundStatus, IsNumberSet, IsTextSet, StoresNextNumberMembers}
 unfoldable pub use Sets.{StoresNextTextMembers, member_found, number_set, number_set_in, set_in}

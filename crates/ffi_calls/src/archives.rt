@@ -3,9 +3,10 @@
 ghost use Rattle.std.specs.Prelude.{length, ◌-◌, ◌≡◌};
 ghost use Rattle.rkyv_base.specs.{IsValidArchive, Viewable};
 ghost use Rattle.rkyv_collections.specs.{map_bytes, map_pos, map_root, map_spec};
-ghost use Rattle.ffi_calls.specs.{IsHeaderOf, IsMapArchive, Opens, map_in};
+ghost use Rattle.ffi_calls.specs.{Explains, IsHeaderOf, IsMapArchive, map_in};
 
-use crate::status::{DONE, verify_status};
+use crate::explanation::{Explanation, explain, explained};
+use crate::status::DONE;
 use rkyv_base::access::{access_in, access_unchecked};
 use rkyv_base::element::Element;
 use rkyv_base::width::Width;
@@ -13,15 +14,13 @@ use rkyv_collections::FxHasher64;
 use rkyv_collections::map::{ArchivedHashMap, HashMapOf};
 use rkyv_table::table::decoded::Decoded;
 
-/// Validates the archive of a map; returns `DONE` or the status of the first error.
-pub(crate) fn open_map<K: Element, V: Element, W: Width>(archive: &[u8]) -> u32
-    ensures status { Opens W.LIMIT (map_spec W.word K.spec V.spec) archive.now result }
-    ensures accepts { IsValidArchive W.LIMIT (map_spec W.word K.spec V.spec) archive.now
-        → result ≡ 0 }
+/// Validates the archive of a map, and returns the first error, if there is one.
+pub(crate) fn explain_map<K: Element, V: Element, W: Width>(archive: &[u8]) -> Explanation
+    ensures { Explains W.LIMIT (map_spec W.word K.spec V.spec) archive.now result }
 {
     match access_in::<W, HashMapOf<K, V, FxHasher64, W>>(archive) {
-        Ok(_) => DONE,
-        Err(e) => verify_status(&e),
+        Ok(_) => explained(DONE, 0, 0, 0),
+        Err(error) => explain(&error),
     }
 }
 

@@ -1,16 +1,9 @@
 //! Why an archive is invalid, or a container: the first error, with its numbers.
 
 ghost use Rattle.std.specs.Prelude.{◌≡◌};
-ghost use Rattle.rkyv_collections.specs.{map_spec};
-ghost use Rattle.ffi_calls.specs.{Explains, explain, explain_container_error, explained, nearest};
+ghost use Rattle.ffi_calls.specs.{explain, explain_container_error, explained, nearest};
 
-use crate::status::DONE;
-use rkyv_base::access::access_in;
-use rkyv_base::element::Element;
 use rkyv_base::errors::VerifyError;
-use rkyv_base::width::Width;
-use rkyv_collections::FxHasher64;
-use rkyv_collections::map::HashMapOf;
 use rkyv_container::errors::ContainerError;
 
 /// The status of an error, its position and its other numbers.
@@ -30,7 +23,7 @@ pub struct Explanation {
     pub second: u64,
 }
 
-// Returns the `i64` that is nearest to a position.
+/// Returns the `i64` that is nearest to a position.
 #[inline]
 fn nearest(pos: i128) -> i64
     ensures { result ≡ nearest pos }
@@ -38,7 +31,7 @@ fn nearest(pos: i128) -> i64
     pos.clamp(i128::from(i64::MIN), i128::from(i64::MAX)) as i64
 }
 
-// Returns an explanation with these numbers.
+/// Returns an explanation with these numbers.
 #[inline]
 pub(crate) fn explained(status: u32, position: i64, first: u64, second: u64) -> Explanation
     ensures { result ≡ explained status position first second }
@@ -51,7 +44,7 @@ pub(crate) fn explained(status: u32, position: i64, first: u64, second: u64) -> 
     }
 }
 
-// Returns the explanation of a validation error.
+/// Returns the explanation of a validation error.
 #[tactic(auto, unfolding(crate::specs::Explanation::explain))]
 pub(crate) fn explain(error: &VerifyError) -> Explanation
     ensures { result ≡ explain error.now }
@@ -77,7 +70,7 @@ pub(crate) fn explain(error: &VerifyError) -> Explanation
     }
 }
 
-// Returns the explanation of a container's error. Kinds, types and widths are their codes.
+/// Returns the explanation of a container's error. Kinds, types and widths are their codes.
 #[tactic(auto, unfolding(crate::specs::Explanation::explain_container_error))]
 pub(crate) fn explain_container_error(error: &ContainerError) -> Explanation
     ensures { result ≡ explain_container_error error.now }
@@ -109,15 +102,5 @@ pub(crate) fn explain_container_error(error: &ContainerError) -> Explanation
         ContainerError::WrongChecksum { expected, found } => {
             explained(47, 0, u64::from(*expected), u64::from(*found))
         }
-    }
-}
-
-/// Validates the archive of a map, and returns the first error, if there is one.
-pub(crate) fn explain_map<K: Element, V: Element, W: Width>(archive: &[u8]) -> Explanation
-    ensures { Explains W.LIMIT (map_spec W.word K.spec V.spec) archive.now result }
-{
-    match access_in::<W, HashMapOf<K, V, FxHasher64, W>>(archive) {
-        Ok(_) => explained(DONE, 0, 0, 0),
-        Err(error) => explain(&error),
     }
 }

@@ -1,17 +1,16 @@
 //! Index maps: their validation, the map in a valid archive, and lookups of keys.
 
 ghost use Rattle.std.specs.Prelude.{map, ◌≡◌};
-ghost use Rattle.rkyv_base.specs.{IsValidArchive};
 ghost use Rattle.rkyv_index.specs.{index_bytes, index_pos};
 ghost use Rattle.ffi_calls.specs.{Explains, IsHeaderOf, IsIndexArchive, IsIndexPair, IsPairAtIndex};
-ghost use Rattle.ffi_calls.specs.{Opens, ReturnsFirstIndexed, ReturnsIndexed, StoresListed};
+ghost use Rattle.ffi_calls.specs.{ReturnsFirstIndexed, ReturnsIndexed, StoresListed};
 ghost use Rattle.ffi_calls.specs.{StoresPairs, found_index, fx_pairs, index_at, index_in};
 ghost use Rattle.ffi_calls.specs.{index_map, index_root, query_of_key};
 
 use crate::explanation::{Explanation, explain, explained};
 use crate::pairs::{Indexed, IndexedOf, Pair, PairOf};
 use crate::reading::{ReadAs, StoresNative};
-use crate::status::{DONE, NOT_FOUND, verify_status};
+use crate::status::{DONE, NOT_FOUND};
 use rkyv_base::access::{access_in, access_unchecked};
 use rkyv_base::element::{Element, Represents};
 use rkyv_base::width::Width;
@@ -20,18 +19,6 @@ use rkyv_index::{ArchivedIndexMap, IndexMapOf};
 use rkyv_keys::keys::{KeyElement, NativeKey};
 use rkyv_scan::hash::FxHasher64;
 use rkyv_table::table::decoded::Decoded;
-
-/// Validates the archive of an index map; returns `DONE` or the status of the first error.
-pub(crate) fn open_index<K: Element, V: Element, W: Width>(archive: &[u8]) -> u32
-    ensures status { Opens W.LIMIT (index_map W.word K.spec V.spec) archive.now result }
-    ensures accepts { IsValidArchive W.LIMIT (index_map W.word K.spec V.spec) archive.now
-        → result ≡ 0 }
-{
-    match access_in::<W, IndexMapOf<K, V, FxHasher64, W>>(archive) {
-        Ok(_) => DONE,
-        Err(e) => verify_status(&e),
-    }
-}
 
 /// Validates the archive of an index map, and returns the first error, if there is one.
 pub(crate) fn explain_index<K: Element, V: Element, W: Width>(archive: &[u8]) -> Explanation

@@ -12,9 +12,7 @@ ghost use Rattle.ffi_calls.specs.{numbers_at};
 
 use crate::explanation::Explanation;
 use crate::form::Form;
-use crate::index::{
-    explain_index, find_in, index_header_of, open_index, pairs_in, typed_index_header,
-};
+use crate::index::{explain_index, find_in, index_header_of, pairs_in, typed_index_header};
 use crate::index_in_place::set_indexed_in;
 use crate::pairs::{IndexedOf, PairOf};
 use crate::reading::NumberKey;
@@ -30,12 +28,7 @@ pub fn open_index_numbers<K: NumberKey>(archive: &[u8], form: Form) -> u32
     ensures status { Opens (limit_of form.wide) (number_index K.NumberKey form) archive.now result }
     ensures accepts { IsNumberIndex K.NumberKey form archive.now → result ≡ 0 }
 {
-    match (form.long_values, form.wide) {
-        (false, false) => open_index::<K, u32, Narrow>(archive),
-        (true, false) => open_index::<K, u64, Narrow>(archive),
-        (false, true) => open_index::<K, u32, Wide>(archive),
-        (true, true) => open_index::<K, u64, Wide>(archive),
-    }
+    explain_index_numbers::<K>(archive, form).status
 }
 
 /// Validates the archive of an index map of numbers, and returns the first error with its numbers.

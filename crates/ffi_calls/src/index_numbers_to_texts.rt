@@ -10,9 +10,7 @@ ghost use Rattle.ffi_calls.specs.{StoresListedNumberTexts, StoresNumberTexts, li
 ghost use Rattle.ffi_calls.specs.{number_keys_at, number_text_index, number_text_index_in};
 
 use crate::explanation::Explanation;
-use crate::index::{
-    explain_index, find_in, index_header_of, open_index, pairs_in, typed_index_header,
-};
+use crate::index::{explain_index, find_in, index_header_of, pairs_in, typed_index_header};
 use crate::pairs::{IndexedOf, PairOf};
 use crate::reading::NumberKey;
 use rkyv_base::text::Text;
@@ -28,11 +26,7 @@ pub fn open_index_numbers_to_texts<K: NumberKey>(archive: &[u8], wide: bool) -> 
     ensures status { Opens (limit_of wide) (number_text_index K.NumberKey wide) archive.now result }
     ensures accepts { IsNumberTextIndex K.NumberKey wide archive.now → result ≡ 0 }
 {
-    if wide {
-        open_index::<K, Text<Wide>, Wide>(archive)
-    } else {
-        open_index::<K, Text<Narrow>, Narrow>(archive)
-    }
+    explain_index_numbers_to_texts::<K>(archive, wide).status
 }
 
 /// Validates the archive of an index map of numbers to texts, and returns the first error with its

@@ -13,9 +13,7 @@ ghost use Rattle.ffi_calls.specs.{text_index_in};
 
 use crate::explanation::Explanation;
 use crate::form::Form;
-use crate::index::{
-    explain_index, find_in, index_header_of, open_index, pairs_in, typed_index_header,
-};
+use crate::index::{explain_index, find_in, index_header_of, pairs_in, typed_index_header};
 use crate::index_in_place::set_indexed_in;
 use crate::pairs::{IndexedOf, PairOf};
 use crate::status::NOT_TEXT;
@@ -33,12 +31,7 @@ pub fn open_index_texts(archive: &[u8], form: Form) -> u32
     ensures status { Opens (limit_of form.wide) (text_index form) archive.now result }
     ensures accepts { IsTextIndex form archive.now → result ≡ 0 }
 {
-    match (form.long_values, form.wide) {
-        (false, false) => open_index::<Text<Narrow>, u32, Narrow>(archive),
-        (true, false) => open_index::<Text<Narrow>, u64, Narrow>(archive),
-        (false, true) => open_index::<Text<Wide>, u32, Wide>(archive),
-        (true, true) => open_index::<Text<Wide>, u64, Wide>(archive),
-    }
+    explain_index_texts(archive, form).status
 }
 
 /// Validates the archive of an index map of texts, and returns the first error with its numbers.

@@ -11,9 +11,7 @@ ghost use Rattle.ffi_calls.specs.{ReturnsIndexedTextOfText, StoresListedTextText
 ghost use Rattle.ffi_calls.specs.{limit_of, text_text_index, text_text_index_in};
 
 use crate::explanation::Explanation;
-use crate::index::{
-    explain_index, find_in, index_header_of, open_index, pairs_in, typed_index_header,
-};
+use crate::index::{explain_index, find_in, index_header_of, pairs_in, typed_index_header};
 use crate::pairs::{IndexedOf, PairOf};
 use crate::status::NOT_TEXT;
 use crate::texts::text_of;
@@ -30,11 +28,7 @@ pub fn open_index_texts_to_texts(archive: &[u8], wide: bool) -> u32
     ensures status { Opens (limit_of wide) (text_text_index wide) archive.now result }
     ensures accepts { IsTextTextIndex wide archive.now → result ≡ 0 }
 {
-    if wide {
-        open_index::<Text<Wide>, Text<Wide>, Wide>(archive)
-    } else {
-        open_index::<Text<Narrow>, Text<Narrow>, Narrow>(archive)
-    }
+    explain_index_texts_to_texts(archive, wide).status
 }
 
 /// Validates the archive of an index map of texts to texts, and returns the first error with its

@@ -10,9 +10,9 @@ ghost use Rattle.ffi_calls.specs.{NumberSetWriteFails, NumberSetWriteOk, Opens, 
 ghost use Rattle.ffi_calls.specs.{StoresNextNumberMembers, archive_width, limit_of, number_keys_at};
 ghost use Rattle.ffi_calls.specs.{number_set, number_set_in};
 
-use crate::archives::{header_of, open_map, typed_header};
+use crate::archives::{explain_map, header_of, typed_header};
 use crate::building::{Built, leak_into};
-use crate::explanation::{Explanation, explain_map};
+use crate::explanation::Explanation;
 use crate::pairs::StepOf;
 use crate::reading::NumberKey;
 use crate::sets::{contains_in, set_archive_of};
@@ -31,11 +31,7 @@ pub fn open_number_set<K: NumberKey>(archive: &[u8], wide: bool) -> u32
     ensures status { Opens (limit_of wide) (number_set K.NumberKey wide) archive.now result }
     ensures accepts { IsNumberSet K.NumberKey wide archive.now → result ≡ 0 }
 {
-    if wide {
-        open_map::<K, (), Wide>(archive)
-    } else {
-        open_map::<K, (), Narrow>(archive)
-    }
+    explain_number_set::<K>(archive, wide).status
 }
 
 /// Validates the archive of a set of numbers, and returns the first error with its numbers.

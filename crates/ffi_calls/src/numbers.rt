@@ -7,8 +7,8 @@ ghost use Rattle.ffi_calls.specs.{Explains, IsHeaderOf, IsNumberArchive, KeepsHe
 ghost use Rattle.ffi_calls.specs.{ReturnsFirstNumber, ReturnsNumber, SetsFirstNumber, SetsNumber};
 ghost use Rattle.ffi_calls.specs.{StoresNextNumbers, limit_of, number_map, numbers_at, numbers_in};
 
-use crate::archives::{header_of, open_map, typed_header};
-use crate::explanation::{Explanation, explain_map};
+use crate::archives::{explain_map, header_of, typed_header};
+use crate::explanation::Explanation;
 use crate::form::Form;
 use crate::lookup::{get_in, set_in};
 use crate::pairs::StepOf;
@@ -26,12 +26,7 @@ pub fn open_numbers<K: NumberKey>(archive: &[u8], form: Form) -> u32
     ensures status { Opens (limit_of form.wide) (number_map K.NumberKey form) archive.now result }
     ensures accepts { IsNumberArchive K.NumberKey form archive.now → result ≡ 0 }
 {
-    match (form.long_values, form.wide) {
-        (false, false) => open_map::<K, u32, Narrow>(archive),
-        (true, false) => open_map::<K, u64, Narrow>(archive),
-        (false, true) => open_map::<K, u32, Wide>(archive),
-        (true, true) => open_map::<K, u64, Wide>(archive),
-    }
+    explain_numbers::<K>(archive, form).status
 }
 
 /// Validates the archive of a map of numbers, and returns the first error with its numbers.

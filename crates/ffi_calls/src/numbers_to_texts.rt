@@ -9,8 +9,8 @@ ghost use Rattle.ffi_calls.specs.{ReturnsFirstTextOfNumber, ReturnsTextOfNumber}
 ghost use Rattle.ffi_calls.specs.{StoresNextNumberTexts, limit_of, number_keys_at, number_text_map};
 ghost use Rattle.ffi_calls.specs.{number_texts_in};
 
-use crate::archives::{header_of, open_map, typed_header};
-use crate::explanation::{Explanation, explain_map};
+use crate::archives::{explain_map, header_of, typed_header};
+use crate::explanation::Explanation;
 use crate::lookup::get_in;
 use crate::pairs::StepOf;
 use crate::reading::NumberKey;
@@ -28,11 +28,7 @@ pub fn open_numbers_to_texts<K: NumberKey>(archive: &[u8], wide: bool) -> u32
     ensures status { Opens (limit_of wide) (number_text_map K.NumberKey wide) archive.now result }
     ensures accepts { IsNumberTextArchive K.NumberKey wide archive.now → result ≡ 0 }
 {
-    if wide {
-        open_map::<K, Text<Wide>, Wide>(archive)
-    } else {
-        open_map::<K, Text<Narrow>, Narrow>(archive)
-    }
+    explain_numbers_to_texts::<K>(archive, wide).status
 }
 
 /// Validates the archive of a map of numbers to texts, and returns the first error with its

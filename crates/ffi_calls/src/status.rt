@@ -1,9 +1,9 @@
 //! The statuses that calls return.
 
 ghost use Rattle.std.specs.Prelude.{Err, MatchResult, Ok, ◌≡◌};
-ghost use Rattle.ffi_calls.specs.{container_status, verify_status, write_status};
+ghost use Rattle.ffi_calls.specs.{container_status, write_status};
 
-use rkyv_base::errors::{VerifyError, WriteError};
+use rkyv_base::errors::WriteError;
 use rkyv_base::writer::NoMemory;
 use rkyv_container::errors::ContainerError;
 
@@ -27,23 +27,6 @@ pub const NO_MEMORY: u32 = 12;
 
 /// The length in a container's header isn't the number of bytes behind the header.
 pub const WRONG_LENGTH: u32 = 46;
-
-/// Returns the status of a validation error: 16 to 23.
-#[tactic(auto, unfolding(crate::specs::Status::verify_status))]
-pub(crate) fn verify_status(error: &VerifyError) -> u32
-    ensures { result ≡ verify_status error.now }
-{
-    match error {
-        VerifyError::OutOfRange { .. } => 16,
-        VerifyError::Unaligned { .. } => 17,
-        VerifyError::InvalidLength { .. } => 18,
-        VerifyError::WrongNumberOfElements { .. } => 19,
-        VerifyError::UnwrappedControlByte { .. } => 20,
-        VerifyError::PlaceOutOfRange { .. } => 21,
-        VerifyError::InvalidValue { .. } => 22,
-        VerifyError::Refused(_) => 23,
-    }
-}
 
 /// Returns the status of a write error: `NO_MEMORY`, or 23 to 29.
 #[tactic(auto, unfolding(crate::specs::Status::write_status))]

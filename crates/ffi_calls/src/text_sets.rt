@@ -8,8 +8,8 @@ ghost use Rattle.ffi_calls.specs.{Explains, FindsListedText, FindsText, IsFoundS
 ghost use Rattle.ffi_calls.specs.{IsTextSet, Opens, StoresNextTextMembers, limit_of, member_found};
 ghost use Rattle.ffi_calls.specs.{text_set, text_set_in};
 
-use crate::archives::{header_of, open_map, typed_header};
-use crate::explanation::{Explanation, explain_map};
+use crate::archives::{explain_map, header_of, typed_header};
+use crate::explanation::Explanation;
 use crate::pairs::StepOf;
 use crate::sets::contains_in;
 use crate::status::NOT_TEXT;
@@ -28,11 +28,7 @@ pub fn open_text_set(archive: &[u8], wide: bool) -> u32
     ensures status { Opens (limit_of wide) (text_set wide) archive.now result }
     ensures accepts { IsTextSet wide archive.now → result ≡ 0 }
 {
-    if wide {
-        open_map::<Text<Wide>, (), Wide>(archive)
-    } else {
-        open_map::<Text<Narrow>, (), Narrow>(archive)
-    }
+    explain_text_set(archive, wide).status
 }
 
 /// Validates the archive of a set of texts, and returns the first error with its numbers.

@@ -10,8 +10,8 @@ ghost use Rattle.ffi_calls.specs.{Overwrites, ReadsWord, ReturnsAt, ReturnsFirst
 ghost use Rattle.ffi_calls.specs.{SetsFirstText, SetsText, StoresNextTexts, limit_of, text_found};
 ghost use Rattle.ffi_calls.specs.{text_map, texts_in, value_encoding, word_of};
 
-use crate::archives::{header_of, open_map, typed_header};
-use crate::explanation::{Explanation, explain_map};
+use crate::archives::{explain_map, header_of, typed_header};
+use crate::explanation::Explanation;
 use crate::form::Form;
 use crate::lookup::{get_in, set_in};
 use crate::pairs::StepOf;
@@ -45,12 +45,7 @@ pub fn open_texts(archive: &[u8], form: Form) -> u32
     ensures status { Opens (limit_of form.wide) (text_map form) archive.now result }
     ensures accepts { IsTextArchive form archive.now → result ≡ 0 }
 {
-    match (form.long_values, form.wide) {
-        (false, false) => open_map::<Text<Narrow>, u32, Narrow>(archive),
-        (true, false) => open_map::<Text<Narrow>, u64, Narrow>(archive),
-        (false, true) => open_map::<Text<Wide>, u32, Wide>(archive),
-        (true, true) => open_map::<Text<Wide>, u64, Wide>(archive),
-    }
+    explain_texts(archive, form).status
 }
 
 /// Validates the archive of a map of texts, and returns the first error with its numbers.

@@ -10,8 +10,8 @@ ghost use Rattle.ffi_calls.specs.{ReturnsFirstTextOfText, ReturnsTextAt, Returns
 ghost use Rattle.ffi_calls.specs.{StoresNextTextTexts, limit_of, text_of_text_found, text_text_map};
 ghost use Rattle.ffi_calls.specs.{text_texts_in};
 
-use crate::archives::{header_of, open_map, typed_header};
-use crate::explanation::{Explanation, explain_map};
+use crate::archives::{explain_map, header_of, typed_header};
+use crate::explanation::Explanation;
 use crate::lookup::get_in;
 use crate::pairs::StepOf;
 use crate::status::NOT_TEXT;
@@ -30,11 +30,7 @@ pub fn open_texts_to_texts(archive: &[u8], wide: bool) -> u32
     ensures status { Opens (limit_of wide) (text_text_map wide) archive.now result }
     ensures accepts { IsTextTextArchive wide archive.now → result ≡ 0 }
 {
-    if wide {
-        open_map::<Text<Wide>, Text<Wide>, Wide>(archive)
-    } else {
-        open_map::<Text<Narrow>, Text<Narrow>, Narrow>(archive)
-    }
+    explain_texts_to_texts(archive, wide).status
 }
 
 /// Validates the archive of a map of texts to texts, and returns the first error with its

@@ -1,16 +1,5 @@
-use Rattle.std.specs.Prelude.{◌≡◌}
-use Rattle.ffi_calls.specs.{IsTextSet, Opens, limit_of, text_set}
-use Rattle.ffi_calls.proofs.Forms.{at_flag}
+use Rattle.ffi_calls.proofs.Statuses.{opened}
 use Rattle.ffi_calls.proofs.text_sets.open_text_set.Goals as goal
 
-pub returns-then-wide-clause-status : goal.returns-then-wide-clause-status
-returns-then-wide-clause-status c = at_flag (λ f. Opens (limit_of f) (text_set f) c.args.archive.now c.open_map.result) c.if-wide.true c.open_map.ensures.status
-
-pub returns-then-wide-clause-accepts : goal.returns-then-wide-clause-accepts
-returns-then-wide-clause-accepts c = at_flag (λ f. IsTextSet f c.args.archive.now → c.open_map.result ≡ 0) c.if-wide.true c.open_map.ensures.accepts
-
-pub returns-else-wide-clause-status : goal.returns-else-wide-clause-status
-returns-else-wide-clause-status c = at_flag (λ f. Opens (limit_of f) (text_set f) c.args.archive.now c.open_map-else-wide.result) c.if-wide.false c.open_map-else-wide.ensures.status
-
-pub returns-else-wide-clause-accepts : goal.returns-else-wide-clause-accepts
-returns-else-wide-clause-accepts c = at_flag (λ f. IsTextSet f c.args.archive.now → c.open_map-else-wide.result ≡ 0) c.if-wide.false c.open_map-else-wide.ensures.accepts
+pub returns-clause-status : goal.returns-clause-status
+returns-clause-status c = opened c.explain_text_set.ensures
