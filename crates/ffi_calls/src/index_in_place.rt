@@ -33,8 +33,7 @@ fn index_found_in<A: NativeKey<K>, B, K: KeyElement + Represents<A>, V: Represen
 {
     lookups_find_listed::<A, B, K, V, FxHasher64, W>();
     let header = index_header_of::<K, V, W>(archive);
-    let (index, _, _) = index_of::<K, V, W>(archive, &header).get_full(key)?;
-    Some(index)
+    index_of::<K, V, W>(archive, &header).get_index_of(key)
 }
 
 /// Looks up a key in a valid archive, and overwrites its value in place.

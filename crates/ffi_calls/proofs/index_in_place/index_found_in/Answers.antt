@@ -1,4 +1,5 @@
-use Rattle.std.proofs.Common.{◌≡◌, ◌∙◌, ◌<◌, None, Some, subst, sym}
+use Rattle.std.proofs.Common.{◌≡◌, ◌<◌, IfSome, subst, sym}
+use Rattle.std.proofs.lemmas.Option.{IfSome_then}
 use Rattle.rkyv_index.specs.{IsFirst, index_bytes}
 use Rattle.ffi_calls.specs.{IndexRepresentsPairs, found_index, pair_count, query_of_key, query_pairs}
 use Rattle.ffi_calls.proofs.IndexFound.{of_same_map}
@@ -8,17 +9,12 @@ pub returns-clause-found : goal.returns-clause-found
 returns-clause-found g c =
     let calls = g.A.KeyHash.calls c.args.key.now in
     let fits = g.A.Query.fits c.args.key.now in
-    of_same_map (λ n. Some c.in_ok-index.index ≡ found_index n calls (fits n.bytes)) g.W.Word.word g.K.HasSpec.spec g.V.HasSpec.spec _ _ _ _ c.index_of.ensures.bytes c.index_of.ensures.pos c.in_ok-index.ensures.finds
-
-pub returns-in_err-index-clause-found : goal.returns-in_err-index-clause-found
-returns-in_err-index-clause-found g c =
-    let calls = g.A.KeyHash.calls c.args.key.now in
-    let fits = g.A.Query.fits c.args.key.now in
-    c.from_residual.ensures
-    ∙ of_same_map (λ n. None ≡ found_index n calls (fits n.bytes)) g.W.Word.word g.K.HasSpec.spec g.V.HasSpec.spec _ _ _ _ c.index_of.ensures.bytes c.index_of.ensures.pos c.in_err-index.ensures.finds
+    of_same_map (λ n. c.get_index_of.result ≡ found_index n calls (fits n.bytes)) g.W.Word.word g.K.HasSpec.spec g.V.HasSpec.spec _ _ _ _ c.index_of.ensures.bytes c.index_of.ensures.pos c.get_index_of.ensures.finds
 
 pub returns-clause-below : goal.returns-clause-below
-returns-clause-below g c = of_same_map (λ n. c.in_ok-index.index < pair_count n) g.W.Word.word g.K.HasSpec.spec g.V.HasSpec.spec _ _ _ _ c.index_of.ensures.bytes c.index_of.ensures.pos c.in_ok-index.ensures.walked.1.0.below
+returns-clause-below g c =
+    of_same_map (λ n. IfSome c.get_index_of.result (λ i. i < pair_count n)) g.W.Word.word g.K.HasSpec.spec g.V.HasSpec.spec _ _ _ _ c.index_of.ensures.bytes c.index_of.ensures.pos
+    (IfSome_then c.get_index_of.result c.get_index_of.ensures.walked (λ i stored. stored.1))
 
 pub returns-clause-first : goal.returns-clause-first
 returns-clause-first g c = λ factor pairs represents.
@@ -28,14 +24,4 @@ returns-clause-first g c = λ factor pairs represents.
     let query = query_of_key g.K.Represents.represents g.K.KeyElement.key_calls accepts in
     let here = of_same_map (λ n. IndexRepresentsPairs n (query_pairs n query g.V.Represents.represents) factor pairs) g.W.Word.word g.K.HasSpec.spec g.V.HasSpec.spec _ _ _ _ (sym c.index_of.ensures.bytes) (sym c.index_of.ensures.pos) represents in
     let listed = c.lookups_find_listed.ensures m fits accepts factor pairs (λ a q s there. g.met.A.NativeKey.native c.args.key.now a (index_bytes m) q s there) here in
-    subst (IsFirst accepts pairs) (sym (c.in_ok-index.ensures.first listed.homes listed.written)) listed.first
-
-pub returns-in_err-index-clause-first : goal.returns-in_err-index-clause-first
-returns-in_err-index-clause-first g c = λ factor pairs represents.
-    let m = c.index_of.result in
-    let accepts = g.A.PartialEq.eq c.args.key.now in
-    let fits = g.A.Query.fits c.args.key.now in
-    let query = query_of_key g.K.Represents.represents g.K.KeyElement.key_calls accepts in
-    let here = of_same_map (λ n. IndexRepresentsPairs n (query_pairs n query g.V.Represents.represents) factor pairs) g.W.Word.word g.K.HasSpec.spec g.V.HasSpec.spec _ _ _ _ (sym c.index_of.ensures.bytes) (sym c.index_of.ensures.pos) represents in
-    let listed = c.lookups_find_listed.ensures m fits accepts factor pairs (λ a q s there. g.met.A.NativeKey.native c.args.key.now a (index_bytes m) q s there) here in
-    subst (IsFirst accepts pairs) (sym (c.from_residual.ensures ∙ c.in_err-index.ensures.first listed.homes listed.written)) listed.first
+    subst (IsFirst accepts pairs) (sym (c.get_index_of.ensures.first listed.homes listed.written)) listed.first
