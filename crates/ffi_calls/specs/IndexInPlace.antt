@@ -8,8 +8,8 @@ use Rattle.rkyv_scan.specs.{HasherCall}
 use Rattle.rkyv_base.specs.{Encoding, ScalarRepresents}
 use Rattle.rkyv_collections.specs.{MapAt, ValueQuery}
 use Rattle.rkyv_index.specs.{IsFirst}
-use Rattle.ffi_calls.specs.Archives.{Overwrites, value_encoding, word_of}
-use Rattle.ffi_calls.specs.IndexArchives.{found_index, index_in, number_index_found}
+use Rattle.ffi_calls.specs.Archives.{KeepsHeader, Overwrites, value_encoding, word_of}
+use Rattle.ffi_calls.specs.IndexArchives.{IsTextIndex, found_index, index_in, number_index_found}
 use Rattle.ffi_calls.specs.IndexArchives.{number_index_in, text_index_found, text_index_in}
 use Rattle.ffi_calls.specs.IndexArchives.{value_pos_at}
 use Rattle.ffi_calls.specs.IndexLists.{IndexRepresentsPairs}
@@ -74,3 +74,10 @@ module _ (form : Form) (b key : List ℕ) where
   abbrev pub SetsFirstIndexedText : ℕ → ℕ → List ℕ → Type 0
   SetsFirstIndexedText = SetsFirstIndexed (text_index_in form b)
       (query_of_text (word_of form.wide) key) (value_encoding form)
+
+  -- `c` is `b` after an overwrite of the value of the text `key`: still valid, with the same header
+  pub record OverwritesIndexedText (value status : ℕ) (c : List ℕ) : Type 0 where
+    pub kept : IsTextIndex form c
+    pub header : KeepsHeader (text_index_in form b) (text_index_in form c)
+    pub sets : SetsIndexedText value status c
+    pub listed : SetsFirstIndexedText value status c

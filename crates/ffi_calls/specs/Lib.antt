@@ -36,6 +36,7 @@ pub use Lists.{ArchiveWidth}
 unfoldable pub use Listed.{FindsFirst, ReturnsFirstNumber, ReturnsFirstText, SetsFirstNumber}
 unfoldable pub use Listed.{SetsFirstText, TextRepresents, number_natives, query_of_number}
 unfoldable pub use Listed.{query_of_text, text_natives}
+pub use Listed.{OverwritesText}
 unfoldable pub use Items.{ArchiveOfNumbersFails, ArchiveOfTextsFails, ArePairsOfNumbers}
 unfoldable pub use Items.{ArePairsOfTexts, FirstUnfit, IsArchiveOfNumbers, IsArchiveOfTextPairs}
 unfoldable pub use Items.{IsArchiveOfTexts, NumberFits, NumbersWriteFails, NumbersWriteOk, Outputs}
@@ -96,6 +97,7 @@ pub use IndexItems.{IndexWidth}
 unfoldable pub use IndexInPlace.{FindsFirstIndex, SetsFirstIndexed, SetsFirstIndexedNumber}
 unfoldable pub use IndexInPlace.{SetsFirstIndexedText, SetsIndexedBytes, SetsIndexedNumber}
 unfoldable pub use IndexInPlace.{SetsIndexedText, value_found_in}
+pub use IndexInPlace.{OverwritesIndexedText}
 unfoldable pub use IndexTextValues.{IndexOfNumberTextsFails, IndexOfTextTextsFails, IndexWriteFails}
 unfoldable pub use IndexTextValues.{IndexWriteOk, IsIndexOfNumberTexts, IsIndexOfTextTexts}
 unfoldable pub use IndexTextValues.{IsNumberTextIndex, IsTextTextIndex, NumberTextIndexWriteFails}

@@ -51,8 +51,8 @@ pub(crate) fn typed_header<K: Element, V: Element, W: Width>(
     archive: &[u8],
     header: &Decoded,
 ) -> Decoded
-    requires archive { IsMapArchive W.word W.LIMIT K.spec V.spec archive.now }
-    requires header { IsHeaderOf (map_in W.word K.spec V.spec archive.now) header.now }
+    requires { IsMapArchive W.word W.LIMIT K.spec V.spec archive.now
+        × IsHeaderOf (map_in W.word K.spec V.spec archive.now) header.now }
     ensures archive { IsMapArchive W.word W.LIMIT K.spec V.spec archive.now }
     ensures header { IsHeaderOf (map_in W.word K.spec V.spec archive.now) result }
 {

@@ -46,8 +46,8 @@ pub(crate) fn typed_index_header<K: Element, V: Element, W: Width>(
     archive: &[u8],
     header: &Decoded,
 ) -> Decoded
-    requires archive { IsIndexArchive W.word W.LIMIT K.spec V.spec archive.now }
-    requires header { IsHeaderOf (index_in W.word K.spec V.spec archive.now) header.now }
+    requires { IsIndexArchive W.word W.LIMIT K.spec V.spec archive.now
+        × IsHeaderOf (index_in W.word K.spec V.spec archive.now) header.now }
     ensures archive { IsIndexArchive W.word W.LIMIT K.spec V.spec archive.now }
     ensures header { IsHeaderOf (index_in W.word K.spec V.spec archive.now) result }
 {

@@ -6,10 +6,10 @@
 ghost use Rattle.std.specs.Prelude.{map, ◌≡◌};
 ghost use Rattle.std.specs.Str.{IsUtf8};
 ghost use Rattle.ffi_calls.specs.{Explains, IsHeaderOf, IsTextIndex, KeepsHeader, Opens};
-ghost use Rattle.ffi_calls.specs.{ReturnsFirstIndexedText, ReturnsIndexedBytes, ReturnsIndexedText};
-ghost use Rattle.ffi_calls.specs.{SetsFirstIndexedText, SetsIndexedBytes, SetsIndexedText};
-ghost use Rattle.ffi_calls.specs.{StoresListedTexts, StoresTexts, limit_of, text_index};
-ghost use Rattle.ffi_calls.specs.{text_index_in};
+ghost use Rattle.ffi_calls.specs.{OverwritesIndexedText, ReturnsFirstIndexedText};
+ghost use Rattle.ffi_calls.specs.{ReturnsIndexedBytes, ReturnsIndexedText, SetsFirstIndexedText};
+ghost use Rattle.ffi_calls.specs.{SetsIndexedBytes, StoresListedTexts, StoresTexts, limit_of};
+ghost use Rattle.ffi_calls.specs.{text_index, text_index_in};
 
 use crate::explanation::Explanation;
 use crate::form::Form;
@@ -73,11 +73,9 @@ fn get_of<I: IndexedOf<u64>>(
 ) -> u32
     requires archive { IsTextIndex form archive.now }
     requires header { IsHeaderOf (text_index_in form archive.now) header.now }
-    ensures outcome { ReturnsIndexedText form archive.now key.now (I.indexed_of found.old) result
-        (I.indexed_of found.new) }
-    ensures listed { ReturnsFirstIndexedText form archive.now key.now (I.indexed_of found.old)
-        result
-        (I.indexed_of found.new) }
+    ensures { let i = I.indexed_of in
+        ReturnsIndexedText form archive.now key.now (i found.old) result (i found.new)
+        × ReturnsFirstIndexedText form archive.now key.now (i found.old) result (i found.new) }
 {
     match (form.long_values, form.wide) {
         (false, false) => find_in::<&str, u64, u32, I, Text<Narrow>, u32, Narrow>(
@@ -144,10 +142,7 @@ pub fn get_index_text<I: IndexedOf<u64>>(
 /// Looks up a text, and overwrites its value in place.
 fn set_of(archive: &mut [u8], form: Form, key: &str, value: u64) -> u32
     requires { IsTextIndex form archive.old }
-    ensures kept { IsTextIndex form archive.new }
-    ensures header { KeepsHeader (text_index_in form archive.old) (text_index_in form archive.new) }
-    ensures sets { SetsIndexedText form archive.old key.now value result archive.new }
-    ensures listed { SetsFirstIndexedText form archive.old key.now value result archive.new }
+    ensures { OverwritesIndexedText form archive.old key.now value result archive.new }
 {
     match (form.long_values, form.wide) {
         (false, false) => set_indexed_in::<&str, Text<Narrow>, u32, Narrow>(archive, &key, value),

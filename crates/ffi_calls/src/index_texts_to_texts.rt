@@ -69,11 +69,10 @@ fn get_of<'a, I: IndexedOf<&'a [u8]>>(
 ) -> u32
     requires archive { IsTextTextIndex wide archive.now }
     requires header { IsHeaderOf (text_text_index_in wide archive.now) header.now }
-    ensures outcome { ReturnsIndexedTextOfText wide archive.now key.now (I.indexed_of found.old)
-        result
-        (I.indexed_of found.new) }
-    ensures listed { ReturnsFirstIndexedTextOfText wide archive.now key.now (I.indexed_of found.old)
-        result (I.indexed_of found.new) }
+    ensures { let i = I.indexed_of in
+        ReturnsIndexedTextOfText wide archive.now key.now (i found.old) result (i found.new)
+        × ReturnsFirstIndexedTextOfText wide archive.now key.now (i found.old) result
+        (i found.new) }
 {
     if wide {
         find_in::<&str, &[u8], &str, I, Text<Wide>, Text<Wide>, Wide>(

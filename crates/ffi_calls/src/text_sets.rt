@@ -62,8 +62,8 @@ pub fn decode_text_set(archive: &[u8], wide: bool) -> Decoded
 fn contains_of(archive: &[u8], wide: bool, header: &Decoded, item: &str) -> u32
     requires archive { IsTextSet wide archive.now }
     requires header { IsHeaderOf (text_set_in wide archive.now) header.now }
-    ensures found { IsFoundStatus (member_found wide archive.now item.now) result }
-    ensures listed { FindsListedText wide archive.now item.now result }
+    ensures { IsFoundStatus (member_found wide archive.now item.now) result
+        × FindsListedText wide archive.now item.now result }
 {
     if wide {
         contains_in::<&str, Text<Wide>, Wide>(archive, header, &item)

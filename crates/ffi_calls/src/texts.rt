@@ -6,9 +6,9 @@
 ghost use Rattle.std.specs.Prelude.{IsTrue, MatchOption, map, ◌↔◌, ◌≡◌};
 ghost use Rattle.std.specs.Str.{IsUtf8};
 ghost use Rattle.ffi_calls.specs.{Explains, IsHeaderOf, IsTextArchive, KeepsHeader, Opens};
-ghost use Rattle.ffi_calls.specs.{Overwrites, ReadsWord, ReturnsAt, ReturnsFirstText, ReturnsText};
-ghost use Rattle.ffi_calls.specs.{SetsFirstText, SetsText, StoresNextTexts, limit_of, text_found};
-ghost use Rattle.ffi_calls.specs.{text_map, texts_in, value_encoding, word_of};
+ghost use Rattle.ffi_calls.specs.{OverwritesText, ReadsWord, ReturnsAt, ReturnsFirstText};
+ghost use Rattle.ffi_calls.specs.{ReturnsText, SetsFirstText, SetsText, StoresNextTexts, limit_of};
+ghost use Rattle.ffi_calls.specs.{text_found, text_map, texts_in, word_of};
 
 use crate::archives::{explain_map, header_of, typed_header};
 use crate::explanation::Explanation;
@@ -81,9 +81,9 @@ pub fn decode_texts(archive: &[u8], form: Form) -> Decoded
 fn get_of(archive: &[u8], form: Form, header: &Decoded, key: &str, value: &mut u64) -> u32
     requires archive { IsTextArchive form archive.now }
     requires header { IsHeaderOf (texts_in form archive.now) header.now }
-    ensures outcome { ReturnsAt (ReadsWord (word_of form.long_values) archive.now)
-        (text_found form archive.now key.now) value.old result value.new }
-    ensures listed { ReturnsFirstText form archive.now key.now value.old result value.new }
+    ensures { ReturnsAt (ReadsWord (word_of form.long_values) archive.now)
+        (text_found form archive.now key.now) value.old result value.new
+        × ReturnsFirstText form archive.now key.now value.old result value.new }
 {
     match (form.long_values, form.wide) {
         (false, false) => get_in::<&str, u64, u32, Text<Narrow>, u32, Narrow>(
@@ -142,11 +142,7 @@ pub fn get_text(archive: &[u8], form: Form, header: &Decoded, key: &[u8], value:
 /// Looks up a text, and overwrites its value in place.
 fn set_of(archive: &mut [u8], form: Form, key: &str, value: u64) -> u32
     requires { IsTextArchive form archive.old }
-    ensures kept { IsTextArchive form archive.new }
-    ensures header { KeepsHeader (texts_in form archive.old) (texts_in form archive.new) }
-    ensures sets { Overwrites (value_encoding form) archive.old
-        (text_found form archive.old key.now) value result archive.new }
-    ensures listed { SetsFirstText form archive.old key.now value result archive.new }
+    ensures { OverwritesText form archive.old key.now value result archive.new }
 {
     match (form.long_values, form.wide) {
         (false, false) => set_in::<&str, Text<Narrow>, u32, Narrow>(archive, &key, value),

@@ -71,9 +71,9 @@ fn get_of<'a>(
 ) -> u32
     requires archive { IsTextTextArchive wide archive.now }
     requires header { IsHeaderOf (text_texts_in wide archive.now) header.now }
-    ensures outcome { ReturnsTextAt (text_texts_in wide archive.now)
-        (text_of_text_found wide archive.now key.now) value.old result value.new }
-    ensures listed { ReturnsFirstTextOfText wide archive.now key.now value.old result value.new }
+    ensures { ReturnsTextAt (text_texts_in wide archive.now)
+        (text_of_text_found wide archive.now key.now) value.old result value.new
+        × ReturnsFirstTextOfText wide archive.now key.now value.old result value.new }
 {
     if wide {
         get_in::<&str, &[u8], &str, Text<Wide>, Text<Wide>, Wide>(

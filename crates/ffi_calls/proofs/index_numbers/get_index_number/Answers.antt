@@ -2,29 +2,17 @@ use Rattle.ffi_calls.specs.{IsHeaderOf, IsNumberIndex, ReturnsFirstIndexedNumber
 use Rattle.ffi_calls.proofs.Forms.{at_form, of_form}
 use Rattle.ffi_calls.proofs.index_numbers.get_index_number.Goals as goal
 
-pub typed_index_header-requires-clause-archive : goal.typed_index_header-requires-clause-archive
-typed_index_header-requires-clause-archive g c = of_form (λ f. IsNumberIndex (key_by g.K.PartialEq.eq g.K.HasSpec.spec g.K.Scalar.encoding g.K.ScalarKey.call) f c.args.archive.now) c.args.form c.in-true-true.is-0 c.in-true-true.is-1 c.requires.archive
+pub typed_index_header-requires : goal.typed_index_header-requires
+typed_index_header-requires g c = of_form (λ f. IsNumberIndex (key_by g.K.PartialEq.eq g.K.HasSpec.spec g.K.Scalar.encoding g.K.ScalarKey.call) f c.args.archive.now × IsHeaderOf (number_index_in (key_by g.K.PartialEq.eq g.K.HasSpec.spec g.K.Scalar.encoding g.K.ScalarKey.call) f c.args.archive.now) c.args.header.now) c.args.form c.in-true-true.is-0 c.in-true-true.is-1 (c.requires.archive, c.requires.header)
 
-pub typed_index_header-requires-clause-header : goal.typed_index_header-requires-clause-header
-typed_index_header-requires-clause-header g c = of_form (λ f. IsHeaderOf (number_index_in (key_by g.K.PartialEq.eq g.K.HasSpec.spec g.K.Scalar.encoding g.K.ScalarKey.call) f c.args.archive.now) c.args.header.now) c.args.form c.in-true-true.is-0 c.in-true-true.is-1 c.requires.header
+pub typed_index_header-requires-in-true-false : goal.typed_index_header-requires-in-true-false
+typed_index_header-requires-in-true-false g c = of_form (λ f. IsNumberIndex (key_by g.K.PartialEq.eq g.K.HasSpec.spec g.K.Scalar.encoding g.K.ScalarKey.call) f c.args.archive.now × IsHeaderOf (number_index_in (key_by g.K.PartialEq.eq g.K.HasSpec.spec g.K.Scalar.encoding g.K.ScalarKey.call) f c.args.archive.now) c.args.header.now) c.args.form c.in-true-false.is-0 c.in-true-false.is-1 (c.requires.archive, c.requires.header)
 
-pub typed_index_header-requires-in-true-false-clause-archive : goal.typed_index_header-requires-in-true-false-clause-archive
-typed_index_header-requires-in-true-false-clause-archive g c = of_form (λ f. IsNumberIndex (key_by g.K.PartialEq.eq g.K.HasSpec.spec g.K.Scalar.encoding g.K.ScalarKey.call) f c.args.archive.now) c.args.form c.in-true-false.is-0 c.in-true-false.is-1 c.requires.archive
+pub typed_index_header-requires-in-false-true : goal.typed_index_header-requires-in-false-true
+typed_index_header-requires-in-false-true g c = of_form (λ f. IsNumberIndex (key_by g.K.PartialEq.eq g.K.HasSpec.spec g.K.Scalar.encoding g.K.ScalarKey.call) f c.args.archive.now × IsHeaderOf (number_index_in (key_by g.K.PartialEq.eq g.K.HasSpec.spec g.K.Scalar.encoding g.K.ScalarKey.call) f c.args.archive.now) c.args.header.now) c.args.form c.in-false-true.is-0 c.in-false-true.is-1 (c.requires.archive, c.requires.header)
 
-pub typed_index_header-requires-in-true-false-clause-header : goal.typed_index_header-requires-in-true-false-clause-header
-typed_index_header-requires-in-true-false-clause-header g c = of_form (λ f. IsHeaderOf (number_index_in (key_by g.K.PartialEq.eq g.K.HasSpec.spec g.K.Scalar.encoding g.K.ScalarKey.call) f c.args.archive.now) c.args.header.now) c.args.form c.in-true-false.is-0 c.in-true-false.is-1 c.requires.header
-
-pub typed_index_header-requires-in-false-true-clause-archive : goal.typed_index_header-requires-in-false-true-clause-archive
-typed_index_header-requires-in-false-true-clause-archive g c = of_form (λ f. IsNumberIndex (key_by g.K.PartialEq.eq g.K.HasSpec.spec g.K.Scalar.encoding g.K.ScalarKey.call) f c.args.archive.now) c.args.form c.in-false-true.is-0 c.in-false-true.is-1 c.requires.archive
-
-pub typed_index_header-requires-in-false-true-clause-header : goal.typed_index_header-requires-in-false-true-clause-header
-typed_index_header-requires-in-false-true-clause-header g c = of_form (λ f. IsHeaderOf (number_index_in (key_by g.K.PartialEq.eq g.K.HasSpec.spec g.K.Scalar.encoding g.K.ScalarKey.call) f c.args.archive.now) c.args.header.now) c.args.form c.in-false-true.is-0 c.in-false-true.is-1 c.requires.header
-
-pub typed_index_header-requires-in-false-false-clause-archive : goal.typed_index_header-requires-in-false-false-clause-archive
-typed_index_header-requires-in-false-false-clause-archive g c = of_form (λ f. IsNumberIndex (key_by g.K.PartialEq.eq g.K.HasSpec.spec g.K.Scalar.encoding g.K.ScalarKey.call) f c.args.archive.now) c.args.form c.in-false-false.is-0 c.in-false-false.is-1 c.requires.archive
-
-pub typed_index_header-requires-in-false-false-clause-header : goal.typed_index_header-requires-in-false-false-clause-header
-typed_index_header-requires-in-false-false-clause-header g c = of_form (λ f. IsHeaderOf (number_index_in (key_by g.K.PartialEq.eq g.K.HasSpec.spec g.K.Scalar.encoding g.K.ScalarKey.call) f c.args.archive.now) c.args.header.now) c.args.form c.in-false-false.is-0 c.in-false-false.is-1 c.requires.header
+pub typed_index_header-requires-in-false-false : goal.typed_index_header-requires-in-false-false
+typed_index_header-requires-in-false-false g c = of_form (λ f. IsNumberIndex (key_by g.K.PartialEq.eq g.K.HasSpec.spec g.K.Scalar.encoding g.K.ScalarKey.call) f c.args.archive.now × IsHeaderOf (number_index_in (key_by g.K.PartialEq.eq g.K.HasSpec.spec g.K.Scalar.encoding g.K.ScalarKey.call) f c.args.archive.now) c.args.header.now) c.args.form c.in-false-false.is-0 c.in-false-false.is-1 (c.requires.archive, c.requires.header)
 
 pub returns-in-true-true-clause-outcome : goal.returns-in-true-true-clause-outcome
 returns-in-true-true-clause-outcome g c = at_form (λ f. ReturnsIndexedNumber (numbers_at (key_by g.K.PartialEq.eq g.K.HasSpec.spec g.K.Scalar.encoding g.K.ScalarKey.call) f c.args.archive.now) c.args.key (g.I.IndexedOf.indexed_of c.args.found.now) c.find_in.result (g.I.IndexedOf.indexed_of c.find_in.new.found)) c.args.form c.in-true-true.is-0 c.in-true-true.is-1 c.find_in.ensures.outcome

@@ -3,17 +3,11 @@ use Rattle.ffi_calls.specs.{IsHeaderOf, IsNumberTextIndex, StoresListedNumberTex
 use Rattle.ffi_calls.proofs.Forms.{at_flag, of_flag}
 use Rattle.ffi_calls.proofs.index_numbers_to_texts.index_number_texts_from.Goals as goal
 
-pub typed_index_header-requires-clause-archive : goal.typed_index_header-requires-clause-archive
-typed_index_header-requires-clause-archive g c = of_flag (λ f. IsNumberTextIndex (key_by g.K.PartialEq.eq g.K.HasSpec.spec g.K.Scalar.encoding g.K.ScalarKey.call) f c.args.archive.now) c.if-wide.true c.requires.archive
+pub typed_index_header-requires : goal.typed_index_header-requires
+typed_index_header-requires g c = of_flag (λ f. IsNumberTextIndex (key_by g.K.PartialEq.eq g.K.HasSpec.spec g.K.Scalar.encoding g.K.ScalarKey.call) f c.args.archive.now × IsHeaderOf (number_text_index_in (key_by g.K.PartialEq.eq g.K.HasSpec.spec g.K.Scalar.encoding g.K.ScalarKey.call) f c.args.archive.now) c.args.header.now) c.if-wide.true (c.requires.archive, c.requires.header)
 
-pub typed_index_header-requires-clause-header : goal.typed_index_header-requires-clause-header
-typed_index_header-requires-clause-header g c = of_flag (λ f. IsHeaderOf (number_text_index_in (key_by g.K.PartialEq.eq g.K.HasSpec.spec g.K.Scalar.encoding g.K.ScalarKey.call) f c.args.archive.now) c.args.header.now) c.if-wide.true c.requires.header
-
-pub typed_index_header-requires-else-wide-clause-archive : goal.typed_index_header-requires-else-wide-clause-archive
-typed_index_header-requires-else-wide-clause-archive g c = of_flag (λ f. IsNumberTextIndex (key_by g.K.PartialEq.eq g.K.HasSpec.spec g.K.Scalar.encoding g.K.ScalarKey.call) f c.args.archive.now) c.if-wide.false c.requires.archive
-
-pub typed_index_header-requires-else-wide-clause-header : goal.typed_index_header-requires-else-wide-clause-header
-typed_index_header-requires-else-wide-clause-header g c = of_flag (λ f. IsHeaderOf (number_text_index_in (key_by g.K.PartialEq.eq g.K.HasSpec.spec g.K.Scalar.encoding g.K.ScalarKey.call) f c.args.archive.now) c.args.header.now) c.if-wide.false c.requires.header
+pub typed_index_header-requires-else-wide : goal.typed_index_header-requires-else-wide
+typed_index_header-requires-else-wide g c = of_flag (λ f. IsNumberTextIndex (key_by g.K.PartialEq.eq g.K.HasSpec.spec g.K.Scalar.encoding g.K.ScalarKey.call) f c.args.archive.now × IsHeaderOf (number_text_index_in (key_by g.K.PartialEq.eq g.K.HasSpec.spec g.K.Scalar.encoding g.K.ScalarKey.call) f c.args.archive.now) c.args.header.now) c.if-wide.false (c.requires.archive, c.requires.header)
 
 pub returns-then-wide-clause-stores : goal.returns-then-wide-clause-stores
 returns-then-wide-clause-stores g c = at_flag (λ f. StoresNumberTexts (number_keys_at (key_by g.K.PartialEq.eq g.K.HasSpec.spec g.K.Scalar.encoding g.K.ScalarKey.call) f c.args.archive.now) c.args.from (map g.P.PairOf.pair_of c.args.pairs.now) c.pairs_in.result (map g.P.PairOf.pair_of c.pairs_in.new.pairs)) c.if-wide.true c.pairs_in.ensures.stores

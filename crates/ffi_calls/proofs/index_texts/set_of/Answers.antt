@@ -1,63 +1,27 @@
-use Rattle.ffi_calls.specs.{IsTextIndex, KeepsHeader, SetsFirstIndexedText, SetsIndexedText, text_index_in}
+use Rattle.ffi_calls.specs.{IsTextIndex, OverwritesIndexedText}
 use Rattle.ffi_calls.proofs.Forms.{at_form, of_form}
 use Rattle.ffi_calls.proofs.index_texts.set_of.Goals as goal
 
-pub returns-in-true-true-clause-kept : goal.returns-in-true-true-clause-kept
-returns-in-true-true-clause-kept c = at_form (λ f. IsTextIndex f c.set_indexed_in.new.archive) c.args.form c.in-true-true.is-0 c.in-true-true.is-1 c.set_indexed_in.ensures.kept
-
-pub returns-in-true-true-clause-header : goal.returns-in-true-true-clause-header
-returns-in-true-true-clause-header c = at_form (λ f. KeepsHeader (text_index_in f c.args.archive.now) (text_index_in f c.set_indexed_in.new.archive)) c.args.form c.in-true-true.is-0 c.in-true-true.is-1 c.set_indexed_in.ensures.header
-
-pub returns-in-true-true-clause-sets : goal.returns-in-true-true-clause-sets
-returns-in-true-true-clause-sets c = at_form (λ f. SetsIndexedText f c.args.archive.now c.args.key.now c.args.value c.set_indexed_in.result c.set_indexed_in.new.archive) c.args.form c.in-true-true.is-0 c.in-true-true.is-1 c.set_indexed_in.ensures.sets
-
-pub returns-in-true-true-clause-listed : goal.returns-in-true-true-clause-listed
-returns-in-true-true-clause-listed c = at_form (λ f. SetsFirstIndexedText f c.args.archive.now c.args.key.now c.args.value c.set_indexed_in.result c.set_indexed_in.new.archive) c.args.form c.in-true-true.is-0 c.in-true-true.is-1 c.set_indexed_in.ensures.listed
+pub returns-in-true-true : goal.returns-in-true-true
+returns-in-true-true c = at_form (λ f. OverwritesIndexedText f c.args.archive.now c.args.key.now c.args.value c.set_indexed_in.result c.set_indexed_in.new.archive) c.args.form c.in-true-true.is-0 c.in-true-true.is-1 (record { kept = c.set_indexed_in.ensures.kept; header = c.set_indexed_in.ensures.header; sets = c.set_indexed_in.ensures.sets; listed = c.set_indexed_in.ensures.listed })
 
 pub set_indexed_in-requires-clause-archive : goal.set_indexed_in-requires-clause-archive
 set_indexed_in-requires-clause-archive c = of_form (λ f. IsTextIndex f c.args.archive.now) c.args.form c.in-true-true.is-0 c.in-true-true.is-1 c.requires
 
-pub returns-in-true-false-clause-kept : goal.returns-in-true-false-clause-kept
-returns-in-true-false-clause-kept c = at_form (λ f. IsTextIndex f c.set_indexed_in-in-true-false.new.archive) c.args.form c.in-true-false.is-0 c.in-true-false.is-1 c.set_indexed_in-in-true-false.ensures.kept
-
-pub returns-in-true-false-clause-header : goal.returns-in-true-false-clause-header
-returns-in-true-false-clause-header c = at_form (λ f. KeepsHeader (text_index_in f c.args.archive.now) (text_index_in f c.set_indexed_in-in-true-false.new.archive)) c.args.form c.in-true-false.is-0 c.in-true-false.is-1 c.set_indexed_in-in-true-false.ensures.header
-
-pub returns-in-true-false-clause-sets : goal.returns-in-true-false-clause-sets
-returns-in-true-false-clause-sets c = at_form (λ f. SetsIndexedText f c.args.archive.now c.args.key.now c.args.value c.set_indexed_in-in-true-false.result c.set_indexed_in-in-true-false.new.archive) c.args.form c.in-true-false.is-0 c.in-true-false.is-1 c.set_indexed_in-in-true-false.ensures.sets
-
-pub returns-in-true-false-clause-listed : goal.returns-in-true-false-clause-listed
-returns-in-true-false-clause-listed c = at_form (λ f. SetsFirstIndexedText f c.args.archive.now c.args.key.now c.args.value c.set_indexed_in-in-true-false.result c.set_indexed_in-in-true-false.new.archive) c.args.form c.in-true-false.is-0 c.in-true-false.is-1 c.set_indexed_in-in-true-false.ensures.listed
+pub returns-in-true-false : goal.returns-in-true-false
+returns-in-true-false c = at_form (λ f. OverwritesIndexedText f c.args.archive.now c.args.key.now c.args.value c.set_indexed_in-in-true-false.result c.set_indexed_in-in-true-false.new.archive) c.args.form c.in-true-false.is-0 c.in-true-false.is-1 (record { kept = c.set_indexed_in-in-true-false.ensures.kept; header = c.set_indexed_in-in-true-false.ensures.header; sets = c.set_indexed_in-in-true-false.ensures.sets; listed = c.set_indexed_in-in-true-false.ensures.listed })
 
 pub set_indexed_in-requires-in-true-false-clause-archive : goal.set_indexed_in-requires-in-true-false-clause-archive
 set_indexed_in-requires-in-true-false-clause-archive c = of_form (λ f. IsTextIndex f c.args.archive.now) c.args.form c.in-true-false.is-0 c.in-true-false.is-1 c.requires
 
-pub returns-in-false-true-clause-kept : goal.returns-in-false-true-clause-kept
-returns-in-false-true-clause-kept c = at_form (λ f. IsTextIndex f c.set_indexed_in-in-false-true.new.archive) c.args.form c.in-false-true.is-0 c.in-false-true.is-1 c.set_indexed_in-in-false-true.ensures.kept
-
-pub returns-in-false-true-clause-header : goal.returns-in-false-true-clause-header
-returns-in-false-true-clause-header c = at_form (λ f. KeepsHeader (text_index_in f c.args.archive.now) (text_index_in f c.set_indexed_in-in-false-true.new.archive)) c.args.form c.in-false-true.is-0 c.in-false-true.is-1 c.set_indexed_in-in-false-true.ensures.header
-
-pub returns-in-false-true-clause-sets : goal.returns-in-false-true-clause-sets
-returns-in-false-true-clause-sets c = at_form (λ f. SetsIndexedText f c.args.archive.now c.args.key.now c.args.value c.set_indexed_in-in-false-true.result c.set_indexed_in-in-false-true.new.archive) c.args.form c.in-false-true.is-0 c.in-false-true.is-1 c.set_indexed_in-in-false-true.ensures.sets
-
-pub returns-in-false-true-clause-listed : goal.returns-in-false-true-clause-listed
-returns-in-false-true-clause-listed c = at_form (λ f. SetsFirstIndexedText f c.args.archive.now c.args.key.now c.args.value c.set_indexed_in-in-false-true.result c.set_indexed_in-in-false-true.new.archive) c.args.form c.in-false-true.is-0 c.in-false-true.is-1 c.set_indexed_in-in-false-true.ensures.listed
+pub returns-in-false-true : goal.returns-in-false-true
+returns-in-false-true c = at_form (λ f. OverwritesIndexedText f c.args.archive.now c.args.key.now c.args.value c.set_indexed_in-in-false-true.result c.set_indexed_in-in-false-true.new.archive) c.args.form c.in-false-true.is-0 c.in-false-true.is-1 (record { kept = c.set_indexed_in-in-false-true.ensures.kept; header = c.set_indexed_in-in-false-true.ensures.header; sets = c.set_indexed_in-in-false-true.ensures.sets; listed = c.set_indexed_in-in-false-true.ensures.listed })
 
 pub set_indexed_in-requires-in-false-true-clause-archive : goal.set_indexed_in-requires-in-false-true-clause-archive
 set_indexed_in-requires-in-false-true-clause-archive c = of_form (λ f. IsTextIndex f c.args.archive.now) c.args.form c.in-false-true.is-0 c.in-false-true.is-1 c.requires
 
-pub returns-in-false-false-clause-kept : goal.returns-in-false-false-clause-kept
-returns-in-false-false-clause-kept c = at_form (λ f. IsTextIndex f c.set_indexed_in-in-false-false.new.archive) c.args.form c.in-false-false.is-0 c.in-false-false.is-1 c.set_indexed_in-in-false-false.ensures.kept
-
-pub returns-in-false-false-clause-header : goal.returns-in-false-false-clause-header
-returns-in-false-false-clause-header c = at_form (λ f. KeepsHeader (text_index_in f c.args.archive.now) (text_index_in f c.set_indexed_in-in-false-false.new.archive)) c.args.form c.in-false-false.is-0 c.in-false-false.is-1 c.set_indexed_in-in-false-false.ensures.header
-
-pub returns-in-false-false-clause-sets : goal.returns-in-false-false-clause-sets
-returns-in-false-false-clause-sets c = at_form (λ f. SetsIndexedText f c.args.archive.now c.args.key.now c.args.value c.set_indexed_in-in-false-false.result c.set_indexed_in-in-false-false.new.archive) c.args.form c.in-false-false.is-0 c.in-false-false.is-1 c.set_indexed_in-in-false-false.ensures.sets
-
-pub returns-in-false-false-clause-listed : goal.returns-in-false-false-clause-listed
-returns-in-false-false-clause-listed c = at_form (λ f. SetsFirstIndexedText f c.args.archive.now c.args.key.now c.args.value c.set_indexed_in-in-false-false.result c.set_indexed_in-in-false-false.new.archive) c.args.form c.in-false-false.is-0 c.in-false-false.is-1 c.set_indexed_in-in-false-false.ensures.listed
+pub returns-in-false-false : goal.returns-in-false-false
+returns-in-false-false c = at_form (λ f. OverwritesIndexedText f c.args.archive.now c.args.key.now c.args.value c.set_indexed_in-in-false-false.result c.set_indexed_in-in-false-false.new.archive) c.args.form c.in-false-false.is-0 c.in-false-false.is-1 (record { kept = c.set_indexed_in-in-false-false.ensures.kept; header = c.set_indexed_in-in-false-false.ensures.header; sets = c.set_indexed_in-in-false-false.ensures.sets; listed = c.set_indexed_in-in-false-false.ensures.listed })
 
 pub set_indexed_in-requires-in-false-false-clause-archive : goal.set_indexed_in-requires-in-false-false-clause-archive
 set_indexed_in-requires-in-false-false-clause-archive c = of_form (λ f. IsTextIndex f c.args.archive.now) c.args.form c.in-false-false.is-0 c.in-false-false.is-1 c.requires

@@ -3,29 +3,17 @@ use Rattle.ffi_calls.specs.{IsHeaderOf, IsTextArchive, StoresNextTexts, texts_in
 use Rattle.ffi_calls.proofs.Forms.{at_form, of_form}
 use Rattle.ffi_calls.proofs.texts.next_texts.Goals as goal
 
-pub typed_header-requires-clause-archive : goal.typed_header-requires-clause-archive
-typed_header-requires-clause-archive g c = of_form (λ f. IsTextArchive f c.args.archive.now) c.args.form c.in-true-true.is-0 c.in-true-true.is-1 c.requires.archive
+pub typed_header-requires : goal.typed_header-requires
+typed_header-requires g c = of_form (λ f. IsTextArchive f c.args.archive.now × IsHeaderOf (texts_in f c.args.archive.now) c.args.header.now) c.args.form c.in-true-true.is-0 c.in-true-true.is-1 (c.requires.archive, c.requires.header)
 
-pub typed_header-requires-clause-header : goal.typed_header-requires-clause-header
-typed_header-requires-clause-header g c = of_form (λ f. IsHeaderOf (texts_in f c.args.archive.now) c.args.header.now) c.args.form c.in-true-true.is-0 c.in-true-true.is-1 c.requires.header
+pub typed_header-requires-in-true-false : goal.typed_header-requires-in-true-false
+typed_header-requires-in-true-false g c = of_form (λ f. IsTextArchive f c.args.archive.now × IsHeaderOf (texts_in f c.args.archive.now) c.args.header.now) c.args.form c.in-true-false.is-0 c.in-true-false.is-1 (c.requires.archive, c.requires.header)
 
-pub typed_header-requires-in-true-false-clause-archive : goal.typed_header-requires-in-true-false-clause-archive
-typed_header-requires-in-true-false-clause-archive g c = of_form (λ f. IsTextArchive f c.args.archive.now) c.args.form c.in-true-false.is-0 c.in-true-false.is-1 c.requires.archive
+pub typed_header-requires-in-false-true : goal.typed_header-requires-in-false-true
+typed_header-requires-in-false-true g c = of_form (λ f. IsTextArchive f c.args.archive.now × IsHeaderOf (texts_in f c.args.archive.now) c.args.header.now) c.args.form c.in-false-true.is-0 c.in-false-true.is-1 (c.requires.archive, c.requires.header)
 
-pub typed_header-requires-in-true-false-clause-header : goal.typed_header-requires-in-true-false-clause-header
-typed_header-requires-in-true-false-clause-header g c = of_form (λ f. IsHeaderOf (texts_in f c.args.archive.now) c.args.header.now) c.args.form c.in-true-false.is-0 c.in-true-false.is-1 c.requires.header
-
-pub typed_header-requires-in-false-true-clause-archive : goal.typed_header-requires-in-false-true-clause-archive
-typed_header-requires-in-false-true-clause-archive g c = of_form (λ f. IsTextArchive f c.args.archive.now) c.args.form c.in-false-true.is-0 c.in-false-true.is-1 c.requires.archive
-
-pub typed_header-requires-in-false-true-clause-header : goal.typed_header-requires-in-false-true-clause-header
-typed_header-requires-in-false-true-clause-header g c = of_form (λ f. IsHeaderOf (texts_in f c.args.archive.now) c.args.header.now) c.args.form c.in-false-true.is-0 c.in-false-true.is-1 c.requires.header
-
-pub typed_header-requires-in-false-false-clause-archive : goal.typed_header-requires-in-false-false-clause-archive
-typed_header-requires-in-false-false-clause-archive g c = of_form (λ f. IsTextArchive f c.args.archive.now) c.args.form c.in-false-false.is-0 c.in-false-false.is-1 c.requires.archive
-
-pub typed_header-requires-in-false-false-clause-header : goal.typed_header-requires-in-false-false-clause-header
-typed_header-requires-in-false-false-clause-header g c = of_form (λ f. IsHeaderOf (texts_in f c.args.archive.now) c.args.header.now) c.args.form c.in-false-false.is-0 c.in-false-false.is-1 c.requires.header
+pub typed_header-requires-in-false-false : goal.typed_header-requires-in-false-false
+typed_header-requires-in-false-false g c = of_form (λ f. IsTextArchive f c.args.archive.now × IsHeaderOf (texts_in f c.args.archive.now) c.args.header.now) c.args.form c.in-false-false.is-0 c.in-false-false.is-1 (c.requires.archive, c.requires.header)
 
 pub returns-in-true-true : goal.returns-in-true-true
 returns-in-true-true g c = at_form (λ f. StoresNextTexts f c.args.archive.now c.args.from (map g.S.StepOf.step_of c.args.pairs.now) c.next_pairs_in.result (map g.S.StepOf.step_of c.next_pairs_in.new.pairs)) c.args.form c.in-true-true.is-0 c.in-true-true.is-1 c.next_pairs_in.ensures

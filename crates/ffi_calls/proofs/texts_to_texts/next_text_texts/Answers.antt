@@ -3,17 +3,11 @@ use Rattle.ffi_calls.specs.{IsHeaderOf, IsTextTextArchive, StoresNextTextTexts, 
 use Rattle.ffi_calls.proofs.Forms.{at_flag, of_flag}
 use Rattle.ffi_calls.proofs.texts_to_texts.next_text_texts.Goals as goal
 
-pub typed_header-requires-clause-archive : goal.typed_header-requires-clause-archive
-typed_header-requires-clause-archive g c = of_flag (λ f. IsTextTextArchive f c.args.archive.now) c.if-wide.true c.requires.archive
+pub typed_header-requires : goal.typed_header-requires
+typed_header-requires g c = of_flag (λ f. IsTextTextArchive f c.args.archive.now × IsHeaderOf (text_texts_in f c.args.archive.now) c.args.header.now) c.if-wide.true (c.requires.archive, c.requires.header)
 
-pub typed_header-requires-clause-header : goal.typed_header-requires-clause-header
-typed_header-requires-clause-header g c = of_flag (λ f. IsHeaderOf (text_texts_in f c.args.archive.now) c.args.header.now) c.if-wide.true c.requires.header
-
-pub typed_header-requires-else-wide-clause-archive : goal.typed_header-requires-else-wide-clause-archive
-typed_header-requires-else-wide-clause-archive g c = of_flag (λ f. IsTextTextArchive f c.args.archive.now) c.if-wide.false c.requires.archive
-
-pub typed_header-requires-else-wide-clause-header : goal.typed_header-requires-else-wide-clause-header
-typed_header-requires-else-wide-clause-header g c = of_flag (λ f. IsHeaderOf (text_texts_in f c.args.archive.now) c.args.header.now) c.if-wide.false c.requires.header
+pub typed_header-requires-else-wide : goal.typed_header-requires-else-wide
+typed_header-requires-else-wide g c = of_flag (λ f. IsTextTextArchive f c.args.archive.now × IsHeaderOf (text_texts_in f c.args.archive.now) c.args.header.now) c.if-wide.false (c.requires.archive, c.requires.header)
 
 pub returns-then-wide : goal.returns-then-wide
 returns-then-wide g c = at_flag (λ f. StoresNextTextTexts f c.args.archive.now c.args.from (map g.S.StepOf.step_of c.args.pairs.now) c.next_pairs_in.result (map g.S.StepOf.step_of c.next_pairs_in.new.pairs)) c.if-wide.true c.next_pairs_in.ensures
