@@ -25,4 +25,5 @@ mod streams;
 mod texts;
 mod untrusted;
 mod widths;
+mod words;
 mod writes;

@@ -1,8 +1,8 @@
 //! Tests of parts, entries and roots that are known to be valid.
 
 use rkyv_base::{
-    Archive, EntryResolver, LARGEST, Narrow, PartRange, access_in, access_unchecked, part_in,
-    whole_size,
+    Archive, EntryResolver, LARGEST, Narrow, PartRange, access_in, access_unchecked,
+    distance_target, part_in, whole_size,
 };
 
 #[test]
@@ -17,6 +17,16 @@ fn parts_lie_in_their_range(rt: HostRuntime) {
         part_in(6, 4, 4, range).ok(),
     ];
     expect_eq!(rt; begins, [Some(4), Some(16), None, None, None, None]);
+}
+
+#[test]
+fn distances_lead_to_their_targets(rt: HostRuntime) {
+    let targets = [
+        distance_target(16, -12),
+        distance_target(4, -8),
+        distance_target(u64::MAX, i64::MAX),
+    ];
+    expect_eq!(rt; targets, [4, -4, 27_670_116_110_564_327_422]);
 }
 
 // Returns the fixed bytes of a pair at position 0.

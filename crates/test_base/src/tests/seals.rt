@@ -7,6 +7,7 @@ ghost use Rattle.rkyv_base.specs.{with_value};
 
 use crate::tests::access_failures::{Failure, access_mut_failure};
 use rkyv_base::access::access;
+use rkyv_base::seal_text::uppercase_at;
 use rkyv_base::{
     ArchiveSeal, Entry, Narrow, Seal, Text, VerifyError, View, Wide, Width, access_mut,
     access_mut_in, set_at, set_value, split_at_value, to_bytes,
@@ -215,6 +216,24 @@ fn inline_text_is_uppercased_in_place(rt: HostRuntime) {
             [0x48, 0x45, 0x4c, 0x4c, 0x4f, 255, 255, 255, 97],
             true,
             [0x5a; 8]
+        )
+    );
+}
+
+#[test]
+fn text_is_uppercased_at_a_position(rt: HostRuntime) {
+    let mut inline = *b"abchello\xff\xff\xffxyz";
+    let mut wonderful = *b"wonderful\0\0\0\x89\0\0\0\xf4\xff\xff\xff";
+    let uppercased = [
+        uppercase_at::<Narrow>(&mut inline, 3),
+        uppercase_at::<Narrow>(&mut wonderful, 12),
+    ];
+    expect_eq!(rt;
+        (uppercased, inline, wonderful),
+        (
+            [true, false],
+            *b"abcHELLO\xff\xff\xffxyz",
+            *b"wonderful\0\0\0\x89\0\0\0\xf4\xff\xff\xff"
         )
     );
 }

@@ -81,6 +81,32 @@ fn pairs_are_written_while_the_cursor_steps(rt: HostRuntime) {
     );
 }
 
+// Writes a number over the values of the first two pairs of the map in the plain bytes.
+// Returns the positions of their keys, and the number of pairs left.
+fn write_behind_keys<K: Element, N: Scalar, H, W: Width>(
+    bytes: &mut [u8],
+    value: N,
+) -> Result<([Option<u64>; 2], usize), VerifyError> {
+    let root = access_in::<W, HashMapOf<K, N, H, W>>(&*bytes)?.pos();
+    let mut rest = ArchivedHashMap::<K, N, H, W>::iter_over(bytes, root);
+    let mut positions = [None; 2];
+    for key_pos in &mut positions {
+        if let Some(pos) = rest.next_pos() {
+            rest.set_at(pos, value);
+            *key_pos = Some(pos);
+        }
+    }
+    Ok((positions, rest.len()))
+}
+
+#[test]
+fn pairs_are_written_over_the_bare_bytes(rt: HostRuntime) {
+    let mut bytes = four_pairs();
+    let written = write_behind_keys::<i8, i8, FxHasher64, Narrow>(&mut bytes, 20).ok();
+    let same = bytes == four_with([3, 4, 1, 2, 0, 0, 7, 20, 5, 20]);
+    expect_eq!(rt; (written, same), (Some(([Some(8), Some(6)], 2)), true));
+}
+
 // Writes these numbers over the values of the map in the plain bytes, one after the other.
 // Returns the number of values left.
 fn write_over<K: Element, N: Scalar, H, W: Width>(

@@ -29,7 +29,26 @@ fn found<K: KeyElement, N: Scalar, H: KeyHasher, W: Width, Q: Query<K>>(
     }
 }
 
-// Does the same in a map of `i8` to `i8`.
+// Returns the value of a key, in a map whose header was decoded before.
+fn found_by_header<K: KeyElement, N: Scalar, H: KeyHasher, W: Width, Q: Query<K>>(
+    bytes: &[u8],
+    key: &Q,
+) -> Result<Option<N>, VerifyError>
+    requires { Q.can_read key.now }
+{
+    let root = access_in::<W, HashMapOf<K, N, H, W>>(bytes)?;
+    let header = ArchivedHashMap::<K, N, H, W>::of(root).header();
+    let map = ArchivedHashMap::<K, N, H, W>::with_header(root, header);
+    Ok(map.get(key).map(|value| value.to_native()))
+}
+
+#[test]
+fn a_decoded_header_leads_to_the_same_value(rt: HostRuntime) {
+    let value = found_by_header::<i8, i8, FxHasher64, Narrow, i8>(&four_pairs(), &5).ok();
+    expect_eq!(rt; value, Some(Some(6)));
+}
+
+// Does the same as `found` in a map of `i8` to `i8`.
 fn small(bytes: &[u8], key: i8) -> Option<(Option<i8>, Option<(u64, u64)>, bool)> {
     found::<i8, i8, FxHasher64, Narrow, i8>(bytes, &key).ok()
 }

@@ -1,4 +1,5 @@
 //! Worked rows: the bytes of containers, written down from the layout.
+use rkyv_container::header::header_constants;
 use rkyv_container::{Contents, Header, ItemType, Kind, Width, open, open_as, seal};
 
 /// The header of the narrow hash map of `u32` with 1 to 2, which has 60 bytes, without a checksum.
@@ -63,6 +64,7 @@ fn headers_are_written(rt: HostRuntime) {
 
 #[test]
 fn headers_are_read(rt: HostRuntime) {
+    header_constants();
     let header = Header {
         contents: numbers(),
         len: 60,

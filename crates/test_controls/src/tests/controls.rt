@@ -4,14 +4,14 @@ ghost use Rattle.rkyv_table.specs.{AreValidControls, IsFullBucket, control_count
 
 use rkyv_scan::hash::{FxHasher64, KeyHasher};
 use rkyv_scan::simd::{GroupKind, bytewise, generic, lanes};
-use rkyv_table::controls::find::{Strides, find};
+use rkyv_table::controls::find::{Strides, find, find_from};
 use rkyv_table::controls::laws;
 use rkyv_table::controls::numbers::{
     CapacityError, bucket_of, capacity, control_count, modulus, probe_capacity, tag,
 };
 use rkyv_table::controls::place::{place, place_one};
 use rkyv_table::controls::probe::Probe;
-use rkyv_table::controls::walk::Walk;
+use rkyv_table::controls::walk::{Walk, next_full};
 use rkyv_table::controls::wrapped::check_wrapped;
 use std::alloc::{AllocError, Global};
 use std::cell::Cell;
@@ -60,6 +60,17 @@ impl Table {
         );
         (found, strides.count())
     }
+}
+
+// Returns the same bucket as `candidate`, by a lookup that takes the start of the probe sequence.
+fn candidate_from(controls: &[u8], cap: usize, len: usize, hash: u64) -> Option<usize>
+    requires some { 0 < cap }
+    requires accepted { AreValidControls cap len controls.now }
+    ensures { IfSome result (IsFullBucket cap controls.now) }
+{
+    let start = (hash % cap as u64) as usize;
+    let mut strides = Strides::new();
+    find_from::<lanes::Group, _>(controls, cap, len, hash, start, |_| true, &mut strides)
 }
 
 // Returns a bucket whose item may have the hash.
@@ -205,6 +216,13 @@ fn probe_indices(rt: HostRuntime) {
 }
 
 #[test]
+fn probe_indices_begin_at_a_start(rt: HostRuntime) {
+    let mut probe = Probe::starting_at(1, 33);
+    let indices = [probe.next(), probe.next(), probe.next(), probe.next()];
+    expect_eq!(rt; indices, [Some(1), Some(17), Some(33), None]);
+}
+
+#[test]
 fn sixteen_buckets_are_one_stride(rt: HostRuntime) {
     let mut right = true;
     for start in 0..16 {
@@ -329,8 +347,10 @@ fn finds_a_candidate(rt: HostRuntime) -> Result<(), AllocError> {
     let found = [
         candidate(controls, table.cap, table.len, 2),
         candidate(controls, table.cap, table.len, 1 << 63),
+        candidate_from(controls, table.cap, table.len, 2),
+        candidate_from(controls, table.cap, table.len, 1 << 63),
     ];
-    expect_eq!(rt; found, [Some(2), None]);
+    expect_eq!(rt; found, [Some(2), None, Some(2), None]);
     Ok(())
 }
 
@@ -422,6 +442,13 @@ fn walks_by_each_kind(rt: HostRuntime) {
         walks::<lanes::Group>(rt.alloc()).ok(),
     ];
     expect_eq!(rt; right, [Some(true); 3]);
+}
+
+#[test]
+fn the_next_full_bucket_is_found(rt: HostRuntime) {
+    let controls = [0xff, 0x28, 0x51, 0xff, 0xff, 0x7a];
+    let next = [0, 1, 2, 3, 5].map(|from| next_full(&controls, 5, from));
+    expect_eq!(rt; next, [Some(1), Some(1), Some(2), None, None]);
 }
 
 #[test]

@@ -3,6 +3,7 @@
 use rkyv_base::errors::{VerifyError, WriteError};
 use rkyv_dict::archives::{build, check, misplaced, push_pairs, push_value};
 use rkyv_dict::form::{ArchiveWidth, Form, Key, Kind, PairList};
+use rkyv_dict::laws;
 use std::alloc::Global;
 use std::test::Fail;
 
@@ -62,6 +63,10 @@ fn both_show(
 
 #[test]
 fn numbers_are_archived_and_found(rt: HostRuntime) -> Result<(), Fail> {
+    laws::builds_have_result();
+    laws::builds_are_one();
+    laws::checks_have_result();
+    laws::checks_are_one();
     let list = PairList::Numbers(vec![in rt.alloc(); (1, 2)]?);
     let keys = [Key::Number(1), Key::Number(2), Key::Text("1")];
     let lines = "entries 1\n1 2\n2\nnone\nnone\n";

@@ -1,9 +1,12 @@
 //! Maps of numbers.
 use crate::tests::scripts::{first_wrong, outputs, puts, puts_output};
+use rkyv_dict::laws;
 use std::alloc::{AllocError, Global};
 
 #[test]
 fn scripts_have_the_expected_output(rt: HostRuntime) {
+    laws::scripts_have_output();
+    laws::scripts_are_one();
     let rows = [
         (
             "put 1 2\nbuild\nhex\nget 1\nget 2\nlist\n",

@@ -1,5 +1,6 @@
 //! The errors of a run by their traits: the text of `Debug`, and the message through `Error`.
 
+use rkyv_dict::laws;
 use rkyv_dict::run::RunError;
 use std::alloc::{AllocError, Global};
 use std::error::Error;
@@ -21,6 +22,7 @@ fn prints_as(alloc: Global, error: RunError, debug: &str, message: &str) -> bool
 
 #[test]
 fn run_errors_have_messages(rt: HostRuntime) {
+    laws::errors_are_displayed();
     let alloc = rt.alloc();
     let texts_of = [
         prints_as(alloc, RunError::Read, "Read", "read fault"),

@@ -40,6 +40,22 @@ fn a_key_is_found_with_its_index(rt: HostRuntime) -> Result<(), Fail> {
     Ok(())
 }
 
+// Returns the index and the value of a key, in a map whose header was decoded before.
+fn found_by_header(bytes: &[u8], key: i8) -> Result<Option<(usize, i8)>, VerifyError> {
+    let root = access::<Small>(bytes)?;
+    let map = ArchivedIndexMap::with_header(root, ArchivedIndexMap::of(root).header());
+    Ok(
+        map.get_full(&key)
+            .map(|(index, _, value)| (index, value.to_native())),
+    )
+}
+
+#[test]
+fn a_decoded_header_leads_to_the_same_pair(rt: HostRuntime) {
+    let found = found_by_header(&four_entries(), 7).ok();
+    expect_eq!(rt; found, Some(Some((3, 8))));
+}
+
 #[test]
 fn every_form_finds_the_same(rt: HostRuntime) -> Result<(), Fail> {
     let bytes = four_entries();

@@ -2,9 +2,10 @@
 
 use crate::tests::archives::{NAMES, NUMBERED_TEXTS, ONE_HASH, ONE_NUMBER};
 use crate::tests::support::{narrow, numbers, wide};
+use rkyv_base::width::{Narrow, Wide};
 use rkyv_container::Header;
 use rkyv_container::contents::{Contents, ItemType, Kind};
-use rkyv_inspect::{ContainerLine, Printed, inspect};
+use rkyv_inspect::{ContainerLine, Printed, inspect, laws};
 use std::alloc::Global;
 use std::test::Fail;
 
@@ -42,6 +43,8 @@ fn one_number(rt: HostRuntime) -> Result<(), Fail> {
 
 #[test]
 fn texts_of_fields(rt: HostRuntime) -> Result<(), Fail> {
+    laws::numbers_and_texts_are_shown::<Narrow>();
+    laws::only_texts_have_parts::<Wide>();
     let contents = narrow(Kind::HashMap, ItemType::Text, ItemType::U64);
     let text = text_of(rt.alloc(), &NAMES, contents, 1000)?;
     assert!(rt;

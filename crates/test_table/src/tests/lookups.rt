@@ -5,11 +5,11 @@ use crate::tests::archives::{
     tags_archived, two_archived,
 };
 use crate::tests::reading::{counts, counts_and_lookup, first_pos, value_of, value_of_small};
-use rkyv_base::access::access;
+use rkyv_base::access::{access, access_in};
 use rkyv_base::element::Element;
 use rkyv_base::entry::Entry;
 use rkyv_base::errors::VerifyError;
-use rkyv_base::width::Narrow;
+use rkyv_base::width::{Narrow, Width};
 use rkyv_scan::hash::{FxHasher64, FxHasher64Wide};
 use rkyv_scan::simd::{GroupKind, bytewise, generic, lanes};
 use rkyv_table::controls::find::Strides;
@@ -131,6 +131,23 @@ fn a_pair_is_found_in_another_bucket_than_its_start(rt: HostRuntime) {
         (counts, hash_of_i8(5) % 5, pos, leads(bytes, &pairs)),
         (Some((4, 5)), 4, Some(Some(8)), true)
     );
+}
+
+// Returns the position of the first item under a hash, in a table whose header was decoded before.
+fn first_pos_by_header<T: Element, W: Width>(
+    bytes: &[u8],
+    hash: u64,
+) -> Result<Option<u64>, VerifyError> {
+    let view = access_in::<W, TableOf<T, W>>(bytes)?;
+    let header = ArchivedHashTable::of(view).header();
+    let table = ArchivedHashTable::with_header(view, header);
+    Ok(table.get_pos_with(hash, |_| true))
+}
+
+#[test]
+fn a_decoded_header_leads_to_the_same_item(rt: HostRuntime) {
+    let pos = first_pos_by_header::<Entry<i8, i8>, Narrow>(&four_pairs(), hash_of_i8(5)).ok();
+    expect_eq!(rt; pos, Some(Some(8)));
 }
 
 #[test]

@@ -5,6 +5,7 @@ use rkyv_base::access::access;
 use rkyv_base::entry::Entry;
 use rkyv_base::errors::VerifyError;
 use rkyv_table::controls::find::Strides;
+use rkyv_table::table::misplaced::{finds_another_or_none, is_past};
 use rkyv_table::table::{ArchivedHashTable, TableOf, laws};
 use test_support::archives::{four_pairs, no_items, one_key_twice, one_number, two_units};
 
@@ -33,6 +34,21 @@ fn pairs_that_were_written_are_in_their_places(rt: HostRuntime) {
         misplaced_small(&no_items()).ok(),
     ];
     expect_eq!(rt; misplaced, [Some(0); 3]);
+}
+
+#[test]
+fn an_item_is_misplaced_if_another_bucket_is_found(rt: HostRuntime) {
+    let misplaced = [
+        finds_another_or_none(1, Some(1)),
+        finds_another_or_none(1, Some(2)),
+        finds_another_or_none(1, None),
+    ];
+    let past = [
+        is_past(2, 5, 3),
+        is_past(2, 6, 3),
+        is_past(1 << 63, (1 << 63) + 1, 3),
+    ];
+    expect_eq!(rt; (misplaced, past), ([false, true, true], [false, true, true]));
 }
 
 #[test]
