@@ -96,7 +96,7 @@ module _ {K V H W : Type 0} {ks : Specs K} {vs : Specs V} {wt : Words W} where
   IsEntryIn m entry = (entry.archive ≡ map_archive m)
       × IsValidView (entry_spec ks.spec vs.spec) entry × IsKeyPos m entry.pos
 
--- the table at `p` was written of entries under the hashes of their keys, in insertion order,
+-- the table at `p` was written from entries under the hashes of their keys, in insertion order,
 -- with the home buckets `homes`
 abbrev pub MapWrittenAt : Width → ElementSpec → (List ℕ → ℕ → ℕ) → List ℕ → ℕ → List ℕ → Type 0
 MapWrittenAt w s hash b p homes =

@@ -1,4 +1,4 @@
--- A property of each map that was written of entries with distinct keys.
+-- A property of each map that was written from entries with distinct keys.
 -- Each archive with the written bytes has it.
 use Rattle.std.proofs.Common.{ℕ, ◌+◌, arith, Bool, List, length}
 use Rattle.std.specs.Int.{Width}

@@ -20,7 +20,7 @@ map_format w k v key value hash load_factor =
     written_as (keyed hash)
     (table_format w (entry_spec k v) (pair_format k v key value) load_factor)
 
--- The map at `p` represents the pairs. It was written of them in this order,
+-- The map at `p` represents the pairs. It was written from them in this order,
 -- under the hashes of their keys, and each pair is in its home bucket. `hash b q`: hash of the key
 -- at `q`
 pub record MapRepresents {A B : Type 0} (w : Width) (k v : ElementSpec) (key : List ℕ → ℕ → A

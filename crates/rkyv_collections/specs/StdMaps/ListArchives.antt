@@ -1,4 +1,4 @@
--- Archives that were written of a map or a set of std, as archives of the list of its entries.
+-- Archives that were written from a map or a set of std, as archives of the list of its entries.
 use Rattle.rkyv_base.specs.{ElementMembers, ElementSpec, Format, IsFormat, IsValidArchive}
 use Rattle.rkyv_base.specs.{RootBytes, narrow_limit, wide_limit}
 use Rattle.std.specs.Prelude.{ℕ, ◌-◌, List, length}
