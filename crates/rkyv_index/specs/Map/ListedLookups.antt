@@ -26,8 +26,8 @@ IsFirst {A} {B} accept pairs (Some n) =
 
 module _ {A B K V H W : Type 0} {ks : Specs K} {vs : Specs V} {wt : Words W}
     (native : NativePairs A B) (m : ArchivedIndexMap K V H W ks vs wt) where
-  -- The index map was written of the list. `first`: the index of a lookup's clause `first` is that
-  -- of the first pair with an accepted key. `each`: each pair is at its index
+  -- The index map was written from the list. `first`: the index of a lookup's clause `first` is
+  -- that of the first pair with an accepted key. `each`: each pair is at its index
   pub record FindsListed (fits : List ℕ → ℕ → Bool) (accept : A → Bool) (pairs : List (A × B)) :
       Type 0 where
     pub homes : List ℕ

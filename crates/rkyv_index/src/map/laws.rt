@@ -51,7 +51,7 @@ where
 
 /// States that a list deserialized from an index map is `==` to the list that it represents.
 ///
-/// The bytes that are written of a list represent that list. `deserialize_pairs` deserializes.
+/// The bytes that are written from a list represent that list. `deserialize_pairs` deserializes.
 pub fn pairs_read_back_are_listed<
     A: PartialEq,
     B: PartialEq,

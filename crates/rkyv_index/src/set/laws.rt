@@ -25,7 +25,7 @@ use rkyv_scan::hash::{FxHasher64, KeyHasher};
 
 /// States that a list deserialized from an index set is `==` to the list that it represents.
 ///
-/// The bytes that are written of a list represent that list. `deserialize_items` deserializes.
+/// The bytes that are written from a list represent that list. `deserialize_items` deserializes.
 pub fn items_read_back_are_listed<
     A: PartialEq,
     K: KeyElement + RepresentsUniquely<A>,
