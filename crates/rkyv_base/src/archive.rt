@@ -33,6 +33,8 @@ pub trait Archive<W: Width> {
 
     /// Writes the fixed bytes of a value at `pos` over the whole of `out`.
     ///
+    /// `out` may keep any bytes for a text that is too long to be serialized.
+    ///
     /// # Requires
     ///
     /// - `out` has the size of the element.

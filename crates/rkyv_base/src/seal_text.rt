@@ -64,7 +64,7 @@ pub fn uppercase_at<W: Width>(bytes: &mut [u8], pos: usize) -> bool
 }
 
 impl<'a, W: Width> Seal<'a, Text<W>> {
-    /// Returns the text, or `None` if it is out of line, outside its fixed bytes, or isn't UTF-8.
+    /// Returns the text, or `None` if it is out of line or isn't UTF-8.
     ///
     /// The inline text of a valid value is UTF-8.
     ///
@@ -84,7 +84,7 @@ impl<'a, W: Width> Seal<'a, Text<W>> {
 
     /// Writes each letter from a to z of inline text in upper case, and returns `true`.
     ///
-    /// Returns `false`, and changes no byte, if the text is out of line, outside its fixed bytes.
+    /// Returns `false`, and changes no byte, if the text is out of line.
     ///
     /// # Requires
     ///

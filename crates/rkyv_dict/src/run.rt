@@ -179,7 +179,7 @@ fn write_output<W: Write>(alloc: Global, script: &[u8], writer: &mut W) -> Resul
 ///
 /// # Errors
 ///
-/// - `Read`: a read fails; nothing is written then.
+/// - `Read`: a read fails, or 9,223,372,036,854,775,807 reads meet no end. Nothing is written then.
 /// - `Memory`: an allocation fails.
 /// - `Write`: a write fails or writes no byte.
 ///

@@ -21,7 +21,7 @@ pub enum RegionKind {
     MirroredControls,
     /// An entry of an index map.
     Entry,
-    /// Zeros before an aligned field.
+    /// A gap of fewer than eight bytes that are all 0, as before an aligned field.
     Padding,
     /// A field of the header.
     Header,

@@ -7,6 +7,10 @@ use Rattle.rkyv_base.specs.{ElementSpec, ValidAt}
 abbrev pub Comparison : Type 0
 Comparison = List ℕ → ℕ → List ℕ → ℕ → Bool
 
+-- both comparisons have one result for each two values
+abbrev pub SameComparison : Comparison → Comparison → Type 0
+SameComparison same other = (b : List ℕ) (p : ℕ) (c : List ℕ) (q : ℕ) → same b p c q ≡ other b p c q
+
 -- the comparison `same` is an equivalence of valid values
 pub record IsEquivalence (s : ElementSpec) (same : Comparison) : Type 0 where
   pub reflexive : (b : List ℕ) (p : ℕ) → ValidAt s b p → same b p b p ≡ true

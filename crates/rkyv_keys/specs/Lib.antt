@@ -26,6 +26,7 @@ unfoldable pub use Calls.{after_calls, bool_call, fx_hash_at, hash_at, hash_of, 
 unfoldable pub use Deserialize.{DeserializeErrors, DeserializeMembers, Deserializes, SameErrors}
 unfoldable pub use Deserialize.{memory_fails, nothing_fails}
 unfoldable pub use Equality.{Comparison, DecidesEquality, EqualsUniquely, RepresentsUniquely}
+unfoldable pub use Equality.{SameComparison}
 pub use Equality.{IsEquivalence}
 unfoldable pub use FirstPairs.{FindsByView, IsFoundPair, IsFoundValue, IsTextOk, first_pair}
 unfoldable pub use FirstPairs.{first_value, found_scalars, found_texts, found_views, scalar_found}

@@ -1,7 +1,7 @@
 //! Laws of keys.
 //!
-//! The first three are of native keys and queries on written keys, proved from the laws of
-//! their traits. The others say by which calls values of the types of this crate are hashed,
+//! The first is of native keys, and the next two are of queries. They are proved from the laws
+//! of their traits. The others say by which calls values of the types of this crate are hashed,
 //! and with which errors they are deserialized.
 
 ghost use Rattle.std.specs.Prelude.{[], string_bytes, ◌++◌, ◌∷◌, ◌≡◌};
