@@ -11,7 +11,7 @@ use rkyv_base::entry::Entry;
 use rkyv_base::errors::VerifyError;
 use rkyv_base::width::{Narrow, Width};
 use rkyv_scan::hash::{FxHasher64, FxHasher64Wide};
-use rkyv_scan::simd::{GroupKind, bytewise, generic, lanes};
+use rkyv_scan::simd::{GroupKind, bytewise, generic, lanes, paired};
 use rkyv_table::controls::find::Strides;
 use rkyv_table::table::{ArchivedHashTable, TableOf, laws};
 use std::alloc::Global;
@@ -64,11 +64,12 @@ fn found_by<G: GroupKind>(
 }
 
 // Returns the same number, by groups of each kind.
-fn found(bytes: &[u8], hash: u64, accepted: Option<u8>) -> [Option<Option<u8>>; 3] {
+fn found(bytes: &[u8], hash: u64, accepted: Option<u8>) -> [Option<Option<u8>>; 4] {
     [
         found_by::<bytewise::Group>(bytes, hash, accepted).ok(),
         found_by::<generic::Group>(bytes, hash, accepted).ok(),
         found_by::<lanes::Group>(bytes, hash, accepted).ok(),
+        found_by::<paired::Group>(bytes, hash, accepted).ok(),
     ]
 }
 
@@ -163,7 +164,7 @@ fn the_first_of_two_under_one_hash_is_found(rt: HostRuntime) {
     expect_eq!(rt;
         (found(bytes, 2, None), counted),
         (
-            [Some(Some(10)); 3],
+            [Some(Some(10)); 4],
             [
                 Some((Some(10), 1)),
                 Some((Some(10), 1)),
@@ -241,7 +242,7 @@ fn the_second_stride_is_read_where_the_first_is_full(rt: HostRuntime) {
         (counted, found(bytes, 16, Some(9))),
         (
             [Some((Some(1), 1)), Some((Some(16), 1)), Some((None, 2))],
-            [Some(Some(9)); 3]
+            [Some(Some(9)); 4]
         )
     );
 }
@@ -344,7 +345,7 @@ fn an_empty_table_is_not_read(rt: HostRuntime) {
         (results, found),
         (
             (Some(true), Some((true, 0, 0, true))),
-            (Some(None), Some((None, 0)), [Some(None); 3])
+            (Some(None), Some((None, 0)), [Some(None); 4])
         )
     );
 }
@@ -361,8 +362,8 @@ fn items_of_another_hash_may_be_compared(rt: HostRuntime) {
     expect_eq!(rt;
         (first, second, counted(bytes, EVEN_TAG, Some(20))),
         (
-            [Some(Some(10)); 3],
-            [Some(None), Some(Some(20)), Some(None)],
+            [Some(Some(10)); 4],
+            [Some(None), Some(Some(20)), Some(None), Some(Some(20))],
             Some((Some(20), 1))
         )
     );

@@ -10,7 +10,7 @@ use rkyv_base::errors::WriteError;
 use rkyv_base::width::Narrow;
 use rkyv_base::writer::{NoMemory, VecWriter, append};
 use rkyv_scan::hash::{FxHasher64, FxHasher64Wide, KeyHasher};
-use rkyv_scan::simd::{GroupKind, bytewise, generic, lanes};
+use rkyv_scan::simd::{GroupKind, bytewise, generic, lanes, paired};
 use rkyv_table::table::{ArchivedHashTable, laws};
 use std::alloc::Global;
 use test_support::archives::{
@@ -61,8 +61,9 @@ fn is_written<U: Serialize<VecWriter, Narrow>>(
     let by_bytes = is_by::<bytewise::Group, U>(alloc, items, hashes, load_factor, pos, bytes);
     let by_words = is_by::<generic::Group, U>(alloc, items, hashes, load_factor, pos, bytes);
     let by_lanes = is_by::<lanes::Group, U>(alloc, items, hashes, load_factor, pos, bytes);
+    let by_pairs = is_by::<paired::Group, U>(alloc, items, hashes, load_factor, pos, bytes);
     let plain = first_control == pos && is_then_empty(bytes, front, empty);
-    plain && by_bytes && by_words && by_lanes
+    plain && by_bytes && by_words && by_lanes && by_pairs
 }
 
 #[test]
