@@ -10,43 +10,43 @@ use Rattle.rkyv_base.specs.Lemmas.ElementSpec.{valid_at}
 use Rattle.rkyv_base.specs.Lemmas.Entry.{round_up-multiple}
 use Rattle.rkyv_base.proofs.WritingSteps.{appends_after, end-appends, fails_after, grows}
 
-module _ (F : Type 0) {V R : Type 0} (limit align : ℕ) (f : Format V R) (v : V) (o o1 o2 o3 : Output)
+module _ (F : Type 0) {V R : Type 0} (limit : ℕ) (s : ElementSpec) (f : Format V R) (v : V) (o o1 o2 o3 : Output)
     (part : List ℕ) (r : R) (a : Appends o o1 part) (made : f.parts v (end_of o) part r) (inside : Within limit o1 part) where
-  root_at : Appends o1 o2 (zeros (padding align (end_of o1))) → end_of o2 ≡ round_up (end_of o + length part) align
+  root_at : Appends o1 o2 (zeros (padding s.align (end_of o1))) → end_of o2 ≡ round_up (end_of o + length part) s.align
   root_at b =
       let e1 : end_of o1 ≡ end_of o + length part = end-appends o o1 part a in
-      let e2 : end_of o2 ≡ end_of o1 + length (zeros (padding align (end_of o1))) = end-appends o1 o2 _ b in
-      let n : length (zeros (padding align (end_of o1))) ≡ padding align (end_of o1) = length-replicate (padding align (end_of o1)) 0 in
-      let q : padding align (end_of o1) ≡ padding align (end_of o + length part) = ap (padding align) e1 in
+      let e2 : end_of o2 ≡ end_of o1 + length (zeros (padding s.align (end_of o1))) = end-appends o1 o2 _ b in
+      let n : length (zeros (padding s.align (end_of o1))) ≡ padding s.align (end_of o1) = length-replicate (padding s.align (end_of o1)) 0 in
+      let q : padding s.align (end_of o1) ≡ padding s.align (end_of o + length part) = ap (padding s.align) e1 in
       e2 ∙ omega (arith, e1, n, q)
 
-  same_zeros : zeros (padding align (end_of o1)) ≡ zeros (padding align (end_of o + length part))
-  same_zeros = ap (λ (n : ℕ). zeros (padding align n)) (end-appends o o1 part a)
+  same_zeros : zeros (padding s.align (end_of o1)) ≡ zeros (padding s.align (end_of o + length part))
+  same_zeros = ap (λ (n : ℕ). zeros (padding s.align n)) (end-appends o o1 part a)
 
   -- the bytes appended before the value
   abbrev before : List ℕ
-  before = part ++ zeros (padding align (end_of o1))
+  before = part ++ zeros (padding s.align (end_of o1))
 
   abbrev ZerosAppended : Type 0
-  ZerosAppended = Appends o1 o2 (zeros (padding align (end_of o1))) × (end_of o2 ≤ limit)
+  ZerosAppended = Appends o1 o2 (zeros (padding s.align (end_of o1))) × (end_of o2 ≤ limit)
 
-  front_is : (x : List ℕ) → x ≡ [] → before ++ x ≡ part ++ zeros (padding align (end_of o + length part))
+  front_is : (x : List ℕ) → x ≡ [] → before ++ x ≡ part ++ zeros (padding s.align (end_of o + length part))
   front_is x e = ap (λ (y : List ℕ). before ++ y) e ∙ append-nil before ∙ ap (λ (y : List ℕ). part ++ y) same_zeros
 
-  pub root_align_fails : (e : WriteError F) → WriteFails limit (Only (piece (zeros (padding align (end_of o1))))) o1 o2 e → WriteRootFails limit align f v o o2 e
+  pub root_align_fails : (e : WriteError F) → WriteFails limit (Only (piece (zeros (padding s.align (end_of o1))))) o1 o2 e → WriteRootFails limit s f v o o2 e
   root_align_fails e t =
-      fails_after limit (RootNext align f v (end_of o)) (Only (piece (zeros (padding align (end_of o1))))) o o1 o2 part e a inside
+      fails_after limit (RootNext s f v (end_of o)) (Only (piece (zeros (padding s.align (end_of o1))))) o o1 o2 part e a inside
       (λ front step h.
       let k : part ++ front ≡ part = ap (λ (x : List ℕ). part ++ x) h.0 ∙ append-nil part in
       rw k (inr (inr (inl (r, made, h.1 ∙ ap piece same_zeros))))) t
 
   pub root_append_fails : (out : List ℕ) (e : WriteError F) → ZerosAppended → f.image v r (end_of o2) out
-      → WriteFails limit (Only (piece out)) o2 o3 e → WriteRootFails limit align f v o o3 e
+      → WriteFails limit (Only (piece out)) o2 o3 e → WriteRootFails limit s f v o o3 e
   root_append_fails out e b i t =
-      fails_after limit (RootNext align f v (end_of o)) (Only (piece out)) o o2 o3 before e (appends_after o o1 o2 part _ a b.0) (inr b.1)
+      fails_after limit (RootNext s f v (end_of o)) (Only (piece out)) o o2 o3 before e (appends_after o o1 o2 part _ a b.0) (inr b.1)
       (λ front step h. inr (inr (inr (part, r, made, front_is front h.0, inl (out, subst (λ n. f.image v r n out) (root_at b.0) i, h.1))))) t
 
-  pub root_overflow_fails : ZerosAppended → f.overflow v r (end_of o2) → WriteRootFails {F = F} limit align f v o o2 DistanceTooLarge
+  pub root_overflow_fails : ZerosAppended → f.overflow v r (end_of o2) → WriteRootFails {F = F} limit s f v o o2 DistanceTooLarge
   root_overflow_fails b overflow =
       let all : Appends o o2 before = appends_after o o1 o2 part _ a b.0 in
       record {
@@ -55,10 +55,10 @@ module _ (F : Type 0) {V R : Type 0} (limit align : ℕ) (f : Format V R) (v : V
         cause = (inr b.1, all.failures, inr (inr (inr (part, r, made, ap (λ (x : List ℕ). part ++ x) same_zeros, inr (subst (λ n. f.overflow v r n) (root_at b.0) overflow, refl)))));
       }
 
-  pub root_wrote : (out : List ℕ) → Appends o1 o2 (zeros (padding align (end_of o1))) → f.image v r (end_of o2) out → Appends o2 o3 out → end_of o3 ≤ limit
-      → WroteRoot limit align f v o o3 (end_of o2)
+  pub root_wrote : (out : List ℕ) → Appends o1 o2 (zeros (padding s.align (end_of o1))) → f.image v r (end_of o2) out → Appends o2 o3 out → end_of o3 ≤ limit
+      → WroteRoot limit s f v o o3 (end_of o2)
   root_wrote out b i c small =
-      let z : List ℕ = zeros (padding align (end_of o1)) in (
+      let z : List ℕ = zeros (padding s.align (end_of o1)) in (
         (part ++ z) ++ out,
         appends_after o o2 o3 (part ++ z) out (appends_after o o1 o2 part z a b) c,
         (part, r, out, made, i, root_at b, append_assoc part z out ∙ ap (λ (x : List ℕ). part ++ (x ++ out)) same_zeros),
@@ -103,7 +103,7 @@ module _ {V R : Type 0} (limit : ℕ) (s : ElementSpec) (laws : IsElement s) (re
       )
 
   -- the archive of one value, written from position 0
-  pub archive_made : (v : V) (o' : Output) (b : List ℕ) (root : ℕ) → WroteRoot limit s.align f v fresh o' root → b ≡ o'.bytes → ArchiveOf limit s represents f v b
+  pub archive_made : (v : V) (o' : Output) (b : List ℕ) (root : ℕ) → WroteRoot limit s f v fresh o' root → b ≡ o'.bytes → ArchiveOf limit s represents f v b
   archive_made v o' b root w e =
       let same : b ≡ w.0 = e ∙ w.1.bytes in
       let small : length w.0 ≤ limit = omega (arith, w.3, w.1.start, ap length w.1.bytes) in

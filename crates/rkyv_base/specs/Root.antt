@@ -1,6 +1,6 @@
 -- The root of an archive: the parts of a value, zeros up to its alignment, and its fixed bytes.
-use Rattle.std.specs.Prelude.{List, MatchResult, Result, [], length, ℕ, ◌++◌, ◌+◌, ◌-◌, ◌≡◌, ◌≤◌}
-use Rattle.std.specs.Prelude.{◌⊎◌}
+use Rattle.std.specs.Prelude.{List, MatchResult, Result, [], length, ℕ, ◌++◌, ◌+◌, ◌-◌, ◌<◌, ◌≡◌}
+use Rattle.std.specs.Prelude.{◌≤◌, ◌⊎◌}
 use Rattle.std.specs.declared.vec.Vec.{Vec}
 use Rattle.rkyv_base.specs.declared.errors.WriteError.{WriteError}
 use Rattle.rkyv_base.specs.Writing.{Appends, Only, Output, Step, WriteFails, distance, end_of}
@@ -26,43 +26,47 @@ module _ {V R : Type 0} (align : ℕ) (f : Format V R) (v : V) (p : ℕ) where
       ((out : List ℕ) × f.image v r (round_up (p + length part) align) out × (step ≡ piece out))
       ⊎ (f.overflow v r (round_up (p + length part) align) × (step ≡ failure distance))
 
-  -- `step`: next step of writing a root after `front`. It is an allocation failure,
-  -- a step of the value, the zeros, or the fixed bytes
+module _ {V R : Type 0} (s : ElementSpec) (f : Format V R) (v : V) (p : ℕ) where
+  -- `step`: next step of writing a root of the element `s` after `front`. It is an allocation
+  -- failure if the element has bytes, a step of the value, the zeros, or the fixed bytes
   abbrev pub RootNext : List ℕ → Step → Type 0
   RootNext front step =
-      Only (failure no_memory) front step
+      ((0 < s.size) × Only (failure no_memory) front step)
       ⊎ f.next v p front step
-      ⊎ ((r : R) × f.parts v p front r × (step ≡ piece (zeros (padding align (p + length front)))))
+      ⊎ ((r : R) × f.parts v p front r
+      × (step ≡ piece (zeros (padding s.align (p + length front)))))
       ⊎ ((part : List ℕ) × (r : R) × f.parts v p part r
-      × (front ≡ part ++ zeros (padding align (p + length part))) × ValueStep part r step)
+      × (front ≡ part ++ zeros (padding s.align (p + length part)))
+      × ValueStep s.align f v p part r step)
 
 -- `root`: position of the root that was appended, within the limit
-abbrev pub WroteRoot : {V R : Type 0} → ℕ → ℕ → Format V R → V → Output → Output → ℕ → Type 0
-WroteRoot limit align f v o o' root =
-    (bytes : List ℕ) × Appends o o' bytes × RootBytes align f v (end_of o) bytes root
+abbrev pub WroteRoot : {V R : Type 0} → ℕ → ElementSpec → Format V R → V → Output → Output → ℕ
+    → Type 0
+WroteRoot limit s f v o o' root =
+    (bytes : List ℕ) × Appends o o' bytes × RootBytes s.align f v (end_of o) bytes root
     × (end_of o' ≤ limit)
 
 -- writing a root failed with `e`: the earlier bytes are unchanged, and the condition of `e` is met
-abbrev pub WriteRootFails : {F V R : Type 0} → ℕ → ℕ → Format V R → V → Output → Output
+abbrev pub WriteRootFails : {F V R : Type 0} → ℕ → ElementSpec → Format V R → V → Output → Output
     → WriteError F
     → Type 0
-WriteRootFails limit align f v o o' e = WriteFails limit (RootNext align f v (end_of o)) o o' e
+WriteRootFails limit s f v o o' e = WriteFails limit (RootNext s f v (end_of o)) o o' e
 
--- how a root is written. `align`: alignment of its element, `format`: format of its value
+-- how a root is written. `spec`: its element, `format`: format of its value
 pub record RootFormat (V R : Type 0) : Type 1 where
-  pub align : ℕ
+  pub spec : ElementSpec
   pub format : Format V R
 
--- the format of a root with this alignment
-abbrev pub root_format : {V R : Type 0} → ℕ → Format V R → RootFormat V R
-root_format align format = record { align = align; format = format }
+-- the format of a root that is this element
+abbrev pub root_format : {V R : Type 0} → ElementSpec → Format V R → RootFormat V R
+root_format spec format = record { spec = spec; format = format }
 
 -- `result`: the position of the root of the value `v` that was appended, or the error
 abbrev pub WritesRoot : {F V R : Type 0} → ℕ → RootFormat V R → V → Output → Output
     → Result ℕ (WriteError F) → Type 0
 WritesRoot limit root v o o' result = MatchResult result
-    (WroteRoot limit root.align root.format v o o')
-    (WriteRootFails limit root.align root.format v o o')
+    (WroteRoot limit root.spec root.format v o o')
+    (WriteRootFails limit root.spec root.format v o o')
 
 -- the output of a new writer to memory
 abbrev pub fresh : Output
@@ -78,7 +82,7 @@ ArchiveOf limit s represents f v b =
 -- `e`: error of writing the value `v` to memory
 abbrev pub ToBytesFails : {F V R : Type 0} → ℕ → ElementSpec → Format V R → V → WriteError F
     → Type 0
-ToBytesFails limit s f v e = (o : Output) × WriteRootFails limit s.align f v fresh o e
+ToBytesFails limit s f v e = (o : Output) × WriteRootFails limit s f v fresh o e
 
 -- `result`: an archive within `limit` of the native value, or the error of writing it to memory
 abbrev pub Archives : {F V R Z : Type 0} → ℕ → ElementMembers V → Format V R → V

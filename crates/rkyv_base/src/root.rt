@@ -7,7 +7,7 @@
 //! 2. Zeros are written up to the alignment of the root.
 //! 3. The root's fixed bytes are written. Their position is the result of `write_root`.
 
-ghost use Rattle.std.specs.Prelude.{MatchResult};
+ghost use Rattle.std.specs.Prelude.{◌≡◌, ◌<◌, length, MatchResult};
 ghost use Rattle.rkyv_base.specs.{ArchiveOf, ToBytesFails, WritesRoot, narrow_limit, root_format};
 
 use crate::archive::{Serialize, WriteResult};
@@ -15,13 +15,14 @@ use crate::element::Element;
 use crate::errors::WriteError;
 use crate::width::{Narrow, Width};
 use crate::writer::{NoMemory, VecWriter, Writer, align_for_in, append_in};
-use std::alloc::Global;
+use std::alloc::{AllocError, Global};
 
 /// Writes a value as the root of an archive of the width `W`, and returns its position.
 ///
 /// # Errors
 ///
 /// - `Memory`: the buffer for the root's fixed bytes could not be allocated.
+///   An element of size 0 needs none.
 /// - The error of serializing the value.
 /// - The error of appending zeros up to the root's alignment.
 /// - `DistanceTooLarge`: a distance from the root doesn't fit in the width.
@@ -33,11 +34,11 @@ pub fn write_root_in<W: Width, S: Writer, V: Serialize<S, W>>(
     value: &V,
     serializer: &mut S,
 ) -> WriteResult<u64, S>
-    ensures { WritesRoot W.LIMIT (root_format V.Archived.spec.align V.format) value.now
+    ensures { WritesRoot W.LIMIT (root_format V.Archived.spec V.format) value.now
         (S.output serializer.old) (S.output serializer.new) result }
 {
     let size = <V::Archived as Element>::size();
-    let mut scratch = vec![in alloc; 0u8; size]?;
+    let mut scratch = scratch_of(alloc, size)?;
     let resolver = value.serialize(alloc, serializer)?;
     let root = align_for_in::<W, V::Archived, _>(serializer)?;
     let out = scratch.as_mut_slice();
@@ -92,7 +93,7 @@ pub fn write_root<S: Writer, V: Serialize<S, Narrow>>(
     value: &V,
     serializer: &mut S,
 ) -> WriteResult<u64, S>
-    ensures { WritesRoot narrow_limit (root_format V.Archived.spec.align V.format) value.now
+    ensures { WritesRoot narrow_limit (root_format V.Archived.spec V.format) value.now
         (S.output serializer.old) (S.output serializer.new) result }
 {
     write_root_in::<Narrow, _, _>(alloc, value, serializer)
@@ -122,4 +123,14 @@ pub fn to_bytes<V: Serialize<VecWriter, Narrow>>(
         (ToBytesFails narrow_limit V.Archived.spec V.format value.now) }
 {
     to_bytes_in::<Narrow, V>(alloc, value)
+}
+
+// Returns a buffer of `size` bytes. An empty one is not allocated.
+fn scratch_of(alloc: Global, size: usize) -> Result<Vec<u8>, AllocError>
+    ensures { MatchResult result (λ buffer. length buffer.items ≡ size) (λ _. 0 < size) }
+{
+    if size == 0 {
+        return Ok(Vec::new(alloc));
+    }
+    vec![in alloc; 0u8; size]
 }

@@ -94,20 +94,20 @@ module _ (k : MapTypes) (word : IsArchiveWord k.word) (part : IsElement k.spec) 
       (tables_end k.word (pair_spec k) (pair_format k.spec k.spec format format) (pairs_one_way k.spec k.spec format format one one)
       (pairs_end k.spec k.spec format format one ends ends) pairs_law.size_exact pairs_law.exclusive factor))
 
-  build_ends : (pairs : List (A × A)) → Ends (RootNext (header_spec k).align (pairs_format k factor most format calls) pairs 0)
+  build_ends : (pairs : List (A × A)) → Ends (RootNext (header_spec k) (pairs_format k factor most format calls) pairs 0)
       (λ b. (root : ℕ) × RootBytes (header_spec k).align (pairs_format k factor most format calls) pairs 0 b root)
   build_ends pairs =
-      root_ends (header_spec k).size (header_spec k).align (pairs_format k factor most format calls) (pairs_written_one_way k factor most format calls one) map_end
+      root_ends (header_spec k) (pairs_format k factor most format calls) (pairs_written_one_way k factor most format calls one) map_end
       (λ xs. table_law.size_exact (keyed (λ a. hash (calls a)) xs)) (λ xs. table_law.exclusive (keyed (λ a. hash (calls a)) xs)) pairs 0
 
   error_text_of : (pairs : List (A × A)) (c : WriteError NoMemory) → is_allocation_failure c ≡ false → ToBytesFails k.limit (header_spec k) (pairs_format k factor most format calls) pairs c
-      → IsErrorText k.limit (RootNext (header_spec k).align (pairs_format k factor most format calls) pairs 0) (cause_text c)
-  error_text_of pairs c m x = text_of_cause k.limit (RootNext (header_spec k).align (pairs_format k factor most format calls) pairs 0) x.0 x.1.front x.1.kept c m x.1.cause
+      → IsErrorText k.limit (RootNext (header_spec k) (pairs_format k factor most format calls) pairs 0) (cause_text c)
+  error_text_of pairs c m x = text_of_cause k.limit (RootNext (header_spec k) (pairs_format k factor most format calls) pairs 0) x.0 x.1.front x.1.kept c m x.1.cause
 
   map_errors : (pairs : List (A × A)) → ErrorsAreOne (ArchiveFails k factor most format calls pairs) (IsArchiveOf k factor most format calls represents pairs)
   unfolding ArchiveFails IsArchiveOf
   map_errors pairs =
-      let next = RootNext (header_spec k).align (pairs_format k factor most format calls) pairs 0 in
+      let next = RootNext (header_spec k) (pairs_format k factor most format calls) pairs 0 in
       record {
         causes = λ c d x y m n. error_text_unique k.limit next (build_ends pairs) (cause_text c) (cause_text d) (error_text_of pairs c m x) (error_text_of pairs d n y);
         built = λ b c x y m. error_text_exclusive k.limit next (build_ends pairs) (cause_text c) b (error_text_of pairs c m y) (length b - (header_spec k).size, x.2) x.0.within;

@@ -65,23 +65,23 @@ module _ {V R : Type 0} (limit : ℕ) (s : ElementSpec) (laws : IsElement s) (re
   module _ (o1 : Output) (r : R) (part : List ℕ) (a : Appends fresh o1 part) (made : f.parts v (end_of fresh) part r) (inside : Within limit o1 part) where
     after_zeros : (o2 : Output) → Appended limit (zeros (padding s.align (end_of o1))) o1 o2 → RootOutcome
     after_zeros o2 b = elim (resolve r (end_of o2)) [
-      | inr overflow ↦ inr (DistanceTooLarge, (o2, root_overflow_fails NoMemory limit s.align f v fresh o1 o2 o2 part r a made inside b overflow), distance_reported)
+      | inr overflow ↦ inr (DistanceTooLarge, (o2, root_overflow_fails NoMemory limit s f v fresh o1 o2 o2 part r a made inside b overflow), distance_reported)
       | inl one ↦ elim (append_outcome limit one.0 o2) [
-        | inr fault ↦ inr (fault.1, (fault.0, root_append_fails NoMemory limit s.align f v fresh o1 o2 fault.0 part r a made inside one.0 fault.1 b one.1 fault.3), fault.2)
+        | inr fault ↦ inr (fault.1, (fault.0, root_append_fails NoMemory limit s f v fresh o1 o2 fault.0 part r a made inside one.0 fault.1 b one.1 fault.3), fault.2)
         | inl c ↦
-            let wrote = root_wrote NoMemory limit s.align f v fresh o1 o2 c.0 part r a made inside one.0 b.0 one.1 c.1.0 c.1.1 in
+            let wrote = root_wrote NoMemory limit s f v fresh o1 o2 c.0 part r a made inside one.0 b.0 one.1 c.1.0 c.1.1 in
             inl (c.0.bytes, archive_made limit s laws represents f law v c.0 c.0.bytes (end_of o2) wrote refl)
       ]
     ]
 
     after_parts : RootOutcome
     after_parts = elim (append_outcome limit (zeros (padding s.align (end_of o1))) o1) [
-      | inr fault ↦ inr (fault.1, (fault.0, root_align_fails NoMemory limit s.align f v fresh o1 fault.0 fault.0 part r a made inside fault.1 fault.3), fault.2)
+      | inr fault ↦ inr (fault.1, (fault.0, root_align_fails NoMemory limit s f v fresh o1 fault.0 fault.0 part r a made inside fault.1 fault.3), fault.2)
       | inl b ↦ after_zeros b.0 b.1
     ]
 
   pub root_outcome : RootOutcome
   root_outcome = elim (serialize fresh) [
-    | inr fault ↦ inr (fault.1, (fault.0, fails_under limit (RootNext s.align f v (end_of fresh)) (f.next v (end_of fresh)) fresh fault.0 fault.1 (λ front step h. inr (inl h)) fault.3), fault.2)
+    | inr fault ↦ inr (fault.1, (fault.0, fails_under limit (RootNext s f v (end_of fresh)) (f.next v (end_of fresh)) fresh fault.0 fault.1 (λ front step h. inr (inl h)) fault.3), fault.2)
     | inl w ↦ after_parts w.0 w.1 w.2.0 w.2.1 w.2.2 w.2.3
   ]

@@ -80,10 +80,7 @@ module _ {A B : Type 0} (model_of : A → B) where
       archive_models b (accepted, there, (part, r, out, parts, image, at, is)) =
           (accepted, represents_models b (root k b) pairs there, (part, r, out, parts_models 0 part r parts, image, at, is))
 
-      abbrev align : ℕ
-      align = (header_spec k).align
-
-      root_next : (p : ℕ) (front : List ℕ) (step : Step) → RootNext align Before pairs p front step → RootNext align After (map both pairs) p front step
+      root_next : (p : ℕ) (front : List ℕ) (step : Step) → RootNext (header_spec k) Before pairs p front step → RootNext (header_spec k) After (map both pairs) p front step
       root_next p front step (inl h) = inl h
       root_next p front step (inr (inl h)) = inr (inl (next_models p front step h))
       root_next p front step (inr (inr (inl h))) = inr (inr (inl (h.0, parts_models p front h.0 h.1, h.2)))
@@ -93,7 +90,7 @@ module _ {A B : Type 0} (model_of : A → B) where
       unfolding ArchiveFails
       failure_models e h = (
         h.0,
-        fails_under k.limit (RootNext align After (map both pairs) 0) (RootNext align Before pairs 0) fresh h.0 e (λ front step n. root_next 0 front step n) h.1,
+        fails_under k.limit (RootNext (header_spec k) After (map both pairs) 0) (RootNext (header_spec k) Before pairs 0) fresh h.0 e (λ front step n. root_next 0 front step n) h.1,
       )
 
       pub result_models : {F V : Type 0} (items_of : V → List ℕ) (result : Result V (WriteError F))
