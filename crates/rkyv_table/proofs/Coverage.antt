@@ -1,6 +1,6 @@
 -- The strides of a hash begin at the indices congruent to the start modulo 16, each once. They show
 -- every bucket.
-use Rattle.std.proofs.Common.{◌≡◌, ℕ, ◌+◌, ◌*◌, ◌-◌, ◌/◌, ◌%◌, ◌^◌, ◌<◌, ◌≤◌, inl, inr, refl, sym, ap, ◌∙◌, arith, List, Bool, true, false, ◌&&◌, eqb, ltb, length, map}
+use Rattle.std.proofs.Common.{◌≡◌, ℕ, ◌+◌, ◌*◌, ◌-◌, ◌/◌, ◌%◌, ◌^◌, ◌<◌, ◌≤◌, ◌↔◌, inl, inr, refl, sym, ap, ◌∙◌, arith, List, Bool, true, false, ◌&&◌, eqb, ltb, length, map}
 use Rattle.std.specs.List.{IsDistinct, list_any, range_with_len}
 use Rattle.std.proofs.Math.Nat.{add-mul-mod_self_right, mod-add-mod, mod-eq_of_lt}
 use Rattle.std.proofs.lemmas.Nat.{div-add-mod', mod-mul-add, mod_below, pow_pos}
@@ -8,9 +8,9 @@ use Rattle.std.proofs.lemmas.Bool.{and_from, and_parts, cases_lt, eq-eqb, eqb-tr
 use Rattle.std.proofs.lemmas.Map.Made.{length-from_same_keys}
 use Rattle.std.specs.Cmp.{nat_eq_equiv}
 use Rattle.std.proofs.lemmas.List.FromFn.{length-map-range_with_len}
-use Rattle.rkyv_table.specs.{modulus, probe_capacity, probe_index, start, strides}
+use Rattle.rkyv_table.specs.{IsInStrides, control_count, modulus, probe_capacity, probe_index, start, strides}
 use Rattle.rkyv_table.proofs.Triangle.{hits, hits_once, triangle}
-use Rattle.rkyv_table.proofs.Lists.{any_filter, any_map_range, distinct_filter, distinct_map_range, from_map_range}
+use Rattle.rkyv_table.proofs.Lists.{any_filter, any_map_range, contains_member, distinct_filter, distinct_map_range, from_map_range, member_contains}
 use Rattle.rkyv_table.proofs.Modulus.{modulus_power}
 
 -- the index with the number `k`, if the modulus is `16 * n`
@@ -175,3 +175,29 @@ covered h cap b hb =
       | inl a ↦ step (b + cap) (omega arith) (omega arith) (omega arith) (mod_more b cap hb)
       | inr a ↦ step b a (omega arith) (omega arith) (mod-eq_of_lt hb)
     ]
+
+-- the strides read the control bytes from the start modulo 16 on, as many as the probe capacity
+pub read_row : (h cap q : ℕ) → 0 < cap → IsInStrides h cap q ↔ (start h cap % 16 ≤ q) × (q < start h cap % 16 + probe_capacity cap)
+read_row h cap q pos =
+    let r = start h cap % 16 in (
+      λ read.
+          let p = read.0 in
+          let u = and_parts (ltb p (probe_capacity cap)) (eqb (p % 16) r) (sym (has_stride h cap p pos) ∙ contains_member p (strides h cap) read.1) in
+          let below = ltb-true p (probe_capacity cap) u.0 in
+          let same = eqb-true (p % 16) r u.1 in
+          let from = read.2 in
+          let to = read.3 in
+          (omega arith, omega arith),
+      λ row.
+          let from = row.0 in
+          let to = row.1 in
+          let p = q - (q - r) % 16 in
+          let same : p % 16 ≡ r = omega arith in
+          let below : p < probe_capacity cap = omega arith in
+          let is = has_stride h cap p pos ∙ and_from (ltb p (probe_capacity cap)) (eqb (p % 16) r) (lt-ltb p (probe_capacity cap) below) (eq-eqb (p % 16) r same) in
+          (p, member_contains p (strides h cap) is, omega arith, omega arith),
+    )
+
+-- they are control bytes of the table
+pub row_inside : (h cap q : ℕ) → q < start h cap % 16 + probe_capacity cap → q < control_count cap
+row_inside h cap q below = omega (arith, below)

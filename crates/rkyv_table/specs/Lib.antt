@@ -22,9 +22,10 @@ pub use Controls.Walking.{IsWalk}
 unfoldable pub use Controls.Wrapping.{IsWrappedAt}
 pub use Controls.Wrapping.{FirstUnwrapped}
 unfoldable pub use Controls.Laws.{AreHashes, BucketsAreProbed, FirstEmptyIsNextHome, FoundOnWritten}
-unfoldable pub use Controls.Laws.{HomesAreFirstEmpty, HomesAreOneList, HomesExist, IsUnderHash}
-unfoldable pub use Controls.Laws.{MarkedAreWalked, SearchIsBounded, StridesCover, WalkedAreFull}
-unfoldable pub use Controls.Laws.{WrittenAreOneList, WrittenAreValid}
+unfoldable pub use Controls.Laws.{HomesAreFirstEmpty, HomesAreOneList, HomesExist, IsInStrides}
+unfoldable pub use Controls.Laws.{IsUnderHash, MarkedAreWalked, SearchIsBounded, StridesCover}
+unfoldable pub use Controls.Laws.{StridesReadARow, WalkedAreFull, WrittenAreOneList}
+unfoldable pub use Controls.Laws.{WrittenAreValid}
 pub use Controls.Laws.{IsCover}
 unfoldable pub use Table.Header.{HeaderOverflows, cap_at, controls_pos, decode_begin, header_bytes}
 unfoldable pub use Table.Header.{len_at}

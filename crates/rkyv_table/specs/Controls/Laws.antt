@@ -4,7 +4,7 @@ use Rattle.std.specs.Prelude.{[], ◌∷◌, ◌++◌, Some, length, slice_index
 use Rattle.std.specs.List.{All, Contains, IsDistinct, find}
 use Rattle.rkyv_scan.specs.{IsKind, Kind}
 use Rattle.rkyv_table.specs.Controls.ControlBytes.{HasRoom, IsFullBucket, empty_index, is_empty_at}
-use Rattle.rkyv_table.specs.Controls.Numbers.{probe_capacity, start}
+use Rattle.rkyv_table.specs.Controls.Numbers.{control_count, probe_capacity, start}
 use Rattle.rkyv_table.specs.Controls.Probe.{probed, strides}
 use Rattle.rkyv_table.specs.Controls.Placing.{AreHomes, AreValidControls, AreWrittenControls}
 use Rattle.rkyv_table.specs.Controls.Placing.{IsWrapped, homes, walk, written_controls}
@@ -21,6 +21,17 @@ pub record IsCover (hash cap : ℕ) (indices : List ℕ) : Type 0 where
 -- the strides of a hash begin at the indices congruent to the start modulo 16, each once
 abbrev pub StridesCover : Type 0
 StridesCover = (hash cap : ℕ) → 0 < cap → IsCover hash cap (strides hash cap)
+
+-- `q`: index of a control byte in some stride of the hash
+abbrev pub IsInStrides : ℕ → ℕ → ℕ → Type 0
+IsInStrides hash cap q = (p : ℕ) × Contains (strides hash cap) p × (p ≤ q) × (q < p + 16)
+
+-- the strides of a hash read the control bytes from the index `start % 16` on, as many as the probe
+-- capacity. All of these are control bytes of the table
+abbrev pub StridesReadARow : Type 0
+StridesReadARow = (hash cap q : ℕ) → 0 < cap → let first = start hash cap % 16 in
+    (IsInStrides hash cap q ↔ (first ≤ q) × (q < first + probe_capacity cap))
+    × (q < first + probe_capacity cap → q < control_count cap)
 
 -- the strides of a hash probe every bucket
 abbrev pub BucketsAreProbed : Type 0

@@ -1,8 +1,8 @@
 //! Laws of the probe sequence and of written control bytes, over their definitions alone.
 ghost use Rattle.rkyv_table.specs.{BucketsAreProbed, FirstEmptyIsNextHome, FoundOnWritten};
 ghost use Rattle.rkyv_table.specs.{HomesAreFirstEmpty, HomesAreOneList, HomesExist};
-ghost use Rattle.rkyv_table.specs.{MarkedAreWalked, SearchIsBounded, StridesCover, WalkedAreFull};
-ghost use Rattle.rkyv_table.specs.{WrittenAreOneList, WrittenAreValid};
+ghost use Rattle.rkyv_table.specs.{MarkedAreWalked, SearchIsBounded, StridesCover, StridesReadARow};
+ghost use Rattle.rkyv_table.specs.{WalkedAreFull, WrittenAreOneList, WrittenAreValid};
 
 /// States that the strides of a hash begin at all indices of one residue class modulo 16.
 ///
@@ -10,6 +10,14 @@ ghost use Rattle.rkyv_table.specs.{WrittenAreOneList, WrittenAreValid};
 /// the probe capacity.
 pub fn strides_cover()
     ensures { StridesCover }
+{}
+
+/// States that the strides of a hash read a contiguous range of control bytes.
+///
+/// It begins at the index of the start modulo 16, has as many indices as the probe capacity, and
+/// ends inside the control bytes.
+pub fn strides_read_a_row()
+    ensures { StridesReadARow }
 {}
 
 /// States that the strides of a hash probe every bucket.

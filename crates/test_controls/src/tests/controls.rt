@@ -199,6 +199,7 @@ fn four_indices(start: u64, cap: usize) -> [Option<usize>; 4]
 #[test]
 fn probe_indices(rt: HostRuntime) {
     laws::strides_cover();
+    laws::strides_read_a_row();
     laws::buckets_are_probed();
     let indices = [
         four_indices(1, 33),
