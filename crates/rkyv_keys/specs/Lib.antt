@@ -47,7 +47,7 @@ unfoldable pub use OfScalars.{one_call, scalar_calls, scalar_fits, scalar_same}
 unfoldable pub use OfTexts.{same_bytes, text_fits, text_key_calls, text_same}
 unfoldable pub use OfUnits.{no_calls, unit_at, unit_calls, unit_fits, unit_same, units_equal}
 unfoldable pub use OfValues.{ValueRepresents, value_calls, value_fits, values_same}
-unfoldable pub use OfViews.{view_fits}
+unfoldable pub use OfViews.{FitsSameKeys, view_fits}
 unfoldable pub use QueryLaws.{FitsByValue, HashLocal, HashesAlike, HashesAsWritten, RestsOnKeys}
 unfoldable pub use RoundTrips.{HasArchive, RoundTripFails, round_trip}
 pub use RoundTrips.{RoundTrip}

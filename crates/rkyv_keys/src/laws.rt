@@ -6,9 +6,9 @@
 
 ghost use Rattle.std.specs.Prelude.{[], string_bytes, ◌++◌, ◌∷◌, ◌≡◌};
 ghost use Rattle.rkyv_scan.specs.{I16, I32, I64, I8, Isize, U16, U32, U64, U8, Usize};
-ghost use Rattle.rkyv_keys.specs.{FitsByValue, HashesAsWritten, HashesBy, RestsOnKeys, SameErrors};
-ghost use Rattle.rkyv_keys.specs.{bool_call, entry_deserialize_fails, memory_fails, nothing_fails};
-ghost use Rattle.rkyv_keys.specs.{text_calls};
+ghost use Rattle.rkyv_keys.specs.{FitsByValue, FitsSameKeys, HashesAsWritten, HashesBy};
+ghost use Rattle.rkyv_keys.specs.{RestsOnKeys, SameErrors, at_view, bool_call};
+ghost use Rattle.rkyv_keys.specs.{entry_deserialize_fails, memory_fails, nothing_fails, text_calls};
 
 use crate::deserialize::Deserialize;
 use crate::hash::KeyHash;
@@ -17,6 +17,7 @@ use crate::scalars::ScalarKey;
 use rkyv_base::element::Represents;
 use rkyv_base::entry::Entry;
 use rkyv_base::text::Text;
+use rkyv_base::view::View;
 use rkyv_base::width::Width;
 
 /// States that a native key makes the calls of each archived key that represents it.
@@ -32,6 +33,13 @@ pub fn queries_fit_by_value<K: KeyElement + Represents<V>, V: NativeKey<K>, Q: Q
 /// States that the keys that a query matches depend only on the bytes of the keys and their parts.
 pub fn queries_rest_on_keys<K: KeyElement, Q: Query<K>>()
     ensures { RestsOnKeys K.spec Q.can_read Q.fits }
+{}
+
+/// States that a view of a key is hashed as that key, and matches the keys that are the same as it.
+pub fn views_match_same_keys<'a, K: KeyElement>()
+    ensures hashed { (view : _) →
+        ⟦<View<'a, K> as KeyHash>⟧.calls view ≡ at_view K.key_calls view }
+    ensures matched { FitsSameKeys K.same ⟦<View<'a, K> as Query<K>>⟧.fits }
 {}
 
 /// States that a number is hashed by the call of its own type.

@@ -114,6 +114,7 @@ fn str_queries_match_texts(rt: HostRuntime) {
     laws::native_keys_hash_as_written::<Text, &str>();
     laws::queries_fit_by_value::<Text, &str, &str>();
     laws::queries_rest_on_keys::<Text, &str>();
+    laws::views_match_same_keys::<Text>();
     let (yes, no) = (Some(true), Some(false));
     let compared = [
         query_matches::<Text, &str>(&"hello", &HELLO).ok(),
