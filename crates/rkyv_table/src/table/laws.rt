@@ -2,11 +2,12 @@
 //!
 //! - `written` is about the bytes of written tables, `misplaced` about misplaced items.
 //! - `in_place` is about writes of one item in place.
-ghost use Rattle.std.specs.Prelude.{ℕ};
+ghost use Rattle.std.specs.Prelude.{List, [], ℕ};
 ghost use Rattle.rkyv_base.specs.{RepresentsAs, SameSpec, pair_format, scalar_format, text_format};
 ghost use Rattle.rkyv_base.specs.{unit_format, written_as};
-ghost use Rattle.rkyv_table.specs.{CountsPositions, LookupFindsFirst, SameSteps, WalkVisitsHomes};
-ghost use Rattle.rkyv_table.specs.{WritesOneWay, YieldsPos, table_format, table_spec};
+ghost use Rattle.rkyv_table.specs.{CountsPositions, LookupFindsFirst, SameSteps, VisitsHomes};
+ghost use Rattle.rkyv_table.specs.{WalkVisitsHomes, WritesOneWay, YieldsPos, table_format};
+ghost use Rattle.rkyv_table.specs.{table_spec};
 
 pub mod in_place;
 pub mod misplaced;
@@ -22,9 +23,10 @@ use rkyv_base::width::Width;
 
 /// States that a walk over written control bytes visits each home bucket once, and no other.
 ///
-/// The buckets are in ascending order.
+/// The buckets are in ascending order. In a table without buckets, the walk visits none.
 pub fn walk_visits_homes()
-    ensures { WalkVisitsHomes }
+    ensures written { WalkVisitsHomes }
+    ensures empty { (controls : List ℕ) → VisitsHomes 0 [] controls }
 {}
 
 /// States that a walk yields the positions of the items in turn.

@@ -1,5 +1,5 @@
-use Rattle.rkyv_table.proofs.WalkedHomes.{walked_homes}
+use Rattle.rkyv_table.proofs.WalkedHomes.{none_visits, walked_homes}
 use Rattle.rkyv_table.proofs.table.laws.walk_visits_homes.Goals as goal
 
 pub returns : goal.returns
-returns c = walked_homes
+returns c = record { written = walked_homes; empty = none_visits }
