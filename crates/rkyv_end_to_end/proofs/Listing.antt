@@ -1,5 +1,5 @@
 -- Writing a list with its header, step by step, and the written list.
-use Rattle.std.proofs.Common.{◌≡◌, ℕ, ◌+◌, ◌-◌, ◌*◌, ◌%◌, ◌≤◌, ◌∙◌, inl, inr, refl, sym, ap, subst, arith, append_assoc, length-append, length-take, Bool, List, ◌++◌, length, take}
+use Rattle.std.proofs.Common.{◌≡◌, ℕ, ◌+◌, ◌-◌, ◌*◌, ◌%◌, ◌≤◌, ◌∙◌, inl, inr, refl, sym, ap, subst, arith, append_assoc, length-append, length-take, Bool, List, [], ◌++◌, ◌^◌, ◌<◌, length, take}
 use Rattle.std.specs.Int.{Width, byte_len}
 use Rattle.std.proofs.lemmas.List.{length-map, length-replicate, take_all}
 use Rattle.rkyv_base.specs.{Appends, ElementMembers, ElementSpec, Fails, Format, IsArchiveWord, IsElement, IsFormat, OccursAt, Output, WidthMembers, end_of, padding, round_up, zeros}
@@ -14,10 +14,10 @@ use Rattle.rkyv_base.specs.declared.view.View.{View}
 use Rattle.rkyv_base.specs.declared.width.Width.{Ghosts as Widths}
 use Rattle.rkyv_base.specs.declared.width.Word.{Ghosts as Words}
 use Rattle.rkyv_base.proofs.WritingSteps.{appends_after, end-appends}
+use Rattle.rkyv_scan.specs.{generic_kind}
+use Rattle.rkyv_scan.specs.Lemmas.KindLaws.{word_lawful}
 use Rattle.rkyv_table.specs.Lemmas.TableLaws.{table_element}
-use Rattle.rkyv_table.specs.{IsFirstOf, IsHeader, IsValidAround, IsWrittenOf, RepresentedWereWritten, TableIn, TableRepresents, TableResolver, VisitsHomes, WalkVisitsHomes, WrittenTablesPass, cap_at, capacity, hashes_of, items_of, len_at, resolved_capacity, table_controls, table_format, table_spec}
-use Rattle.rkyv_table.proofs.FirstItem.{accepted_under, first_at_home, first_home_pos}
-use Rattle.rkyv_table.proofs.WalkedHomes.{none_visits}
+use Rattle.rkyv_table.specs.{IsFirstOf, IsHeader, IsValidAround, IsWrittenOf, LookupFindsFirst, RepresentedWereWritten, TableIn, TableRepresents, TableResolver, VisitsHomes, WalkVisitsHomes, WrittenTablesPass, cap_at, capacity, hashes_of, items_of, len_at, resolved_capacity, table_controls, table_format, table_spec}
 use Rattle.rkyv_end_to_end.specs.{Encoding, IsWrittenList, ListBytes, ListInput, ListsAreValid, LookOverFails, ReportsList, ReportsTable, VisitsItems, WriteAndFindFails, WroteList, table_of}
 use Rattle.rkyv_end_to_end.specs.declared.looking.LookError.{LookError}
 use Rattle.rkyv_end_to_end.specs.declared.looking.LookError.TheVariants.{Memory, Verify}
@@ -90,7 +90,7 @@ appended_sits o o' x from a =
     let at : 0 + length o.bytes ≡ end_of o = omega (arith, from) in
     subst (λ (c : List ℕ). OccursAt c (end_of o) x) (sym a.bytes) (subst (λ q. OccursAt b q x) at (occurs_back b 0 o.bytes x all))
 
-module _ {X : Type 0} (w : Width) (s : ElementSpec) (represents : List ℕ → ℕ → X → Type 0) (load_factor : ℕ × ℕ) (were : RepresentedWereWritten w s represents load_factor) (visits : WalkVisitsHomes) where
+module _ {X : Type 0} (w : Width) (s : ElementSpec) (represents : List ℕ → ℕ → X → Type 0) (load_factor : ℕ × ℕ) (were : RepresentedWereWritten w s represents load_factor) (visits : WalkVisitsHomes) (none_visits : (controls : List ℕ) → VisitsHomes 0 [] controls) where
   -- the walk over a valid table
   items_visited : (c : List ℕ) (p : ℕ) (pairs : List (ℕ × X)) → TableRepresents w s represents load_factor c p pairs → VisitsItems (record { word = w; spec = s; bytes = c; pos = p }) represents pairs
   items_visited c p pairs table_represents =
@@ -112,7 +112,7 @@ module _ {X : Type 0} (w : Width) (s : ElementSpec) (represents : List ℕ → �
       }
 
 module _ {X R : Type 0} (w : Width) (items : Encoding X R) (load_factor : ℕ × ℕ) (were : RepresentedWereWritten w items.spec items.represents load_factor) (visits : WalkVisitsHomes)
-    (kind : IsArchiveWord w) (law : IsElement items.spec)
+    (none_visits : (controls : List ℕ) → VisitsHomes 0 [] controls) (kind : IsArchiveWord w) (law : IsElement items.spec)
     (format : IsFormat (table_spec w items.spec) (TableRepresents w items.spec items.represents load_factor) (table_format w items.spec items.format load_factor))
     (passing : WrittenTablesPass w items.spec items.format load_factor) where
   -- a written list is valid in each archive that has its bytes
@@ -139,13 +139,13 @@ module _ {X R : Type 0} (w : Width) (items : Encoding X R) (load_factor : ℕ ×
           aligned = aligned;
           passes = subst (IsValidAround (table_spec w s) c p begin) (sym l.ends) around;
           table_represents = table_represents;
-          items = items_visited w s items.represents load_factor were visits c p pairs table_represents;
+          items = items_visited w s items.represents load_factor were visits none_visits c p pairs table_represents;
         },
         omega (arith, len, whole, at),
       )
 
 -- a written list that was looked up
-module _ {T X R : Type 0} (list : ListInput X R) (post : View T → Bool → Type 0) (hash : ℕ) (o o' : Output) where
+module _ {T X R : Type 0} (list : ListInput X R) (post : View T → Bool → Type 0) (hash : ℕ) (o o' : Output) (fits : hash < 2 ^ 64) (law : LookupFindsFirst list.width.word list.items.spec list.items.represents) where
   pub written_found : (end p : ℕ) (wrote : WroteList list o o' end p) → IsWrittenList (table_of list o' p) list.items.represents list.load_factor (end_of o) end wrote.1
       → p + 3 * byte_len list.width.word ≡ end_of o + length wrote.2 → (b : List ℕ) → b ≡ o'.bytes → (report : TableReport)
       → ReportsTable (record { word = list.width.word; spec = list.items.spec; bytes = b; pos = p }) post hash report → ReportsList list post hash o o' report
@@ -166,13 +166,9 @@ module _ {T X R : Type 0} (list : ListInput X R) (post : View T → Bool → Typ
         ends = whole ∙ sym (end-appends o o' wrote.2 wrote.3.1.0);
         written = valid;
         first = λ accept accept_at compares agrees under.
-            let found =
-            there.looks.first (hashes_of pairs) valid.items.homes accept_at valid.items.written compares
-            (accepted_under t.word t.spec.size list.items.represents t.bytes t.pos pairs items hash accept accept_at agrees under) in (
-              subst (IsFirstOf list.items.represents o'.bytes accept (items_of pairs)) (sym found)
-                  (first_at_home t.word t.spec.size list.items.represents t.bytes t.pos pairs items hash accept accept_at agrees),
-              found ∙ first_home_pos t.word t.spec.size list.items.represents t.bytes t.pos pairs items hash accept accept_at agrees,
-            );
+            let found = there.looks.finds accept_at compares in
+            let is = law generic_kind t.bytes t.pos hash pairs accept accept_at word_lawful fits items under agrees in
+            (subst (IsFirstOf list.items.represents o'.bytes accept (items_of pairs)) (sym found) is.0, found ∙ is.1);
         reports = there;
       }
 

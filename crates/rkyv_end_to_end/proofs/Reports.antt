@@ -11,12 +11,10 @@ use Rattle.rkyv_base.specs.Lemmas.ElementSpec.{valid_at}
 use Rattle.rkyv_base.specs.declared.element.PartRange.{PartRange}
 use Rattle.rkyv_base.specs.declared.view.View.{View}
 use Rattle.rkyv_scan.specs.{generic_kind}
-use Rattle.rkyv_table.specs.{AcceptedOf, CountsWithin, FindsFirst, FindsFound, IsItem, LooksUp, ReadsExactly, ReadsWithin, cap_at, item_at, item_positions, len_at, probe_capacity, table_controls, table_spec, walk}
+use Rattle.rkyv_table.specs.{AcceptedOf, CountsWithin, FindsFirst, FindsFound, IsItem, LooksUp, ReadsExactly, ReadsWithin, WalkedAreFull, cap_at, item_at, item_positions, len_at, probe_capacity, table_controls, table_spec, walk}
 use Rattle.rkyv_table.specs.Lemmas.TableLaws.{table_element}
 use Rattle.rkyv_table.specs.declared.table.ArchivedHashTable.{ArchivedHashTable}
 use Rattle.rkyv_table.proofs.Bare.{looks_up_none, looks_up_some}
-use Rattle.rkyv_table.proofs.RawWalks.{positions_count, positions_viewable}
-use Rattle.rkyv_table.proofs.Walks.{full_walked}
 use Rattle.rkyv_end_to_end.specs.{ReadsWithinBound, ReportsTable}
 use Rattle.rkyv_end_to_end.specs.declared.looking.TableReport.{TableReport}
 
@@ -32,13 +30,13 @@ accepted_viewable w kind s law b p range rest inside aligned ordered before pass
 contains_map : (f : ℕ → ℕ) (xs : List ℕ) (x : ℕ) → Contains xs x → Contains (map f xs) (f x)
 contains_map f xs x c = (c.0, omega (arith, c.1, length-map xs f), get_or-map f xs c.0 x (f x) c.1 ∙ ap f c.2)
 
-module _ {T : Type 0} (post : View T → Bool → Type 0) (w : Width) (s : ElementSpec) (b : List ℕ) (p : ℕ) where
+module _ {T : Type 0} (post : View T → Bool → Type 0) (w : Width) (s : ElementSpec) (b : List ℕ) (p : ℕ) (walked_full : WalkedAreFull) where
   -- an accepted item is one of those of the walk
   accepted_walked : (q : ℕ) → AcceptedOf post w s b p q → Contains (item_positions w s.size b p) q
   accepted_walked q is =
       let one = is.1 in
       let at : ℕ → ℕ = item_at w s.size b p in
-      let there = contains_map at (walk (table_controls w b p) (cap_at w b p)) one.bucket (full_walked (cap_at w b p) (table_controls w b p) one.bucket one.walked) in
+      let there = contains_map at (walk (table_controls w b p) (cap_at w b p)) one.bucket ((walked_full (cap_at w b p) one.bucket (table_controls w b p)).1 one.walked) in
       subst (Contains (item_positions w s.size b p)) (sym one.pos ∙ is.2) there
 
   found_walked : (found : Option ℕ) → IfSome found (AcceptedOf post w s b p) → IfSome found (Contains (item_positions w s.size b p))
@@ -46,13 +44,13 @@ module _ {T : Type 0} (post : View T → Bool → Type 0) (w : Width) (s : Eleme
   found_walked (Some q) is = accepted_walked q is
 
   -- the items and the lookup of a valid table
-  pub table_reported : IsElement s → Viewable (table_spec w s) b p → (hash : ℕ) (report : TableReport) → report.walked.items ≡ item_positions w s.size b p
-      → LooksUp post generic_kind w s b p hash report.found → ReadsWithinBound w b p report.strides → ReadsExactly post generic_kind w s b p hash report.strides
+  pub table_reported : (hash : ℕ) (report : TableReport) → report.walked.items ≡ item_positions w s.size b p
+      → length report.walked.items ≡ len_at w b p → All (Viewable s b) report.walked.items → LooksUp post generic_kind w s b p hash report.found → ReadsWithinBound w b p report.strides → ReadsExactly post generic_kind w s b p hash report.strides
       → ReportsTable (record { word = w; spec = s; bytes = b; pos = p }) post hash report
-  table_reported law viewable hash report walks looks reads exact = record {
+  table_reported hash report walks count checked looks reads exact = record {
     walks = walks;
-    count = ap length walks ∙ positions_count w s law b p viewable;
-    checked = subst (All (Viewable s b)) (sym walks) (positions_viewable w s law b p viewable);
+    count = count;
+    checked = checked;
     among = subst (λ (xs : List ℕ). IfSome report.found (Contains xs)) (sym walks) (found_walked report.found looks.accepted);
     looks = looks;
     reads = reads;

@@ -1,7 +1,8 @@
 //! Validation, walk and lookup of a table in untrusted bytes.
 
-ghost use Rattle.std.specs.Prelude.{MatchResult, length, ◌%◌, ◌*◌, ◌+◌, ◌<◌, ◌≡◌, ◌≤◌};
+ghost use Rattle.std.specs.Prelude.{IfOk, MatchResult, length, ◌%◌, ◌*◌, ◌+◌, ◌<◌, ◌≡◌, ◌≤◌};
 ghost use Rattle.std.specs.Int.{byte_len};
+ghost use Rattle.std.specs.List.{All};
 ghost use Rattle.rkyv_base.specs.{Viewable};
 ghost use Rattle.rkyv_table.specs.{CanCompareOf, item_positions, len_at, table_in, table_spec};
 ghost use Rattle.rkyv_end_to_end.specs.{CanCompareItems, LooksOver, LooksUpIn, ReadsExactlyIn};
@@ -13,6 +14,7 @@ use rkyv_base::errors::VerifyError;
 use rkyv_base::view::{View, found_pos};
 use rkyv_base::width::Width;
 use rkyv_table::Strides;
+use rkyv_table::controls::laws::walked_are_full;
 use rkyv_table::table::ArchivedHashTable;
 use std::alloc::{AllocError, Global};
 use thiserror::Error;
@@ -67,9 +69,11 @@ struct LookupResult {
 // Returns the positions of the items of the table at `pos`, in bucket order.
 fn walk<W: Width, T: Element>(alloc: Global, bytes: &[u8], pos: u64) -> Result<Vec<u64>, AllocError>
     requires { Viewable (table_spec W.word T.spec) bytes.now pos }
-    ensures { MatchResult result
+    ensures items { MatchResult result
         (λ walked. walked.items ≡ item_positions W.word T.spec.size bytes.now pos)
         (λ _. 0 < len_at W.word bytes.now pos) }
+    ensures count { IfOk result (λ walked. length walked.items ≡ len_at W.word bytes.now pos) }
+    ensures all_valid { IfOk result (λ walked. All (Viewable T.spec bytes.now) walked.items) }
 {
     let mut walked = Vec::new(alloc);
     for item in ArchivedHashTable::<T, W>::of(View::new(bytes, pos)).raw_iter() {
@@ -148,6 +152,7 @@ pub fn look_over<W: Width, T: Element, F: Fn(View<'_, T>) -> bool>(
 {
     let _ = ArchivedHashTable::<T, W>::verify(bytes, pos, range)?;
     let walked = walk::<W, T>(alloc, bytes, pos)?;
+    walked_are_full();
     let lookup = look_up::<W, T, _>(bytes, pos, hash, cmp);
     Ok(TableReport {
         walked,

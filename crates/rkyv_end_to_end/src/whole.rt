@@ -14,6 +14,7 @@ use rkyv_base::lend::Lend;
 use rkyv_base::view::View;
 use rkyv_base::width::Width;
 use rkyv_base::writer::{NoMemory, VecWriter, Writer};
+use rkyv_table::table::laws::lookups_find_the_first;
 use std::alloc::Global;
 use thiserror::Error;
 
@@ -114,6 +115,7 @@ pub fn write_and_look_over<
     let begin = serializer.pos();
     let at = write_list::<W, _, U, _, _, _>(alloc, items, hashes, len, load_factor, serializer)?;
     written_lists_represent::<W, U, X>();
+    lookups_find_the_first::<W, U, X>();
     let range = PartRange {
         lo: begin,
         hi: at.end,

@@ -14,14 +14,11 @@ look_up-lookup-requires-clause-table g c =
 
 pub returns : goal.returns
 returns g c =
-    let w = g.W.Word.word in
-    let s = g.T.HasSpec.spec in
-    let law = g.T.HasSpec.laws in
-    let viewable = accepted_viewable w g.met.W.Width.layout.kind s law c.args.bytes.now c.args.pos c.args.range c.in_ok-verify.field-0
-    c.requires.inside c.requires.aligned c.requires.ordered.0 c.requires.ordered.1 c.in_ok-verify.ensures in
     let lookup = c.look_up-lookup in
+    let walked = c.in_ok-walked.ensures in
     let report : TableReport = record { walked = c.in_ok-walked.walked; found = lookup.result.found; strides = lookup.result.strides } in (
       c.in_ok-verify.field-0,
       c.in_ok-verify.ensures,
-      table_reported (goal.F-post g c.args.cmp) w s c.args.bytes.now c.args.pos law viewable c.args.hash report c.in_ok-walked.ensures lookup.ensures.looks lookup.ensures.reads lookup.ensures.exact,
+      table_reported (goal.F-post g c.args.cmp) g.W.Word.word g.T.HasSpec.spec c.args.bytes.now c.args.pos c.walked_are_full.ensures c.args.hash report walked.items walked.count walked.all_valid
+          lookup.ensures.looks lookup.ensures.reads lookup.ensures.exact,
     )

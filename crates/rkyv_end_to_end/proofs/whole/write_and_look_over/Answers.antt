@@ -18,7 +18,7 @@ returns g c =
     let at = c.in_ok-at.at in
     let sits = appended_sits o o' wrote.2 refl wrote.3.1.0 in
     let valid = c.written_lists_represent.ensures c.args.load_factor wrote.1 (end_of o) at.end at.pos wrote.2 o'.bytes wrote.3.2 sits in
-    written_found list (goal.F-post g c.args.cmp) c.args.hash o o' at.end at.pos wrote valid.0 valid.1 c.bytes-bytes.result.now c.bytes-bytes.ensures c.in_ok-report.report c.in_ok-report.ensures.2
+    written_found list (goal.F-post g c.args.cmp) c.args.hash o o' c.ranges.hash.fits c.lookups_find_the_first.ensures at.end at.pos wrote valid.0 valid.1 c.bytes-bytes.result.now c.bytes-bytes.ensures c.in_ok-report.report c.in_ok-report.ensures.2
 
 pub returns-in_err-report : goal.returns-in_err-report
 returns-in_err-report g c =
