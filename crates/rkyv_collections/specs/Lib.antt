@@ -15,7 +15,7 @@ unfoldable pub use StdMaps.StdSet.{StdSetRepresents, insert_key_fails, std_set_f
 unfoldable pub use StdMaps.StdLookups.{FindsEntries, FindsFirstAccepted, FindsFirstAcceptedIn}
 unfoldable pub use StdMaps.StdLookups.{FindsInWrittenMap, FindsInWrittenSet, FindsMembers}
 unfoldable pub use StdMaps.StdLookups.{IsValueBehind}
-unfoldable pub use StdMaps.RoundTrips.{ArchivesRoundTrip}
+unfoldable pub use StdMaps.RoundTrips.{ArchivesRoundTrip, WrittenMapsAreEqual, WrittenSetsAreEqual}
 unfoldable pub use StdMaps.ListArchives.{IsListOfEntries, IsListOfKeys, IsNarrowWritten}
 unfoldable pub use StdMaps.ListArchives.{IsWideWritten, WrittenMapsAreLists, WrittenMapsListEntries}
 unfoldable pub use StdMaps.ListArchives.{WrittenRootsAre, WrittenSetsAreLists, with_relation}

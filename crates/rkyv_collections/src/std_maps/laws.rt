@@ -1,17 +1,23 @@
 //! Laws of archives of maps and sets of std, over their definitions alone.
 //!
-//! They are about the written bytes, lookups in these archives, and values that are read back.
+//! They are about the written bytes, lookups in these archives, comparisons, and values that are
+//! read back.
 
-ghost use Rattle.rkyv_base.specs.{RepresentsAs, SameFormat, SameValues, unit_format, unit_spec};
-ghost use Rattle.rkyv_keys.specs.{SameErrors, hash_at, native_format, queried};
+ghost use Rattle.std.specs.Prelude.{◌≡◌, ◌↔◌};
+ghost use Rattle.rkyv_base.specs.{IsFormat, RepresentsAs, SameFormat, SameValues, unit_format};
+ghost use Rattle.rkyv_base.specs.{unit_spec};
+ghost use Rattle.rkyv_keys.specs.{SameErrors, hash_at, hash_of, native_format, queried};
 ghost use Rattle.rkyv_table.specs.{with_units};
 ghost use Rattle.rkyv_collections.specs.{ArchivesRoundTrip, FindsInWrittenMap, FindsInWrittenSet};
-ghost use Rattle.rkyv_collections.specs.{StdMapRepresents, StdSetRepresents, WrittenMapsAreLists};
-ghost use Rattle.rkyv_collections.specs.{WrittenSetsAreLists, inner, std_map_fails};
-ghost use Rattle.rkyv_collections.specs.{std_map_format, std_set_fails};
+ghost use Rattle.rkyv_collections.specs.{StdMapEquals, StdMapEqualsIn, StdMapRepresents};
+ghost use Rattle.rkyv_collections.specs.{StdSetEquals, StdSetEqualsIn, StdSetRepresents};
+ghost use Rattle.rkyv_collections.specs.{WrittenMapsAreEqual, WrittenMapsAreLists};
+ghost use Rattle.rkyv_collections.specs.{WrittenSetsAreEqual, WrittenSetsAreLists, inner};
+ghost use Rattle.rkyv_collections.specs.{std_map_fails, std_map_format, std_set_fails};
 
-use crate::map::HashMapOf;
-use crate::set::HashSetOf;
+use crate::map::{ArchivedHashMap, HashMapOf};
+use crate::set::{ArchivedHashSet, HashSetOf};
+use crate::std_maps::equality::EqArchived;
 use crate::std_maps::hashed::Hashed;
 use crate::std_maps::nested::{
     KeysRelation, ValueRelation, nested_maps_are_lists, nested_maps_are_looked_up,
@@ -99,6 +105,60 @@ where
         (StdSetRepresents K.spec K.represents W.word A.eq)) }
 {}
 
+/// States that a map equals a map of std whose keys and values its lookups find.
+///
+/// It has as many pairs. A lookup of each key of the map of std finds an equal value.
+pub fn std_maps_are_compared<K, V, H, W: Width, A, B, T: BuildHasher>()
+where
+    K: KeyElement + Represents<A>,
+    V: MatchesNative<B>,
+    H: KeyHasher,
+    A: NativeKey<K> + Hash,
+    ensures maps { SameValues ⟦<HashMapOf<K, V, H, W> as MatchesNative<HashMap<A, B, T>>>⟧.equals
+        (StdMapEquals W.word K.spec V.spec (hash_of H.hasher A.calls) A.fits V.equals) }
+    ensures hashed { SameValues
+        ⟦<HashMapOf<K, V, H, W> as MatchesNative<Hashed<HashMap<A, B, T>, H>>>⟧.equals
+        (RepresentsAs inner
+        (StdMapEquals W.word K.spec V.spec (hash_of H.hasher A.calls) A.fits V.equals)) }
+{}
+
+/// States that a set equals a set of std whose keys its lookups find.
+///
+/// It has as many keys. A lookup finds each key of the set of std.
+pub fn std_sets_are_compared<K, H, W: Width, A, T: BuildHasher>()
+where
+    K: KeyElement + Represents<A>,
+    H: KeyHasher,
+    A: NativeKey<K> + Hash,
+    ensures sets { SameValues ⟦<HashSetOf<K, H, W> as MatchesNative<HashSet<A, T>>>⟧.equals
+        (StdSetEquals W.word K.spec (hash_of H.hasher A.calls) A.fits) }
+    ensures hashed { SameValues
+        ⟦<HashSetOf<K, H, W> as MatchesNative<Hashed<HashSet<A, T>, H>>>⟧.equals
+        (RepresentsAs inner (StdSetEquals W.word K.spec (hash_of H.hasher A.calls) A.fits)) }
+{}
+
+/// States which archived maps and sets `eq_archived` of a map or set of std takes as equal.
+///
+/// They are those whose `eq_std` returns `true` of the map or set of std.
+pub fn std_values_are_compared<'a, K, V, H, W: Width, A, B, T: BuildHasher>()
+where
+    K: KeyElement + Represents<A>,
+    V: MatchesNative<B>,
+    H: KeyHasher,
+    A: NativeKey<K> + Hash,
+    ensures maps { (m : _) (x : _) →
+        ⟦<HashMap<A, B, T> as EqArchived<ArchivedHashMap<'a, K, V, H, W>>>⟧.equals_archived m x
+        ↔ StdMapEqualsIn m (queried H.hasher A.calls A.fits) V.equals x }
+    ensures sets { (s : _) (x : _) →
+        ⟦<HashSet<A, T> as EqArchived<ArchivedHashSet<'a, K, H, W>>>⟧.equals_archived s x
+        ↔ StdSetEqualsIn s (queried H.hasher A.calls A.fits) x }
+{}
+
+/// States that wrapped maps or sets of std are equal if and only if the maps or sets are.
+pub fn hashed_values_are_compared<M: PartialEq, H>()
+    ensures { (x y : _) → ⟦<Hashed<M, H> as PartialEq>⟧.eq x y ≡ M.eq x.map y.map }
+{}
+
 /// States which errors deserializing a map of std can return.
 ///
 /// Memory could not be allocated, or a key or a value has the error, after all pairs before it,
@@ -154,6 +214,36 @@ where
         (λ x. with_units x.map.keys)) }
 {}
 
+/// States that a written map of std equals its map in any archive that has its bytes.
+pub fn written_maps_are_equal<
+    W: Width,
+    H: KeyHasher,
+    A: Archive<W> + Hash,
+    B: EqualsWritten<W>,
+    T: BuildHasher,
+>()
+where
+    A::Archived: KeyElement,
+    B::Archived: MatchesNative<B>,
+    A: NativeKey<A::Archived>,
+    ensures { WrittenMapsAreEqual W.word A.Archived.spec B.Archived.spec
+        (queried H.hasher A.calls A.fits) B.Archived.equals
+        ⟦<Hashed<HashMap<A, B, T>, H> as Archive<W>>⟧.format }
+{
+    written_values_are_equal::<W, Hashed<HashMap<A, B, T>, H>>();
+}
+
+/// States that a written set of std equals its set in any archive that has its bytes.
+pub fn written_sets_are_equal<W: Width, H: KeyHasher, A: Archive<W> + Hash, T: BuildHasher>()
+where
+    A::Archived: KeyElement,
+    A: NativeKey<A::Archived>,
+    ensures { WrittenSetsAreEqual W.word A.Archived.spec (queried H.hasher A.calls A.fits)
+        ⟦<Hashed<HashSet<A, T>, H> as Archive<W>>⟧.format }
+{
+    written_values_are_equal::<W, Hashed<HashSet<A, T>, H>>();
+}
+
 /// States that the root of an archive of a map of std represents the list of its entries.
 ///
 /// The archive has the written bytes of the map. The laws of lookups in a map that represents
@@ -200,4 +290,11 @@ where
     M::Archived: MatchesNative<M> + RepresentsUniquely<M>,
     ensures { ArchivesRoundTrip W.LIMIT M.Archived.spec M.Archived.represents M.Archived.equals
         M.format M.eq }
+{}
+
+/// States that a written value equals itself in any archive that has its bytes.
+fn written_values_are_equal<W: Width, M: EqualsWritten<W>>()
+where
+    M::Archived: MatchesNative<M>,
+    ensures { IsFormat M.Archived.spec M.Archived.equals M.format }
 {}

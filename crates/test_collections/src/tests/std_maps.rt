@@ -29,6 +29,8 @@ use test_support::written::is_archived_as;
 
 type Nested = Hashed<HashMap<i8, Hashed<HashMap<i8, i8>>>>;
 
+type ArchivedNested = HashMapOf<i8, HashMapOf<i8, i8>>;
+
 type Pairs = Hashed<HashMap<(u8, u8), Hashed<HashMap<u16, u16>>>>;
 
 // Returns whether a map is the same after a round trip through an archive.
@@ -237,15 +239,15 @@ fn the_empty_map(rt: HostRuntime) {
     expect_eq!(rt; of_no_pair(rt.alloc()), (true, Some(true)));
 }
 
-// Returns the map of 1 to the map of 1 to 2.
-fn map_in_a_map(alloc: Global) -> Result<Nested, AllocError> {
-    let inner = one_of(alloc, 1, 2)?;
+// Returns the map of 1 to the map of 1 to `value`.
+fn map_in_a_map(alloc: Global, value: i8) -> Result<Nested, AllocError> {
+    let inner = one_of(alloc, 1, value)?;
     Ok(Hashed::new(one_of(alloc, 1, Hashed::new(inner))?))
 }
 
-// Returns whether the archive of that map is as expected, and its round trips in both widths.
+// Returns whether the archive of that map is as expected for 2, and its round trips in both widths.
 fn of_nested(alloc: Global) -> Option<(bool, [Option<bool>; 2])> {
-    let outer = map_in_a_map(alloc).ok()?;
+    let outer = map_in_a_map(alloc, 2).ok()?;
     let written = is_archived(alloc, &outer, &nested());
     let back = [
         map_round_trips::<Narrow, _, _, _>(alloc, &outer),
@@ -257,6 +259,47 @@ fn of_nested(alloc: Global) -> Option<(bool, [Option<bool>; 2])> {
 #[test]
 fn a_map_in_a_map(rt: HostRuntime) {
     expect_eq!(rt; of_nested(rt.alloc()), Some((true, [Some(true); 2])));
+}
+
+// Returns whether an archived map equals a map of std's, by `eq_native` and by `eq_std`.
+fn equals_nested(bytes: &[u8], map: &Nested) -> Result<[bool; 2], VerifyError> {
+    let root = access::<ArchivedNested>(bytes)?;
+    let native = <ArchivedNested as MatchesNative<Nested>>::eq_native(root, map);
+    let map = map.get();
+    let by_lookups = ArchivedHashMap::of(root).eq_std::<i8, Hashed<HashMap<i8, i8>>, _>(map);
+    Ok([native, by_lookups])
+}
+
+// Does the same with the archived map of 1 to the map of 1 to 2, and that of 1 to `value`.
+fn equals_inner(alloc: Global, value: i8) -> Option<[bool; 2]> {
+    let outer = map_in_a_map(alloc, value).ok()?;
+    equals_nested(&nested(), &outer).ok()
+}
+
+#[test]
+fn maps_of_unequal_maps_are_unequal(rt: HostRuntime) {
+    laws::std_maps_are_compared::<i8, i8, FxHasher64, Narrow, i8, i8, RandomState>();
+    laws::std_values_are_compared::<i8, i8, FxHasher64, Narrow, i8, i8, RandomState>();
+    laws::written_maps_are_equal::<Narrow, FxHasher64, i8, i8, RandomState>();
+    let equal = [equals_inner(rt.alloc(), 2), equals_inner(rt.alloc(), 3)];
+    expect_eq!(rt; equal, [Some([true; 2]), Some([false; 2])]);
+}
+
+// Returns whether the maps of 1 to each of these values are equal once they are wrapped.
+fn wrapped_are_equal(alloc: Global, first: i8, second: i8) -> Option<bool> {
+    let one: Hashed<HashMap<i8, i8>> = Hashed::new(one_of(alloc, 1, first).ok()?);
+    let other: Hashed<HashMap<i8, i8>> = Hashed::new(one_of(alloc, 1, second).ok()?);
+    Some(one == other)
+}
+
+#[test]
+fn wrapped_maps_are_equal_if_the_maps_are(rt: HostRuntime) {
+    laws::hashed_values_are_compared::<HashMap<i8, i8>, FxHasher64>();
+    let equal = [
+        wrapped_are_equal(rt.alloc(), 2, 2),
+        wrapped_are_equal(rt.alloc(), 2, 3),
+    ];
+    expect_eq!(rt; equal, [Some(true), Some(false)]);
 }
 
 // Returns the map of (1, 2) and (3, 4), each mapped to the map of 1337 to 42.
@@ -555,15 +598,17 @@ fn equal_sets_have_the_same_keys(rt: HostRuntime) {
 
 type Sets = Hashed<HashMap<i8, Hashed<HashSet<i8>>>>;
 
-// Returns the map of 1 to the set of 2.
-fn set_in_a_map(alloc: Global) -> Result<Sets, AllocError> {
-    let set = set_of_one(alloc, 2)?;
+type ArchivedSets = HashMapOf<i8, HashSetOf<i8>>;
+
+// Returns the map of 1 to the set of `key`.
+fn set_in_a_map(alloc: Global, key: i8) -> Result<Sets, AllocError> {
+    let set = set_of_one(alloc, key)?;
     Ok(Hashed::new(one_of(alloc, 1, Hashed::new(set))?))
 }
 
-// Returns whether that map is the same after round trips in both widths.
+// Returns whether that map with the set of 2 is the same after round trips in both widths.
 fn sets_round_trip(alloc: Global) -> Option<[Option<bool>; 2]> {
-    let outer = set_in_a_map(alloc).ok()?;
+    let outer = set_in_a_map(alloc, 2).ok()?;
     Some([
         map_round_trips::<Narrow, _, _, _>(alloc, &outer),
         map_round_trips::<Wide, _, _, _>(alloc, &outer),
@@ -573,6 +618,33 @@ fn sets_round_trip(alloc: Global) -> Option<[Option<bool>; 2]> {
 #[test]
 fn a_set_in_a_map(rt: HostRuntime) {
     expect_eq!(rt; sets_round_trip(rt.alloc()), Some([Some(true); 2]));
+}
+
+// Returns whether an archived map of sets equals that of std's, by `eq_native` and by `eq_std`.
+fn equals_sets(bytes: &[u8], map: &Sets) -> Result<[bool; 2], VerifyError> {
+    let root = access::<ArchivedSets>(bytes)?;
+    let native = <ArchivedSets as MatchesNative<Sets>>::eq_native(root, map);
+    let map = map.get();
+    let by_lookups = ArchivedHashMap::of(root).eq_std::<i8, Hashed<HashSet<i8>>, _>(map);
+    Ok([native, by_lookups])
+}
+
+// Does the same with the archived map of 1 to the set of 2, and that of 1 to the set of `key`.
+fn equals_inner_set(alloc: Global, key: i8) -> Option<[bool; 2]> {
+    let archive = archived(alloc, &set_in_a_map(alloc, 2).ok()?)?;
+    let outer = set_in_a_map(alloc, key).ok()?;
+    equals_sets(archive.as_slice(), &outer).ok()
+}
+
+#[test]
+fn maps_of_unequal_sets_are_unequal(rt: HostRuntime) {
+    laws::std_sets_are_compared::<i8, FxHasher64, Narrow, i8, RandomState>();
+    laws::written_sets_are_equal::<Narrow, FxHasher64, i8, RandomState>();
+    let equal = [
+        equals_inner_set(rt.alloc(), 2),
+        equals_inner_set(rt.alloc(), 3),
+    ];
+    expect_eq!(rt; equal, [Some([true; 2]), Some([false; 2])]);
 }
 
 // Returns whether an archived map equals `map`, and is read back as `map` with this hash state.
