@@ -16,6 +16,7 @@ macro_rules! expect_eq {
 }
 
 mod archives;
+mod changes;
 mod examples;
 mod first;
 mod in_place;

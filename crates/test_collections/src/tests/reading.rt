@@ -400,6 +400,23 @@ fn a_wide_map_is_read(rt: HostRuntime) {
     );
 }
 
+#[test]
+fn rejects_a_wide_capacity_beyond_the_archive(rt: HostRuntime) {
+    let bytes = [
+        0, 0, 0, 0, 0, 0, 0, 0, 1, 0, 0, 0, 0, 0, 0, 0, 0xff, 0xff, 0xff, 0xff, 0xff, 0xff, 0xff,
+        0xff,
+    ];
+    assert!(rt;
+        matches!(
+            access_in::<Wide, HashMapOf<u32, u32, FxHasher64, Wide>>(&bytes),
+            Err(VerifyError::OutOfRange {
+                pos: -147_573_952_589_676_412_920,
+                size: 166_020_696_663_385_964_551,
+            })
+        )
+    );
+}
+
 // Returns the length of a copy of a map.
 fn copied_len(bytes: &[u8]) -> Option<usize> {
     let map = small_map(bytes).ok()?;
