@@ -3,12 +3,14 @@
 //! - This module has laws of equality, lookups and walks.
 //! - `written` is about the bytes of written maps, and `list_archives` about root maps.
 //! - `in_place` is about writes of one value, and `nested` about maps that are values of maps.
+ghost use Rattle.std.specs.Prelude.{◌≡◌};
 ghost use Rattle.rkyv_base.specs.{SameSpec, SameValues};
-ghost use Rattle.rkyv_keys.specs.{hash_at, native_pairs};
+ghost use Rattle.rkyv_keys.specs.{SameComparison, hash_at, native_pairs, view_fits};
 ghost use Rattle.rkyv_table.specs.{CountsPositions, SameSteps, YieldsKey, YieldsPair, YieldsValue};
 ghost use Rattle.rkyv_collections.specs.{ComparedAlike, EqualHaveSamePairs, LookupsFindListed};
 ghost use Rattle.rkyv_collections.specs.{QueriedAlike, RepeatedKeysAreMisplaced, WalksVisitEach};
-ghost use Rattle.rkyv_collections.specs.{WalksVisitPairs, WrittenAlike, map_list, map_spec};
+ghost use Rattle.rkyv_collections.specs.{WalksVisitPairs, WrittenAlike, map_equal, map_list};
+ghost use Rattle.rkyv_collections.specs.{map_spec};
 
 pub mod in_place;
 pub mod list_archives;
@@ -19,8 +21,9 @@ use crate::lists::MapPairs;
 use crate::map::HashMapOf;
 use crate::map::read::iter::{Iter, Keys, Values};
 use rkyv_base::element::{Element, HasSpec, Represents};
+use rkyv_base::view::View;
 use rkyv_base::width::Width;
-use rkyv_keys::equality::ElementEquiv;
+use rkyv_keys::equality::{ElementEq, ElementEquiv};
 use rkyv_keys::keys::{FixedKey, KeyElement, Query};
 use rkyv_scan::hash::KeyHasher;
 
@@ -38,6 +41,15 @@ pub fn items_are_yielded<'a, K: 'a + Element, V: 'a + Element, H: 'a, W: 'a>()
     ensures values_left { CountsPositions ⟦<Values<'a, K, V, H, W> as Iterator>⟧.remaining }
 {}
 
+/// States that two maps that are values are compared by their lengths and by lookups.
+///
+/// They are the same if they have the same length, and a lookup of each key of the first finds
+/// the same value in the second.
+pub fn maps_are_compared<K: KeyElement, V: ElementEq, H: KeyHasher, W: Width>()
+    ensures { SameComparison ⟦<HashMapOf<K, V, H, W> as ElementEq>⟧.same
+        (map_equal W.word K.spec V.spec (hash_at H.hasher K.key_calls) K.same V.same) }
+{}
+
 /// States that written maps of distinct keys are equal if and only if they have the same pairs.
 ///
 /// They have the same pairs if each pair of either is the same as one of the other.
@@ -52,6 +64,12 @@ pub fn equal_maps_have_the_same_pairs<K: KeyElement, V: ElementEquiv, H: KeyHash
 pub fn repeated_keys_are_misplaced<K: KeyElement, V: Element, H: KeyHasher, W: Width>()
     ensures { RepeatedKeysAreMisplaced W.word K.spec V.spec (hash_at H.hasher K.key_calls)
         K.same }
+{}
+
+/// States that the view of a key, as a query, fits the keys that are the same.
+pub fn views_fit_the_same_keys<'a, K: KeyElement>()
+    ensures { (view : _) (b : _) (p : _) → ⟦<View<'a, K> as Query<K>>⟧.fits view b p
+        ≡ view_fits K.same view b p }
 {}
 
 /// States that a lookup finds the first pair of the represented list with an accepted key.

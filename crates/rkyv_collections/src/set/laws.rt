@@ -1,12 +1,12 @@
 //! Laws of sets, over their definitions alone.
 //!
-//! They are about iterations and lookups. `written` is about the bytes of written sets.
+//! They are about equality, iterations and lookups. `written` is about the bytes of written sets.
 
 ghost use Rattle.rkyv_collections.specs.{ComparedAlike, MembersFoundAreListed, QueriedAlike};
 ghost use Rattle.rkyv_collections.specs.{SetLookupsFindListed, SetWalksVisitEach, WrittenAlike};
-ghost use Rattle.rkyv_collections.specs.{set_list, set_spec};
+ghost use Rattle.rkyv_collections.specs.{set_equal, set_list, set_spec};
 ghost use Rattle.rkyv_base.specs.{SameSpec, SameValues, unit_spec};
-ghost use Rattle.rkyv_keys.specs.{hash_at, native_keys};
+ghost use Rattle.rkyv_keys.specs.{SameComparison, hash_at, native_keys};
 
 pub mod written;
 
@@ -15,8 +15,18 @@ use crate::map::laws::both_hashers_look_up_alike as maps_look_up_alike;
 use crate::set::HashSetOf;
 use rkyv_base::element::{HasSpec, Represents};
 use rkyv_base::width::Width;
+use rkyv_keys::equality::ElementEq;
 use rkyv_keys::keys::{FixedKey, KeyElement, NativeQuery, Query};
 use rkyv_scan::hash::KeyHasher;
+
+/// States that two sets that are values are compared by their lengths and by lookups.
+///
+/// They are the same if they have the same length, and a lookup finds each key of the first
+/// in the second.
+pub fn sets_are_compared<K: KeyElement, H: KeyHasher, W: Width>()
+    ensures { SameComparison ⟦<HashSetOf<K, H, W> as ElementEq>⟧.same
+        (set_equal W.word K.spec (hash_at H.hasher K.key_calls) K.same) }
+{}
 
 /// States that `iter` returns each key of the list that a set represents once.
 ///

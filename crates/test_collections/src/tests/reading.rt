@@ -14,8 +14,8 @@ use rkyv_base::text::Text;
 use rkyv_base::view::View;
 use rkyv_base::width::{Narrow, Wide};
 use rkyv_collections::map::laws::{
-    equal_maps_have_the_same_pairs, items_are_yielded, maps_are_laid_out,
-    repeated_keys_are_misplaced,
+    equal_maps_have_the_same_pairs, items_are_yielded, maps_are_compared, maps_are_laid_out,
+    repeated_keys_are_misplaced, views_fit_the_same_keys,
 };
 use rkyv_collections::map::{ArchivedHashMap, HashMapOf};
 use rkyv_scan::hash::FxHasher64;
@@ -229,6 +229,7 @@ fn equality_ignores_insertion_order(rt: HostRuntime) {
     let backwards = four_pairs_backwards();
     let one = one_pair();
     equal_maps_have_the_same_pairs::<i8, i8, FxHasher64, Narrow>();
+    maps_are_compared::<i8, i8, FxHasher64, Narrow>();
     let mut changed = four_pairs();
     changed[1] = 5;
     let equal = [
@@ -262,6 +263,7 @@ fn first_of_equal_keys_is_found(rt: HostRuntime) {
 #[test]
 fn misplaced_keys_are_counted(rt: HostRuntime) {
     repeated_keys_are_misplaced::<i8, i8, FxHasher64, Narrow>();
+    views_fit_the_same_keys::<i8>();
     let mut moved = one_pair();
     moved[0] = 2;
     let misplaced = [

@@ -7,7 +7,7 @@ use rkyv_base::access::access_in;
 use rkyv_base::errors::VerifyError;
 use rkyv_base::width::{Narrow, Wide};
 use rkyv_collections::map::{ArchivedHashMap, HashMapOf};
-use rkyv_collections::set::{ArchivedHashSet, HashSetOf};
+use rkyv_collections::set::{ArchivedHashSet, HashSetOf, laws};
 use rkyv_scan::hash::{FxHasher64, FxHasher64Wide};
 use test_support::archives::{no_items, one_unit, set_in_a_map, three_keys, two_units};
 
@@ -55,6 +55,7 @@ fn counting_misplaced_keys_of_a_set_ends_at_a_limit(rt: HostRuntime) {
 #[test]
 fn sets_are_compared(rt: HostRuntime) {
     let bytes = three_keys();
+    laws::sets_are_compared::<u8, FxHasher64, Narrow>();
     let mut other = three_keys();
     other[2] = 9;
     let equal = [
