@@ -14,6 +14,7 @@ pub mod StdReading
 pub mod StdComparing
 pub mod StdFinding
 pub mod WrittenRoots
+pub mod FittedKeys
 pub mod FoundPairs
 pub mod ListedLookups
 pub mod FoundValues

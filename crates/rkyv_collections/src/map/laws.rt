@@ -3,14 +3,13 @@
 //! - This module has laws of equality, lookups and walks.
 //! - `written` is about the bytes of written maps, and `list_archives` about root maps.
 //! - `in_place` is about writes of one value, and `nested` about maps that are values of maps.
-ghost use Rattle.std.specs.Prelude.{◌≡◌};
 ghost use Rattle.rkyv_base.specs.{SameSpec, SameValues};
-ghost use Rattle.rkyv_keys.specs.{SameComparison, hash_at, native_pairs, view_fits};
+ghost use Rattle.rkyv_keys.specs.{SameComparison, hash_at, native_pairs, query_of};
 ghost use Rattle.rkyv_table.specs.{CountsPositions, SameSteps, YieldsKey, YieldsPair, YieldsValue};
-ghost use Rattle.rkyv_collections.specs.{ComparedAlike, EqualHaveSamePairs, LookupsFindListed};
-ghost use Rattle.rkyv_collections.specs.{QueriedAlike, RepeatedKeysAreMisplaced, WalksVisitEach};
-ghost use Rattle.rkyv_collections.specs.{WalksVisitPairs, WrittenAlike, map_equal, map_list};
-ghost use Rattle.rkyv_collections.specs.{map_spec};
+ghost use Rattle.rkyv_collections.specs.{ComparedAlike, EqualHaveSamePairs, FindsFittedKeys};
+ghost use Rattle.rkyv_collections.specs.{LookupsFindListed, QueriedAlike, RepeatedKeysAreMisplaced};
+ghost use Rattle.rkyv_collections.specs.{WalksVisitEach, WalksVisitPairs, WrittenAlike, map_equal};
+ghost use Rattle.rkyv_collections.specs.{map_list, map_spec};
 
 pub mod in_place;
 pub mod list_archives;
@@ -21,7 +20,6 @@ use crate::lists::MapPairs;
 use crate::map::HashMapOf;
 use crate::map::read::iter::{Iter, Keys, Values};
 use rkyv_base::element::{Element, HasSpec, Represents};
-use rkyv_base::view::View;
 use rkyv_base::width::Width;
 use rkyv_keys::equality::{ElementEq, ElementEquiv};
 use rkyv_keys::keys::{FixedKey, KeyElement, Query};
@@ -66,10 +64,12 @@ pub fn repeated_keys_are_misplaced<K: KeyElement, V: Element, H: KeyHasher, W: W
         K.same }
 {}
 
-/// States that the view of a key, as a query, fits the keys that are the same.
-pub fn views_fit_the_same_keys<'a, K: KeyElement>()
-    ensures { (view : _) (b : _) (p : _) → ⟦<View<'a, K> as Query<K>>⟧.fits view b p
-        ≡ view_fits K.same view b p }
+/// States that a query that fits a key of a written map finds that key or one that is the same.
+///
+/// The found key was not inserted later. If no two keys of the map are the same, it is that key.
+pub fn fitted_keys_are_found<Q: Query<K>, K: KeyElement, V: Element, H: KeyHasher, W: Width>()
+    ensures { FindsFittedKeys W.word K.spec V.spec Q.can_read
+        (λ q. query_of H.hasher K.key_calls K.same (Q.calls q) (Q.fits q)) }
 {}
 
 /// States that a lookup finds the first pair of the represented list with an accepted key.
