@@ -5,23 +5,25 @@
 //! `written` is about the bytes of written index maps, `list_archives` about root index maps, and
 //! `nested` about writes in a map or index map that is a value.
 ghost use Rattle.rkyv_base.specs.{SameSpec, SameValues, entry_spec};
-ghost use Rattle.rkyv_keys.specs.{hash_at, hash_of, native_pairs};
+ghost use Rattle.std.specs.Prelude.{◌≡◌};
+ghost use Rattle.rkyv_keys.specs.{SameComparison, hash_at, hash_of, native_pairs};
 ghost use Rattle.rkyv_table.specs.{CountsPositions, SameSteps, YieldsKey, YieldsPair, YieldsValue};
 ghost use Rattle.rkyv_index.specs.{ComparedAlike, LookupsFindListed, PairsReadBackAreListed};
 ghost use Rattle.rkyv_index.specs.{QueriedAlike, ValueWritesKeepIndexMaps, ValueWritesKeepLookups};
 ghost use Rattle.rkyv_index.specs.{ValuesWrittenRepresent, WalksVisitInOrder, WrittenAlike};
-ghost use Rattle.rkyv_index.specs.{index_spec, ordered_pairs, reads_as};
+ghost use Rattle.rkyv_index.specs.{index_map_equal, index_maps_equal, index_spec, ordered_pairs};
+ghost use Rattle.rkyv_index.specs.{reads_as};
 
 pub mod list_archives;
 pub mod nested;
 pub mod written;
 
 use crate::lists::OrderedPairs;
-use crate::map::IndexMapOf;
 use crate::map::read::iter::{Iter, Keys, Values};
+use crate::map::{ArchivedIndexMap, IndexMapOf};
 use rkyv_base::element::{Element, HasSpec, Represents};
 use rkyv_base::width::Width;
-use rkyv_keys::equality::RepresentsUniquely;
+use rkyv_keys::equality::{ElementEq, ElementEquiv, RepresentsUniquely};
 use rkyv_keys::keys::{FixedKey, KeyElement, Query};
 use rkyv_scan::hash::{FxHasher64, KeyHasher};
 
@@ -90,6 +92,17 @@ where
     ensures list { SameValues
         ⟦<IndexMapOf<K, V, FxHasher64, W> as Represents<OrderedPairs<A, B>>>⟧.represents
         (ordered_pairs W.word K.Represents V.Represents K.key_calls (λ x. x.0.items)) }
+{}
+
+/// States that index maps are equal if and only if they have the same pairs in order.
+///
+/// - `values`: `same` compares index maps that are values.
+/// - `read`: `==` compares index maps that are read.
+pub fn index_maps_are_compared<'a, K: ElementEquiv, V: ElementEquiv, H, W: Width>()
+    ensures values { SameComparison ⟦<IndexMapOf<K, V, H, W> as ElementEq>⟧.same
+        (index_map_equal W.word K.spec V.spec K.same V.same) }
+    ensures read { (m n : _) → ⟦<ArchivedIndexMap<'a, K, V, H, W> as PartialEq>⟧.eq m n
+        ≡ index_maps_equal K.same V.same m n }
 {}
 
 /// States that a lookup finds the index of the first pair of the list with an accepted key.

@@ -2,11 +2,13 @@
 //!
 //! They are about deserialized lists, lookups, walks, the layout and the formats of lists.
 //! `written` is about the bytes of written index sets.
-ghost use Rattle.rkyv_keys.specs.{fx_key_format, hash_at, native_key_format, native_keys};
+ghost use Rattle.std.specs.Prelude.{◌≡◌};
+ghost use Rattle.rkyv_keys.specs.{SameComparison, fx_key_format, hash_at, native_key_format};
+ghost use Rattle.rkyv_keys.specs.{native_keys};
 ghost use Rattle.rkyv_index.specs.{ComparedAlike, ItemsReadBackAreListed, MembersFoundAreListed};
 ghost use Rattle.rkyv_index.specs.{QueriedAlike, SameFormats, SetWalksVisitInOrder, WrittenAlike};
-ghost use Rattle.rkyv_index.specs.{index_keys_format, index_set_spec, indices, ordered_items};
-ghost use Rattle.rkyv_index.specs.{ordered_items_format};
+ghost use Rattle.rkyv_index.specs.{index_keys_format, index_set_equal, index_set_spec};
+ghost use Rattle.rkyv_index.specs.{index_sets_equal, indices, ordered_items, ordered_items_format};
 ghost use Rattle.rkyv_base.specs.{SameFormat, SameSpec, SameValues, unit_spec};
 
 pub mod written;
@@ -14,12 +16,12 @@ pub mod written;
 use crate::lists::OrderedItems;
 use crate::map::laws::both_hashers_look_up_alike as maps_look_up_alike;
 use crate::map::write::serialize::ListFormat;
-use crate::set::IndexSetOf;
+use crate::set::{ArchivedIndexSet, IndexSetOf};
 use crate::width::IndexMapWidth;
 use rkyv_base::archive::Archive;
 use rkyv_base::element::{HasSpec, Represents};
 use rkyv_base::width::Width;
-use rkyv_keys::equality::RepresentsUniquely;
+use rkyv_keys::equality::{ElementEq, ElementEquiv, RepresentsUniquely};
 use rkyv_keys::keys::{FixedKey, KeyElement, NativeKey, NativeQuery, Query};
 use rkyv_scan::hash::{FxHasher64, KeyHasher};
 
@@ -80,6 +82,17 @@ pub fn index_sets_are_laid_out<W: Width, H, A, K: KeyElement + Represents<A>>()
     ensures list { SameValues
         ⟦<IndexSetOf<K, FxHasher64, W> as Represents<OrderedItems<A>>>⟧.represents
         (ordered_items W.word K.Represents K.key_calls (λ x. x.0.items)) }
+{}
+
+/// States that index sets are equal if and only if they have the same keys in order.
+///
+/// - `values`: `same` compares index sets that are values.
+/// - `read`: `==` compares index sets that are read.
+pub fn index_sets_are_compared<'a, K: ElementEquiv, H, W: Width>()
+    ensures values { SameComparison ⟦<IndexSetOf<K, H, W> as ElementEq>⟧.same
+        (index_set_equal W.word K.spec K.same) }
+    ensures read { (s t : _) → ⟦<ArchivedIndexSet<'a, K, H, W> as PartialEq>⟧.eq s t
+        ≡ index_sets_equal K.same s t }
 {}
 
 /// States that `serialize_from_iter` writes a list of keys as the index set of these keys.
