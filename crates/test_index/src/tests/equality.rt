@@ -3,8 +3,14 @@
 use crate::tests::writing::{narrow, set_archive, wide};
 use rkyv_base::access::{access, access_in};
 use rkyv_base::errors::VerifyError;
+use rkyv_base::root::to_bytes;
 use rkyv_base::width::{Narrow, Wide, Width};
-use rkyv_index::{ArchivedIndexMap, ArchivedIndexSet, IndexMapOf, IndexSetOf};
+use rkyv_collections::MapPairs;
+use rkyv_collections::map::{ArchivedHashMap, HashMapOf};
+use rkyv_index::map::laws::index_maps_are_compared;
+use rkyv_index::set::laws::index_sets_are_compared;
+use rkyv_index::{ArchivedIndexMap, ArchivedIndexSet, IndexMapOf, IndexSetOf, OrderedPairs};
+use rkyv_keys::equality::ElementEq;
 use rkyv_scan::hash::FxHasher64;
 use std::alloc::Global;
 use std::test::Fail;
@@ -92,5 +98,73 @@ fn a_map_of_known_bytes_equals_the_one_that_is_written(rt: HostRuntime) -> Resul
     let written = narrow(rt.alloc(), &[(1, 2), (3, 4), (5, 6), (7, 8)])?;
     let same = equal::<Narrow>(&four_entries(), written.as_slice())?;
     assert!(rt; same);
+    Ok(())
+}
+
+// Whether the index maps in two archives are the same values.
+fn same_maps(first: &[u8], second: &[u8]) -> Result<bool, VerifyError> {
+    let own = access::<IndexMapOf<i8, i8>>(first)?;
+    let other = access::<IndexMapOf<i8, i8>>(second)?;
+    Ok(IndexMapOf::<i8, i8>::same(own, other))
+}
+
+#[test]
+fn maps_that_are_values_have_the_same_pairs_in_order(rt: HostRuntime) -> Result<(), Fail> {
+    index_maps_are_compared::<i8, i8, FxHasher64, Narrow>();
+    let alloc = rt.alloc();
+    let backwards = narrow(alloc, &[(7, 8), (5, 6), (3, 4), (1, 2)])?;
+    let found = [
+        same_maps(&four_entries(), &four_entries())?,
+        same_maps(&four_entries(), backwards.as_slice())?,
+    ];
+    expect_eq!(rt; found, [true, false]);
+    Ok(())
+}
+
+// Whether the index sets in two archives are the same values.
+fn same_sets(first: &[u8], second: &[u8]) -> Result<bool, VerifyError> {
+    let own = access::<IndexSetOf<i8>>(first)?;
+    let other = access::<IndexSetOf<i8>>(second)?;
+    Ok(IndexSetOf::<i8>::same(own, other))
+}
+
+#[test]
+fn sets_that_are_values_have_the_same_keys_in_order(rt: HostRuntime) -> Result<(), Fail> {
+    index_sets_are_compared::<i8, FxHasher64, Narrow>();
+    let alloc = rt.alloc();
+    let four = set_archive(alloc, &[1, 3, 5, 7])?;
+    let backwards = set_archive(alloc, &[7, 5, 3, 1])?;
+    let found = [
+        same_sets(four.as_slice(), four.as_slice())?,
+        same_sets(four.as_slice(), backwards.as_slice())?,
+    ];
+    expect_eq!(rt; found, [true, false]);
+    Ok(())
+}
+
+// Returns the archive of the hash map of 1 to the index map of these two pairs.
+fn map_of_two(alloc: Global, first: (i8, i8), second: (i8, i8)) -> Result<Vec<u8>, Fail> {
+    let pairs = [(1i8, OrderedPairs(vec![in alloc; first, second]?))];
+    let outer: MapPairs<'_, i8, OrderedPairs<i8, i8>> = MapPairs::new(&pairs);
+    Ok(to_bytes(alloc, &outer)?)
+}
+
+// Whether the hash maps in two archives have the same keys and the same index maps.
+fn same_values(first: &[u8], second: &[u8]) -> Result<bool, VerifyError> {
+    let own = ArchivedHashMap::of(access::<HashMapOf<i8, IndexMapOf<i8, i8>>>(first)?);
+    let other = ArchivedHashMap::of(access::<HashMapOf<i8, IndexMapOf<i8, i8>>>(second)?);
+    Ok(own.eq_map(other))
+}
+
+#[test]
+fn hash_maps_compare_index_maps_in_order(rt: HostRuntime) -> Result<(), Fail> {
+    let alloc = rt.alloc();
+    let two = map_of_two(alloc, (1, 2), (3, 4))?;
+    let backwards = map_of_two(alloc, (3, 4), (1, 2))?;
+    let found = [
+        same_values(two.as_slice(), two.as_slice())?,
+        same_values(two.as_slice(), backwards.as_slice())?,
+    ];
+    expect_eq!(rt; found, [true, false]);
     Ok(())
 }
