@@ -26,6 +26,7 @@ mod in_place;
 mod interning;
 mod lookups;
 mod mixed;
+mod pieces;
 mod reading_back;
 mod recipes;
 mod requests;
