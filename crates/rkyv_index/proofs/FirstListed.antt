@@ -7,7 +7,7 @@ use Rattle.rkyv_table.proofs.Lists.{any_range, first_range, none_find}
 use Rattle.rkyv_index.specs.{IsFirst}
 
 -- if no index of a range is accepted, each is not
-none_each : (P : ℕ → Bool) (n : ℕ) → find P (range_with_len 0 n) ≡ None → (i : ℕ) → i < n → P i ≡ false
+pub none_each : (P : ℕ → Bool) (n : ℕ) → find P (range_with_len 0 n) ≡ None → (i : ℕ) → i < n → P i ≡ false
 none_each P n h i below = false_from_ne_true (P i) (λ t.
     both_ways (list_any P (range_with_len 0 n)) (none_find P (range_with_len 0 n) h) (any_range P 0 n i (omega arith) (omega arith) t))
 

@@ -14,6 +14,7 @@ pub mod Lookups
 pub mod InPlace
 pub mod ListArchives
 pub mod ListedLookups
+pub mod FittedKeys
 pub mod ListedWalks
 pub mod Reading
 pub mod Writing

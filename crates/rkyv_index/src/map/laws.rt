@@ -4,15 +4,15 @@
 //! layout.
 //! `written` is about the bytes of written index maps, `list_archives` about root index maps, and
 //! `nested` about writes in a map or index map that is a value.
-ghost use Rattle.rkyv_base.specs.{SameSpec, SameValues, entry_spec};
 ghost use Rattle.std.specs.Prelude.{◌≡◌};
-ghost use Rattle.rkyv_keys.specs.{SameComparison, hash_at, hash_of, native_pairs};
+ghost use Rattle.rkyv_base.specs.{SameSpec, SameValues, entry_spec};
+ghost use Rattle.rkyv_keys.specs.{SameComparison, hash_at, hash_of, native_pairs, query_of};
 ghost use Rattle.rkyv_table.specs.{CountsPositions, SameSteps, YieldsKey, YieldsPair, YieldsValue};
-ghost use Rattle.rkyv_index.specs.{ComparedAlike, LookupsFindListed, PairsReadBackAreListed};
-ghost use Rattle.rkyv_index.specs.{QueriedAlike, ValueWritesKeepIndexMaps, ValueWritesKeepLookups};
-ghost use Rattle.rkyv_index.specs.{ValuesWrittenRepresent, WalksVisitInOrder, WrittenAlike};
-ghost use Rattle.rkyv_index.specs.{index_map_equal, index_maps_equal, index_spec, ordered_pairs};
-ghost use Rattle.rkyv_index.specs.{reads_as};
+ghost use Rattle.rkyv_index.specs.{ComparedAlike, FindsFittedKeys, LookupsFindListed};
+ghost use Rattle.rkyv_index.specs.{PairsReadBackAreListed, QueriedAlike, ValueWritesKeepIndexMaps};
+ghost use Rattle.rkyv_index.specs.{ValueWritesKeepLookups, ValuesWrittenRepresent};
+ghost use Rattle.rkyv_index.specs.{WalksVisitInOrder, WrittenAlike, index_map_equal};
+ghost use Rattle.rkyv_index.specs.{index_maps_equal, index_spec, ordered_pairs, reads_as};
 
 pub mod list_archives;
 pub mod nested;
@@ -122,6 +122,14 @@ pub fn lookups_find_listed<
 >()
     ensures { LookupsFindListed H W.Word K.HasSpec V.HasSpec
         (native_pairs K.represents V.represents H.hasher K.key_calls) }
+{}
+
+/// States that a query that fits a key of a written index map finds it, or one that is the same.
+///
+/// The found key is not after it. If no two keys of the index map are the same, it is that key.
+pub fn fitted_keys_are_found<Q: Query<K>, K: KeyElement, V: Element, H: KeyHasher, W: Width>()
+    ensures { FindsFittedKeys H W.Word K.HasSpec V.HasSpec Q.can_read
+        (λ q. query_of H.hasher K.key_calls K.same (Q.calls q) (Q.fits q)) }
 {}
 
 /// States that `iter`, `keys` and `values` return the pairs of the represented list, in order.
