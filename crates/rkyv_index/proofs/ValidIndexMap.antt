@@ -60,7 +60,7 @@ module _ (w : Width) (kind : IsArchiveWord w) (s : ElementSpec) (law : IsElement
         valid = valid_at s law b (entry_at s.size begin i) r.lower begin r.rest r.below u.0 r.is_valid;
       })
 
-  -- all entries are valid. `size`, `begin`, `n`, `d`: what the map, or its header, has
+  -- all entries are valid. `size`: size of an entry, `begin`: position of the first, `n`: their number, `d`: bytes of the archive
   pub row_viewable : (size : ℕ) → size ≡ s.size → (begin : ℕ) → begin ≡ entries_pos w b p → (n : ℕ) → n ≡ len_at w b p → (d : List ℕ) → d ≡ b → All (Viewable s d) (row size begin n)
   row_viewable size a begin e n l d same = rw (a, e, l, same) (All-row (Viewable s b) s.size (entries_pos w b p) (len_at w b p) entry_viewable)
 
