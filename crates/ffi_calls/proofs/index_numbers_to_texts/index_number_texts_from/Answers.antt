@@ -1,22 +1,19 @@
-use Rattle.std.specs.Prelude.{map}
-use Rattle.ffi_calls.specs.{IsHeaderOf, IsNumberTextIndex, StoresListedNumberTexts, StoresNumberTexts, key_by, number_keys_at, number_text_index_in}
-use Rattle.ffi_calls.proofs.Forms.{at_flag, of_flag}
 use Rattle.ffi_calls.proofs.index_numbers_to_texts.index_number_texts_from.Goals as goal
 
 pub typed_index_header-requires : goal.typed_index_header-requires
-typed_index_header-requires g c = of_flag (λ f. IsNumberTextIndex (key_by g.K.PartialEq.eq g.K.HasSpec.spec g.K.Scalar.encoding g.K.ScalarKey.call) f c.args.archive.now × IsHeaderOf (number_text_index_in (key_by g.K.PartialEq.eq g.K.HasSpec.spec g.K.Scalar.encoding g.K.ScalarKey.call) f c.args.archive.now) c.args.header.now) c.if-wide.true (c.requires.archive, c.requires.header)
+typed_index_header-requires g c = (rw c.if-wide.true at c.requires.archive, rw c.if-wide.true at c.requires.header)
 
 pub typed_index_header-requires-else-wide : goal.typed_index_header-requires-else-wide
-typed_index_header-requires-else-wide g c = of_flag (λ f. IsNumberTextIndex (key_by g.K.PartialEq.eq g.K.HasSpec.spec g.K.Scalar.encoding g.K.ScalarKey.call) f c.args.archive.now × IsHeaderOf (number_text_index_in (key_by g.K.PartialEq.eq g.K.HasSpec.spec g.K.Scalar.encoding g.K.ScalarKey.call) f c.args.archive.now) c.args.header.now) c.if-wide.false (c.requires.archive, c.requires.header)
+typed_index_header-requires-else-wide g c = (rw c.if-wide.false at c.requires.archive, rw c.if-wide.false at c.requires.header)
 
 pub returns-then-wide-clause-stores : goal.returns-then-wide-clause-stores
-returns-then-wide-clause-stores g c = at_flag (λ f. StoresNumberTexts (number_keys_at (key_by g.K.PartialEq.eq g.K.HasSpec.spec g.K.Scalar.encoding g.K.ScalarKey.call) f c.args.archive.now) c.args.from (map g.P.PairOf.pair_of c.args.pairs.now) c.pairs_in.result (map g.P.PairOf.pair_of c.pairs_in.new.pairs)) c.if-wide.true c.pairs_in.ensures.stores
+returns-then-wide-clause-stores g c = rw c.if-wide.true c.pairs_in.ensures.stores
 
 pub returns-then-wide-clause-listed : goal.returns-then-wide-clause-listed
-returns-then-wide-clause-listed g c = at_flag (λ f. StoresListedNumberTexts (number_keys_at (key_by g.K.PartialEq.eq g.K.HasSpec.spec g.K.Scalar.encoding g.K.ScalarKey.call) f c.args.archive.now) c.args.from (map g.P.PairOf.pair_of c.args.pairs.now) c.pairs_in.result (map g.P.PairOf.pair_of c.pairs_in.new.pairs)) c.if-wide.true c.pairs_in.ensures.listed
+returns-then-wide-clause-listed g c = rw c.if-wide.true c.pairs_in.ensures.listed
 
 pub returns-else-wide-clause-stores : goal.returns-else-wide-clause-stores
-returns-else-wide-clause-stores g c = at_flag (λ f. StoresNumberTexts (number_keys_at (key_by g.K.PartialEq.eq g.K.HasSpec.spec g.K.Scalar.encoding g.K.ScalarKey.call) f c.args.archive.now) c.args.from (map g.P.PairOf.pair_of c.args.pairs.now) c.pairs_in-else-wide.result (map g.P.PairOf.pair_of c.pairs_in-else-wide.new.pairs)) c.if-wide.false c.pairs_in-else-wide.ensures.stores
+returns-else-wide-clause-stores g c = rw c.if-wide.false c.pairs_in-else-wide.ensures.stores
 
 pub returns-else-wide-clause-listed : goal.returns-else-wide-clause-listed
-returns-else-wide-clause-listed g c = at_flag (λ f. StoresListedNumberTexts (number_keys_at (key_by g.K.PartialEq.eq g.K.HasSpec.spec g.K.Scalar.encoding g.K.ScalarKey.call) f c.args.archive.now) c.args.from (map g.P.PairOf.pair_of c.args.pairs.now) c.pairs_in-else-wide.result (map g.P.PairOf.pair_of c.pairs_in-else-wide.new.pairs)) c.if-wide.false c.pairs_in-else-wide.ensures.listed
+returns-else-wide-clause-listed g c = rw c.if-wide.false c.pairs_in-else-wide.ensures.listed

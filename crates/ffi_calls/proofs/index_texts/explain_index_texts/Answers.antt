@@ -1,15 +1,13 @@
-use Rattle.ffi_calls.specs.{Explains, limit_of, text_index}
-use Rattle.ffi_calls.proofs.Forms.{at_form}
 use Rattle.ffi_calls.proofs.index_texts.explain_index_texts.Goals as goal
 
 pub returns-in-true-true : goal.returns-in-true-true
-returns-in-true-true c = at_form (λ f. Explains (limit_of f.wide) (text_index f) c.args.archive.now c.explain_index.result) c.args.form c.in-true-true.is-0 c.in-true-true.is-1 c.explain_index.ensures
+returns-in-true-true c = rw (c.in-true-true.is-0, c.in-true-true.is-1) c.explain_index.ensures
 
 pub returns-in-true-false : goal.returns-in-true-false
-returns-in-true-false c = at_form (λ f. Explains (limit_of f.wide) (text_index f) c.args.archive.now c.explain_index-in-true-false.result) c.args.form c.in-true-false.is-0 c.in-true-false.is-1 c.explain_index-in-true-false.ensures
+returns-in-true-false c = rw (c.in-true-false.is-0, c.in-true-false.is-1) c.explain_index-in-true-false.ensures
 
 pub returns-in-false-true : goal.returns-in-false-true
-returns-in-false-true c = at_form (λ f. Explains (limit_of f.wide) (text_index f) c.args.archive.now c.explain_index-in-false-true.result) c.args.form c.in-false-true.is-0 c.in-false-true.is-1 c.explain_index-in-false-true.ensures
+returns-in-false-true c = rw (c.in-false-true.is-0, c.in-false-true.is-1) c.explain_index-in-false-true.ensures
 
 pub returns-in-false-false : goal.returns-in-false-false
-returns-in-false-false c = at_form (λ f. Explains (limit_of f.wide) (text_index f) c.args.archive.now c.explain_index-in-false-false.result) c.args.form c.in-false-false.is-0 c.in-false-false.is-1 c.explain_index-in-false-false.ensures
+returns-in-false-false c = rw (c.in-false-false.is-0, c.in-false-false.is-1) c.explain_index-in-false-false.ensures

@@ -1,16 +1,13 @@
-use Rattle.std.specs.Prelude.{map}
-use Rattle.ffi_calls.specs.{IsHeaderOf, IsNumberTextArchive, StoresNextNumberTexts, key_by, number_keys_at, number_texts_in}
-use Rattle.ffi_calls.proofs.Forms.{at_flag, of_flag}
 use Rattle.ffi_calls.proofs.numbers_to_texts.next_number_texts.Goals as goal
 
 pub typed_header-requires : goal.typed_header-requires
-typed_header-requires g c = of_flag (λ f. IsNumberTextArchive (key_by g.K.PartialEq.eq g.K.HasSpec.spec g.K.Scalar.encoding g.K.ScalarKey.call) f c.args.archive.now × IsHeaderOf (number_texts_in (key_by g.K.PartialEq.eq g.K.HasSpec.spec g.K.Scalar.encoding g.K.ScalarKey.call) f c.args.archive.now) c.args.header.now) c.if-wide.true (c.requires.archive, c.requires.header)
+typed_header-requires g c = (rw c.if-wide.true at c.requires.archive, rw c.if-wide.true at c.requires.header)
 
 pub typed_header-requires-else-wide : goal.typed_header-requires-else-wide
-typed_header-requires-else-wide g c = of_flag (λ f. IsNumberTextArchive (key_by g.K.PartialEq.eq g.K.HasSpec.spec g.K.Scalar.encoding g.K.ScalarKey.call) f c.args.archive.now × IsHeaderOf (number_texts_in (key_by g.K.PartialEq.eq g.K.HasSpec.spec g.K.Scalar.encoding g.K.ScalarKey.call) f c.args.archive.now) c.args.header.now) c.if-wide.false (c.requires.archive, c.requires.header)
+typed_header-requires-else-wide g c = (rw c.if-wide.false at c.requires.archive, rw c.if-wide.false at c.requires.header)
 
 pub returns-then-wide : goal.returns-then-wide
-returns-then-wide g c = at_flag (λ f. StoresNextNumberTexts (number_keys_at (key_by g.K.PartialEq.eq g.K.HasSpec.spec g.K.Scalar.encoding g.K.ScalarKey.call) f c.args.archive.now) c.args.from (map g.S.StepOf.step_of c.args.pairs.now) c.next_pairs_in.result (map g.S.StepOf.step_of c.next_pairs_in.new.pairs)) c.if-wide.true c.next_pairs_in.ensures
+returns-then-wide g c = rw c.if-wide.true c.next_pairs_in.ensures
 
 pub returns-else-wide : goal.returns-else-wide
-returns-else-wide g c = at_flag (λ f. StoresNextNumberTexts (number_keys_at (key_by g.K.PartialEq.eq g.K.HasSpec.spec g.K.Scalar.encoding g.K.ScalarKey.call) f c.args.archive.now) c.args.from (map g.S.StepOf.step_of c.args.pairs.now) c.next_pairs_in-else-wide.result (map g.S.StepOf.step_of c.next_pairs_in-else-wide.new.pairs)) c.if-wide.false c.next_pairs_in-else-wide.ensures
+returns-else-wide g c = rw c.if-wide.false c.next_pairs_in-else-wide.ensures

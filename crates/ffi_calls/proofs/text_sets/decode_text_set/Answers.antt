@@ -1,15 +1,13 @@
-use Rattle.ffi_calls.specs.{IsHeaderOf, IsTextSet, text_set_in}
-use Rattle.ffi_calls.proofs.Forms.{at_flag, of_flag}
 use Rattle.ffi_calls.proofs.text_sets.decode_text_set.Goals as goal
 
 pub header_of-requires : goal.header_of-requires
-header_of-requires c = of_flag (λ f. IsTextSet f c.args.archive.now) c.if-wide.true c.requires
+header_of-requires c = rw c.if-wide.true at c.requires
 
 pub returns-then-wide : goal.returns-then-wide
-returns-then-wide c = at_flag (λ f. IsHeaderOf (text_set_in f c.args.archive.now) c.header_of.result) c.if-wide.true c.header_of.ensures
+returns-then-wide c = rw c.if-wide.true c.header_of.ensures
 
 pub header_of-requires-else-wide : goal.header_of-requires-else-wide
-header_of-requires-else-wide c = of_flag (λ f. IsTextSet f c.args.archive.now) c.if-wide.false c.requires
+header_of-requires-else-wide c = rw c.if-wide.false at c.requires
 
 pub returns-else-wide : goal.returns-else-wide
-returns-else-wide c = at_flag (λ f. IsHeaderOf (text_set_in f c.args.archive.now) c.header_of-else-wide.result) c.if-wide.false c.header_of-else-wide.ensures
+returns-else-wide c = rw c.if-wide.false c.header_of-else-wide.ensures
