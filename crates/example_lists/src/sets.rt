@@ -1,9 +1,9 @@
 //! Lookups in hash sets and in index sets.
 
-ghost use Rattle.std.specs.Prelude.{◌==◌, ◌≡◌, Ok};
+ghost use Rattle.std.specs.Prelude.{◌==◌, ◌≡◌, Ok, slice_get};
 ghost use Rattle.std.specs.List.{list_any, position};
 ghost use Rattle.rkyv_base.specs.{IsNarrowArchive, OpensNarrow};
-ghost use Rattle.rkyv_keys.specs.{same_bytes};
+ghost use Rattle.rkyv_keys.specs.{IsTextOk, same_bytes};
 
 use rkyv_base::access::access;
 use rkyv_base::element::{HasSpec, Represents};
@@ -25,6 +25,9 @@ pub type WordItems<'a> = SetItems<'a, &'a str>;
 
 /// An index set of numbers in a narrow archive.
 pub type Ids = IndexSetOf<u64>;
+
+/// An index set of texts in a narrow archive.
+pub type Names = IndexSetOf<Text>;
 
 /// Returns `true` if and only if the list has the word.
 ///
@@ -56,4 +59,22 @@ pub fn index_of_id(set: &[u8], id: u64) -> Result<Option<usize>, VerifyError>
     indexed_members_found_are_listed::<u64, u64, u64, FxHasher64, Narrow>();
     let ids = ArchivedIndexSet::of(access::<Ids>(set)?);
     Ok(ids.get_index_of(&id))
+}
+
+/// Returns the text at the index in the list.
+///
+/// # Errors
+///
+/// - The error of the validation.
+pub fn name_at(set: &[u8], index: usize) -> Result<Option<&str>, VerifyError>
+    ensures opened { OpensNarrow ⟦<Names as HasSpec>⟧.spec set.now result }
+    ensures listed { (list : _) → IsNarrowArchive
+        ⟦<Names as Represents<OrderedItems<&'static str>>>⟧ set.now list
+        → IsTextOk (slice_get list.0.items index) result }
+{
+    let names = ArchivedIndexSet::of(access::<Names>(set)?);
+    match names.get_index(index) {
+        Some(name) => Ok(Some(name.as_str())),
+        None => Ok(None),
+    }
 }

@@ -1,5 +1,6 @@
 //! Tests of `example_lists`.
 
+mod in_place;
 mod index_maps;
 mod maps;
 mod maps_of_std;

@@ -1,7 +1,7 @@
 //! A hash set of words and an index set of numbers.
 
 use super::{out_of_range, without_first};
-use example_lists::sets::{WordItems, has_word, index_of_id};
+use example_lists::sets::{WordItems, has_word, index_of_id, name_at};
 use rkyv_base::root::to_bytes;
 use rkyv_collections::SetItems;
 use rkyv_index::OrderedItems;
@@ -21,6 +21,13 @@ fn words(alloc: Global) -> Result<Vec<u8>, Fail> {
 fn ids(alloc: Global) -> Result<Vec<u8>, Fail> {
     let ids: OrderedItems<u64> = OrderedItems(vec![in alloc; u64::MAX, 3, 3, 40]?);
     Ok(to_bytes(alloc, &ids)?)
+}
+
+// Returns the archive of three names.
+// The index set begins with 4 buckets of 4 bytes and 35 control bytes.
+fn names(alloc: Global) -> Result<Vec<u8>, Fail> {
+    let names: OrderedItems<&str> = OrderedItems(vec![in alloc; "red", "green", "blue"]?);
+    Ok(to_bytes(alloc, &names)?)
 }
 
 #[test]
@@ -48,6 +55,15 @@ fn the_first_index_of_an_id_is_found(rt: HostRuntime) -> Result<(), Fail> {
         index_of_id(bytes, 0)?,
     ];
     expect_eq!(rt; found, [Some(1), Some(3), Some(0), None]);
+    Ok(())
+}
+
+#[test]
+fn the_name_at_an_index_is_found(rt: HostRuntime) -> Result<(), Fail> {
+    let archive = names(rt.alloc())?;
+    let bytes = archive.as_slice();
+    let found = [name_at(bytes, 0)?, name_at(bytes, 2)?, name_at(bytes, 3)?];
+    assert_eq!(rt; found, [Some("red"), Some("blue"), None]);
     Ok(())
 }
 

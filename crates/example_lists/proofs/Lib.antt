@@ -1,0 +1,2 @@
+mod RootWrites
+mod TextAt

@@ -1,0 +1,37 @@
+//! A write in place, by key, in a hash map of texts to numbers.
+
+ghost use Rattle.std.specs.Int.{w64};
+ghost use Rattle.std.specs.Option.{is_some};
+ghost use Rattle.std.specs.Prelude.{ℕ, ◌≡◌, Ok};
+ghost use Rattle.rkyv_base.specs.{unsigned};
+ghost use Rattle.rkyv_keys.specs.{same_bytes};
+ghost use Rattle.rkyv_collections.specs.{IsTextMap, TextPairs, first_of_text, with_first};
+
+use rkyv_base::access::access;
+use rkyv_base::errors::VerifyError;
+use rkyv_base::text::Text;
+use rkyv_base::width::Narrow;
+use rkyv_collections::FxHasher64;
+use rkyv_collections::map::HashMapOf;
+use rkyv_collections::map::in_place::set_value_of;
+
+/// A map of texts to numbers in a narrow archive.
+pub type Counts = HashMapOf<Text, u64>;
+
+/// Writes the count of the first pair with the name, and returns whether there is one.
+///
+/// The archive stays one of the list, in which this count is replaced.
+///
+/// # Errors
+///
+/// - The error of the validation.
+pub fn set_count(table: &mut [u8], name: &str, count: u64) -> Result<bool, VerifyError>
+    ensures found { (pairs : TextPairs ℕ) → IsTextMap (unsigned w64) table.old pairs
+        → result ≡ Ok (is_some (first_of_text name.now pairs)) }
+    ensures listed { (pairs : TextPairs ℕ) → IsTextMap (unsigned w64) table.old pairs
+        → IsTextMap (unsigned w64) table.new
+        (with_first (λ other. same_bytes name.now other.now) count pairs) }
+{
+    let root = access::<Counts>(&*table)?.pos();
+    Ok(set_value_of::<&str, Text, u64, FxHasher64, Narrow>(table, root, &name, count))
+}
