@@ -2,12 +2,13 @@
 
 ghost use Rattle.std.specs.Int.{w64};
 ghost use Rattle.std.specs.Option.{is_some};
-ghost use Rattle.std.specs.Prelude.{ℕ, ◌≡◌, Ok};
-ghost use Rattle.rkyv_base.specs.{unsigned};
+ghost use Rattle.std.specs.Prelude.{ℕ, ◌≡◌, Ok, OnErr};
+ghost use Rattle.rkyv_base.specs.{OpensNarrow, unsigned};
 ghost use Rattle.rkyv_keys.specs.{same_bytes};
 ghost use Rattle.rkyv_collections.specs.{IsTextMap, TextPairs, first_of_text, with_first};
 
 use rkyv_base::access::access;
+use rkyv_base::element::HasSpec;
 use rkyv_base::errors::VerifyError;
 use rkyv_base::text::Text;
 use rkyv_base::width::Narrow;
@@ -20,12 +21,15 @@ pub type Counts = HashMapOf<Text, u64>;
 
 /// Writes the count of the first pair with the name, and returns whether there is one.
 ///
-/// The archive stays one of the list, in which this count is replaced.
+/// The archive stays one of the list, in which this count is replaced. After an error it is
+/// unchanged.
 ///
 /// # Errors
 ///
 /// - The error of the validation.
 pub fn set_count(table: &mut [u8], name: &str, count: u64) -> Result<bool, VerifyError>
+    ensures opened { OpensNarrow ⟦<Counts as HasSpec>⟧.spec table.old result }
+    ensures unchanged { OnErr result (table.new ≡ table.old) }
     ensures found { (pairs : TextPairs ℕ) → IsTextMap (unsigned w64) table.old pairs
         → result ≡ Ok (is_some (first_of_text name.now pairs)) }
     ensures listed { (pairs : TextPairs ℕ) → IsTextMap (unsigned w64) table.old pairs

@@ -9,7 +9,6 @@ use std::alloc::Global;
 use std::test::Fail;
 
 // Returns the archive of three counts, two of them under one name.
-// The map begins with 4 buckets of 16 bytes and 35 control bytes.
 fn counts(alloc: Global) -> Result<Vec<u8>, Fail> {
     let list: MapPairs<'_, &str, u64> = MapPairs::new(&[("tea", 3), ("cake", 5), ("tea", 4)]);
     Ok(to_bytes(alloc, &list)?)

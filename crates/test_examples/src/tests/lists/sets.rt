@@ -24,7 +24,6 @@ fn ids(alloc: Global) -> Result<Vec<u8>, Fail> {
 }
 
 // Returns the archive of three names.
-// The index set begins with 4 buckets of 4 bytes and 35 control bytes.
 fn names(alloc: Global) -> Result<Vec<u8>, Fail> {
     let names: OrderedItems<&str> = OrderedItems(vec![in alloc; "red", "green", "blue"]?);
     Ok(to_bytes(alloc, &names)?)
