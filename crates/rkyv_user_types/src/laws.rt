@@ -1,12 +1,12 @@
 //! Laws of `PairEntry` and `TupleEntry`.
 //!
-//! They say by which parts a value is archived, represented and hashed, and with which errors
-//! it fails to deserialize.
+//! They say by which parts a value is archived, represented, compared and hashed, and with which
+//! errors it fails to deserialize.
 
-ghost use Rattle.std.specs.Prelude.{◌++◌, ◌≡◌};
+ghost use Rattle.std.specs.Prelude.{◌&&◌, ◌++◌, ◌↔◌, ◌≡◌};
 ghost use Rattle.rkyv_base.specs.{SameFormat, SameValues, pair_format, written_as};
-ghost use Rattle.rkyv_keys.specs.{SameErrors, entry_deserialize_fails};
-ghost use Rattle.rkyv_user_types.specs.{RepresentsAsPair};
+ghost use Rattle.rkyv_keys.specs.{BothRead, SameErrors, entry_deserialize_fails};
+ghost use Rattle.rkyv_user_types.specs.{RepresentsAsPair, equals_as};
 
 use crate::pair::{AsPair, FromPair, PairEntry};
 use crate::tuple::{AsTuple, FromTuple, TupleEntry};
@@ -15,6 +15,7 @@ use rkyv_base::element::Represents;
 use rkyv_base::entry::Entry;
 use rkyv_base::width::Width;
 use rkyv_keys::deserialize::Deserialize;
+use rkyv_keys::equality::MatchesNative;
 use rkyv_keys::hash::KeyHash;
 
 /// States that a `PairEntry` is archived and represented as the pair of its parts.
@@ -33,10 +34,26 @@ pub fn pairs_are_archived_as_their_parts<
         (pair_format A.Archived.spec B.Archived.spec A.format B.format)) }
 {}
 
+/// States that a `PairEntry` is compared by its parts, with another one and with an archived pair.
+pub fn pairs_are_compared_as_their_parts<
+    A: PartialEq,
+    B: PartialEq,
+    T: AsPair<First = A, Second = B>,
+    K: MatchesNative<A>,
+    V: MatchesNative<B>,
+>()
+    ensures native { (x y : _) → ⟦<PairEntry<T> as PartialEq>⟧.eq x y
+        ≡ (A.eq (T.pair x.0).0 (T.pair y.0).0 && B.eq (T.pair x.0).1 (T.pair y.0).1) }
+    ensures archived { SameValues ⟦<Entry<K, V> as MatchesNative<PairEntry<T>>>⟧.equals
+        (equals_as K.spec V.spec K.equals V.equals (λ x. T.pair x.0)) }
+{}
+
 /// States that a `PairEntry` is hashed by the calls of its first part, and then of its second.
 pub fn pairs_hash_as_their_parts<A: KeyHash, B: KeyHash, T: AsPair<First = A, Second = B>>()
-    ensures { (x : _) → ⟦<PairEntry<T> as KeyHash>⟧.calls x
+    ensures calls { (x : _) → ⟦<PairEntry<T> as KeyHash>⟧.calls x
         ≡ A.calls (T.pair x.0).0 ++ B.calls (T.pair x.0).1 }
+    ensures read { (x : _) → ⟦<PairEntry<T> as KeyHash>⟧.can_read x
+        ↔ BothRead A.can_read B.can_read (T.pair x.0) }
 {}
 
 /// States that a `PairEntry` fails to deserialize only with the errors of its parts.
@@ -67,14 +84,30 @@ pub fn tuples_are_archived_as_their_parts<
         (pair_format A.Archived.spec B.Archived.spec A.format B.format)) }
 {}
 
+/// States that a `TupleEntry` is compared by its parts, with another one and with an archived pair.
+pub fn tuples_are_compared_as_their_parts<
+    A: PartialEq + Drop,
+    B: PartialEq + Drop,
+    T: AsTuple<First = A, Second = B>,
+    K: MatchesNative<A>,
+    V: MatchesNative<B>,
+>()
+    ensures native { (x y : _) → ⟦<TupleEntry<T> as PartialEq>⟧.eq x y
+        ≡ (A.eq (T.tuple x.0).0 (T.tuple y.0).0 && B.eq (T.tuple x.0).1 (T.tuple y.0).1) }
+    ensures archived { SameValues ⟦<Entry<K, V> as MatchesNative<TupleEntry<T>>>⟧.equals
+        (equals_as K.spec V.spec K.equals V.equals (λ x. T.tuple x.0)) }
+{}
+
 /// States that a `TupleEntry` is hashed by the calls of its first part, and then of its second.
 pub fn tuples_hash_as_their_parts<
     A: KeyHash + Drop,
     B: KeyHash + Drop,
     T: AsTuple<First = A, Second = B>,
 >()
-    ensures { (x : _) → ⟦<TupleEntry<T> as KeyHash>⟧.calls x
+    ensures calls { (x : _) → ⟦<TupleEntry<T> as KeyHash>⟧.calls x
         ≡ A.calls (T.tuple x.0).0 ++ B.calls (T.tuple x.0).1 }
+    ensures read { (x : _) → ⟦<TupleEntry<T> as KeyHash>⟧.can_read x
+        ↔ BothRead A.can_read B.can_read (T.tuple x.0) }
 {}
 
 /// States that a `TupleEntry` fails to deserialize only with the errors of its parts.

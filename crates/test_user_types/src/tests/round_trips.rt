@@ -10,8 +10,9 @@ use rkyv_base::width::{Narrow, Wide};
 use rkyv_collections::std_maps::hashed::Hashed;
 use rkyv_collections::std_maps::round_trip::round_trips_equal;
 use rkyv_user_types::laws::{
-    pairs_are_archived_as_their_parts, pairs_fail_as_their_parts, pairs_hash_as_their_parts,
-    tuples_are_archived_as_their_parts, tuples_fail_as_their_parts, tuples_hash_as_their_parts,
+    pairs_are_archived_as_their_parts, pairs_are_compared_as_their_parts,
+    pairs_fail_as_their_parts, pairs_hash_as_their_parts, tuples_are_archived_as_their_parts,
+    tuples_are_compared_as_their_parts, tuples_fail_as_their_parts, tuples_hash_as_their_parts,
 };
 use rkyv_user_types::pair::PairEntry;
 use rkyv_user_types::tuple::TupleEntry;
@@ -44,9 +45,11 @@ fn one_place(alloc: Global) -> Result<Places, AllocError> {
 #[test]
 fn a_point_and_a_pixel(rt: HostRuntime) {
     pairs_are_archived_as_their_parts::<Narrow, i32, i32, Point>();
+    pairs_are_compared_as_their_parts::<i32, i32, Point, i32, i32>();
     pairs_hash_as_their_parts::<i32, i32, Point>();
     pairs_fail_as_their_parts::<i32, i32, Point, i32, i32>();
     tuples_are_archived_as_their_parts::<Wide, u8, (u16, u16), Pixel>();
+    tuples_are_compared_as_their_parts::<u8, (u16, u16), Pixel, u8, Entry<u16, u16>>();
     tuples_hash_as_their_parts::<u8, (u16, u16), Pixel>();
     tuples_fail_as_their_parts::<u8, (u16, u16), Pixel, u8, Entry<u16, u16>>();
     let point = PairEntry(Point { x: -2, y: 3 });
