@@ -181,6 +181,7 @@ fn values_are_compared_in_place(rt: HostRuntime) {
     ];
     let equal = [
         equals::<&str, Text>(&WONDERFUL, &"wonderful").ok(),
+        equals::<&str, Text>(&HELLO_AGAIN, &"hello").ok(),
         equals::<(&str, u32), Entry<Text, u32>>(&HELLO_SEVEN, &("hello", 7)).ok(),
         equals::<(&str, u32), Entry<Text, u32>>(&HELLO_SEVEN, &("hello", 8)).ok(),
         equals::<(), ()>(&[], &()).ok(),
@@ -189,7 +190,7 @@ fn values_are_compared_in_place(rt: HostRuntime) {
         (same, equal, owned_hello(rt.alloc())),
         (
             [yes, no, no, yes],
-            [yes, yes, no, yes],
+            [yes, yes, yes, no, yes],
             Some([yes, no, yes, no])
         )
     );
