@@ -102,14 +102,15 @@ fn keys_are_found(rt: HostRuntime) -> Result<(), Fail> {
     let index = set.get_index_of(&3);
     assert!(rt; index == Some(2));
     assert!(rt; set.get_index(3).is_none());
-    let mut last = [0; 2];
+    // 4, 1 and 3 are digits to the base 5.
+    let mut digits = [0i8; 2];
     for key in set {
-        last[0] = key.to_native();
+        digits[0] = digits[0].wrapping_mul(5).wrapping_add(key.to_native());
     }
     for key in &set {
-        last[1] = key.to_native();
+        digits[1] = digits[1].wrapping_mul(5).wrapping_add(key.to_native());
     }
-    expect_eq!(rt; last, [3; 2]);
+    expect_eq!(rt; digits, [108; 2]);
     Ok(())
 }
 
