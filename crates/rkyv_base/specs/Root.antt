@@ -27,8 +27,8 @@ module _ {V R : Type 0} (align : ℕ) (f : Format V R) (v : V) (p : ℕ) where
       ⊎ (f.overflow v r (round_up (p + length part) align) × (step ≡ failure distance))
 
 module _ {V R : Type 0} (s : ElementSpec) (f : Format V R) (v : V) (p : ℕ) where
-  -- `step`: next step of writing a root of the element `s` after `front`. It is an allocation
-  -- failure if the element has bytes, a step of the value, the zeros, or the fixed bytes
+  -- `step`: next step of writing a root of the element `s` after `front`. It is a step of the
+  -- value, the zeros or the fixed bytes. If the element has bytes, an allocation may fail first
   abbrev pub RootNext : List ℕ → Step → Type 0
   RootNext front step =
       ((0 < s.size) × Only (failure no_memory) front step)

@@ -1,26 +1,28 @@
 //! Laws of the elements of this crate: their layout, their bytes, and the values they represent.
 //!
 //! An implementation names these in its own ghost members. The laws say them of each type,
-//! by the definitions in `specs/`.
+//! by the definitions in `specs/`. One law is about the outputs of writers.
 
 ghost use Rattle.std.specs.Int.{w16, w32, w64, w8};
 ghost use Rattle.std.specs.Prelude.{string_bytes, ◌≡◌};
 ghost use Rattle.rkyv_base.specs.{CountsReadBack, DistancesReadBack, IsScalar, IsTextOf};
 ghost use Rattle.rkyv_base.specs.{PairRepresents, RepresentsAs, SameEncoding, SameFormat, SameSpec};
 ghost use Rattle.rkyv_base.specs.{SameValues, ScalarRepresents, WideDistancesFit};
-ghost use Rattle.rkyv_base.specs.{bool_encoding, char_encoding, entry_spec, narrow_limit};
+ghost use Rattle.rkyv_base.specs.{bool_encoding, char_encoding, entry_spec, limited, narrow_limit};
 ghost use Rattle.rkyv_base.specs.{pair_format, pair_of, scalar_format, signed, text_format};
 ghost use Rattle.rkyv_base.specs.{text_spec, unit_format, unit_represents, unit_spec, unsigned};
-ghost use Rattle.rkyv_base.specs.{wide_limit, written_as};
+ghost use Rattle.rkyv_base.specs.{vec_output, wide_limit, written_as};
 
 use crate::adapter::EntryAdapter;
 use crate::archive::Archive;
 use crate::element::{HasSpec, Represents};
 use crate::entry::{Entry, LARGEST};
 use crate::lend::Lend;
+use crate::limit::LimitWriter;
 use crate::scalars::Scalar;
 use crate::text::Text;
 use crate::width::{Narrow, Wide, Width, Word};
+use crate::writer::{VecWriter, Writer};
 
 /// States by which numbers the integers are encoded: in as many bits as their types have.
 ///
@@ -123,4 +125,13 @@ pub fn wide_distances_fit()
 /// States that the greatest size of an element is 1,073,741,824 bytes.
 pub fn largest_element()
     ensures { LARGEST ≡ 1073741824 }
+{}
+
+/// States where the output of each writer begins, which bytes it has, and what its count counts.
+///
+/// That of a `VecWriter` begins at position 0. A `LimitWriter` has the bytes of its inner writer,
+/// and a count of failures of its own.
+pub fn outputs_of_writers<S: Writer>()
+    ensures memory { (w : _) → ⟦<VecWriter as Writer>⟧.output w ≡ vec_output w }
+    ensures limit { (w : _) → ⟦<LimitWriter<S> as Writer>⟧.output w ≡ limited S.output w }
 {}

@@ -7,7 +7,7 @@ use Rattle.rkyv_base.specs.{ElementSpec, ValidAt}
 abbrev pub Comparison : Type 0
 Comparison = List ℕ → ℕ → List ℕ → ℕ → Bool
 
--- both comparisons have one result for each two values
+-- for each two values, both comparisons have the same result
 abbrev pub SameComparison : Comparison → Comparison → Type 0
 SameComparison same other = (b : List ℕ) (p : ℕ) (c : List ℕ) (q : ℕ) → same b p c q ≡ other b p c q
 

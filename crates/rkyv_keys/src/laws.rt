@@ -1,16 +1,19 @@
 //! Laws of keys.
 //!
-//! The first is of native keys, and the next two are of queries. They are proved from the laws
-//! of their traits. The others say by which calls values of the types of this crate are hashed,
-//! and with which errors they are deserialized.
+//! Those of native keys and of queries are proved from the laws of their traits. The others are
+//! about the types of this crate: by which calls their values are hashed, which native values they
+//! equal, and with which errors they are deserialized.
 
-ghost use Rattle.std.specs.Prelude.{[], string_bytes, ◌++◌, ◌∷◌, ◌≡◌};
+ghost use Rattle.std.specs.Prelude.{[], string_bytes, ◌++◌, ◌∷◌, ◌≡◌, ◌↔◌};
 ghost use Rattle.rkyv_scan.specs.{I16, I32, I64, I8, Isize, U16, U32, U64, U8, Usize};
-ghost use Rattle.rkyv_keys.specs.{FitsByValue, FitsSameKeys, HashesAsWritten, HashesBy};
+ghost use Rattle.rkyv_base.specs.{IsTextOf, SameValues, ScalarRepresents, unit_represents};
+ghost use Rattle.rkyv_keys.specs.{BothRead, FitsByValue, FitsSameKeys, HashesAsWritten, HashesBy};
 ghost use Rattle.rkyv_keys.specs.{RestsOnKeys, SameErrors, at_view, bool_call};
-ghost use Rattle.rkyv_keys.specs.{entry_deserialize_fails, memory_fails, nothing_fails, text_calls};
+ghost use Rattle.rkyv_keys.specs.{entry_deserialize_fails, entry_equals, memory_fails};
+ghost use Rattle.rkyv_keys.specs.{nothing_fails, text_calls};
 
 use crate::deserialize::Deserialize;
+use crate::equality::MatchesNative;
 use crate::hash::KeyHash;
 use crate::keys::{KeyElement, NativeKey, Query};
 use crate::scalars::ScalarKey;
@@ -72,8 +75,31 @@ pub fn texts_hash_by_their_bytes<'a>()
 {}
 
 /// States that a pair is hashed by the calls of its first value, and then those of its second.
+///
+/// It can be read if both values can.
 pub fn pairs_hash_in_order<A: KeyHash, B: KeyHash>()
-    ensures { (pair : _) → ⟦<(A, B) as KeyHash>⟧.calls pair ≡ A.calls pair.0 ++ B.calls pair.1 }
+    ensures calls { (pair : _) →
+        ⟦<(A, B) as KeyHash>⟧.calls pair ≡ A.calls pair.0 ++ B.calls pair.1 }
+    ensures read { (pair : _) →
+        ⟦<(A, B) as KeyHash>⟧.can_read pair ↔ BothRead A.can_read B.can_read pair }
+{}
+
+/// States which native values scalars, the unit value, texts and pairs equal in an archive.
+///
+/// A scalar, the unit value or a text equals the values that it represents. A pair equals the
+/// pairs whose values its key and its value equal.
+pub fn native_values_are_compared<'t, N: ScalarKey, W: Width, A, B, K, V>()
+where
+    K: MatchesNative<A>,
+    V: MatchesNative<B>,
+    ensures scalar { SameValues ⟦<N as MatchesNative<N>>⟧.equals (ScalarRepresents N.encoding) }
+    ensures unit { SameValues ⟦<() as MatchesNative<()>>⟧.equals unit_represents }
+    ensures slice { SameValues ⟦<Text<W> as MatchesNative<&'t str>>⟧.equals
+        (IsTextOf W.word (λ t. t.now)) }
+    ensures string { SameValues ⟦<Text<W> as MatchesNative<String>>⟧.equals
+        (IsTextOf W.word string_bytes) }
+    ensures pair { SameValues ⟦<Entry<K, V> as MatchesNative<(A, B)>>⟧.equals
+        (entry_equals K.spec V.spec K.equals V.equals) }
 {}
 
 /// States the errors with which scalars, the unit value, texts and pairs are deserialized.

@@ -10,6 +10,7 @@ use test_support::written::is_archived_as;
 
 #[test]
 fn vec_writer_stores_the_written_bytes(rt: HostRuntime) {
+    laws::outputs_of_writers::<VecWriter>();
     let mut writer = VecWriter::new(rt.alloc());
     let begins = writer.pos();
     let first = [
