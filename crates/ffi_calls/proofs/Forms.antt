@@ -1,4 +1,4 @@
--- Properties of a form, by its two flags, and of one flag.
+-- Properties of a form, by its two flags.
 use Rattle.std.proofs.Common.{◌≡◌, Bool, subst, sym}
 use Rattle.ffi_calls.specs.{form_of}
 use Rattle.ffi_calls.specs.declared.form.Form.{Form}
@@ -6,15 +6,3 @@ use Rattle.ffi_calls.specs.declared.form.Form.{Form}
 -- a property of the form of two flags is one of a form with these flags
 pub at_form : (P : Form → Type 0) (form : Form) {x y : Bool} → form.long_values ≡ x → form.wide ≡ y → P (form_of x y) → P form
 at_form P form {x} {y} e f h = subst (λ v. P (form_of v form.wide)) (sym e) (subst (λ v. P (form_of x v)) (sym f) h)
-
--- the converse
-pub of_form : (P : Form → Type 0) (form : Form) {x y : Bool} → form.long_values ≡ x → form.wide ≡ y → P form → P (form_of x y)
-of_form P form {x} {y} e f h = subst (λ v. P (form_of x v)) f (subst (λ v. P (form_of v form.wide)) e h)
-
--- a property of a flag's value is one of the flag
-pub at_flag : (P : Bool → Type 0) {flag x : Bool} → flag ≡ x → P x → P flag
-at_flag P e h = subst P (sym e) h
-
--- the converse
-pub of_flag : (P : Bool → Type 0) {flag x : Bool} → flag ≡ x → P flag → P x
-of_flag P e h = subst P e h
