@@ -21,7 +21,7 @@ root_written s b d p is at wrote =
       there,
     )
 
--- whether there is a value doesn't depend on what is made of it
+-- there is a value if and only if there is one after a function is applied to it
 pub some_either : {A B : Type 0} (f : A → B) (o : Option A) → is_some o ≡ is_some (option_map f o)
 some_either f None = refl
 some_either f (Some x) = refl

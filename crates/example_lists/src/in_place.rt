@@ -21,8 +21,7 @@ pub type Counts = HashMapOf<Text, u64>;
 
 /// Writes the count of the first pair with the name, and returns whether there is one.
 ///
-/// The archive stays one of the list, in which this count is replaced. After an error it is
-/// unchanged.
+/// The archive then represents the list with this count replaced. After an error it is unchanged.
 ///
 /// # Errors
 ///
