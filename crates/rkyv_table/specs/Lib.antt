@@ -77,7 +77,7 @@ pub use Table.WalkLaws.{VisitsHomes}
 unfoldable pub use Table.SealedTable.{KeptByValueWrites, KeptByWrites, RestsOnKey}
 pub use Table.SealedTable.{KeepsTable, SameLookups, SameValue, WritesValue}
 unfoldable pub use Table.NestedWrites.{RestsOnParts}
-pub use Table.NestedWrites.{IsValidBefore, StaysAt, WritesAmongParts}
+pub use Table.NestedWrites.{IsValidBefore, KeepsArchive, StaysAt, WritesAmongParts}
 unfoldable pub use Table.SealedLookup.{AcceptedAt, CanCompareAt, ComparesByAt, IsReadAt}
 unfoldable pub use Table.SealedLookup.{IsTableSeal, SealsFirst, SealsFound, pos_of_seal}
 pub use Table.SealedLookup.{IsItemSeal}

@@ -1,6 +1,6 @@
 -- Values that are written among their parts, as a map that is the value of another map.
-use Rattle.std.specs.Prelude.{◌≡◌, ℕ, ◌+◌, ◌-◌, ◌≤◌, Bool, List}
-use Rattle.rkyv_base.specs.{AgreeOn, ElementSpec, ModifiesOnly, StaysValid}
+use Rattle.std.specs.Prelude.{◌≡◌, ℕ, ◌+◌, ◌-◌, ◌≤◌, Bool, List, length}
+use Rattle.rkyv_base.specs.{AgreeOn, ElementSpec, IsValidArchive, ModifiesOnly, StaysValid}
 
 -- `c`: bytes `b` after a write among the parts of the value at `q`. A valid value
 -- stays valid with the same lower end, and the bytes outside its parts are unchanged
@@ -8,6 +8,12 @@ pub record WritesAmongParts (s : ElementSpec) (b c : List ℕ) (q : ℕ) : Type 
   pub is_valid : StaysValid s b c q
   pub sealed : (lo hi l : ℕ) → lo ≤ hi → hi ≤ q → s.is_valid b q lo hi l
       → ModifiesOnly b lo (l - lo) c
+
+-- `c`: bytes of the archive `b` within `limit` after a write that keeps it valid. Its root is
+-- at the same position
+pub record KeepsArchive (limit : ℕ) (s : ElementSpec) (b c : List ℕ) : Type 0 where
+  pub same_length : length c ≡ length b
+  pub valid : IsValidArchive limit s c
 
 -- the value at `q` is valid, with its parts in some range before it
 pub record IsValidBefore (s : ElementSpec) (b : List ℕ) (q : ℕ) : Type 0 where

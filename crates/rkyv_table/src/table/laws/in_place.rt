@@ -1,9 +1,10 @@
 //! Laws of writes in place.
 
-ghost use Rattle.std.specs.Prelude.{List, ℕ};
-ghost use Rattle.rkyv_base.specs.{Viewable, entry_spec};
-ghost use Rattle.rkyv_table.specs.{IsWalked, ItemsWrittenRepresent, KeepsTable, KeptByValueWrites};
-ghost use Rattle.rkyv_table.specs.{KeptByWrites, SameLookups, table_spec};
+ghost use Rattle.std.specs.Prelude.{List, length, ℕ, ◌-◌};
+ghost use Rattle.rkyv_base.specs.{IsValidArchive, Viewable, entry_spec};
+ghost use Rattle.rkyv_table.specs.{IsWalked, ItemsWrittenRepresent, KeepsArchive, KeepsTable};
+ghost use Rattle.rkyv_table.specs.{KeptByValueWrites, KeptByWrites, SameLookups, WritesAmongParts};
+ghost use Rattle.rkyv_table.specs.{table_spec};
 
 use rkyv_base::element::{Element, Represents};
 use rkyv_base::width::Width;
@@ -40,4 +41,13 @@ pub fn writes_keep_lookups<T: Element, W: Width>()
 /// the new item. In the list, the new item is then under the hash of the old one.
 pub fn items_written_represent<X, T: Represents<X>, W: Width>()
     ensures { ItemsWrittenRepresent W.word T.spec T.represents }
+{}
+
+/// States that an archive stays valid if a write is among the parts of its root.
+///
+/// The length of the archive and the position of its root are unchanged.
+pub fn writes_keep_archives<T: Element, W: Width>()
+    ensures { (b c : List ℕ) → IsValidArchive W.LIMIT T.spec b
+        → WritesAmongParts T.spec b c (length b - T.spec.size)
+        → KeepsArchive W.LIMIT T.spec b c }
 {}
