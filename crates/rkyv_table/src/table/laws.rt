@@ -2,7 +2,7 @@
 //!
 //! - `written` is about the bytes of written tables, `misplaced` about misplaced items.
 //! - `in_place` is about writes of one item in place.
-ghost use Rattle.std.specs.Prelude.{List, [], ℕ};
+ghost use Rattle.std.specs.Prelude.{List, [], ℕ, ◌↔◌, ◌≡◌};
 ghost use Rattle.rkyv_base.specs.{RepresentsAs, SameSpec, pair_format, scalar_format, text_format};
 ghost use Rattle.rkyv_base.specs.{unit_format, written_as};
 ghost use Rattle.rkyv_table.specs.{CountsPositions, LookupFindsFirst, SameSteps, VisitsHomes};
@@ -13,13 +13,13 @@ pub mod in_place;
 pub mod misplaced;
 pub mod written;
 
-use crate::table::TableOf;
 use crate::table::raw_iter::RawIter;
+use crate::table::{ArchivedHashTable, TableOf};
 use rkyv_base::archive::Archive;
 use rkyv_base::element::{Element, HasSpec};
 use rkyv_base::lend::Lend;
 use rkyv_base::scalars::Scalar;
-use rkyv_base::width::Width;
+use rkyv_base::width::{Width, Word};
 
 /// States that a walk over written control bytes visits each home bucket once, and no other.
 ///
@@ -69,4 +69,12 @@ pub fn ready_elements_are_written_one_way<W: Width, N: Scalar, A: Archive<W>, B:
 /// States the layout of a table: the header, with the buckets and control bytes before it.
 pub fn tables_are_laid_out<W: Width, T: Element>()
     ensures { SameSpec ⟦<TableOf<T, W> as HasSpec>⟧.spec (table_spec W.word T.spec) }
+{}
+
+/// States that a clone of an archived table is the same table, and that cloning never fails.
+pub fn clones_are_the_same<'a, T: HasSpec, W: Word>()
+    ensures same { (table clone : _) →
+        ⟦<ArchivedHashTable<'a, T, W> as Clone>⟧.is_clone table clone ↔ (clone ≡ table) }
+    ensures infallible { (table : _) →
+        ⟦<ArchivedHashTable<'a, T, W> as Clone>⟧.is_infallible table }
 {}
