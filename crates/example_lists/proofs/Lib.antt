@@ -1,2 +1,2 @@
-mod RootWrites
+mod Options
 mod TextAt

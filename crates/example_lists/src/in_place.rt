@@ -15,6 +15,7 @@ use rkyv_base::width::Narrow;
 use rkyv_collections::FxHasher64;
 use rkyv_collections::map::HashMapOf;
 use rkyv_collections::map::in_place::set_value_of;
+use rkyv_table::table::laws::in_place::writes_keep_archives;
 
 /// A map of texts to numbers in a narrow archive.
 pub type Counts = HashMapOf<Text, u64>;
@@ -35,6 +36,7 @@ pub fn set_count(table: &mut [u8], name: &str, count: u64) -> Result<bool, Verif
         → IsTextMap (unsigned w64) table.new
         (with_first (λ other. same_bytes name.now other.now) count pairs) }
 {
+    writes_keep_archives::<Counts, Narrow>();
     let root = access::<Counts>(&*table)?.pos();
     Ok(set_value_of::<&str, Text, u64, FxHasher64, Narrow>(table, root, &name, count))
 }

@@ -3,8 +3,9 @@ use Rattle.std.specs.Int.{w32, w64}
 use Rattle.std.specs.Option.{is_some}
 use Rattle.rkyv_base.specs.{Viewable, scalar_spec, text_spec, unsigned}
 use Rattle.rkyv_keys.specs.{first_pair, same_bytes}
+use Rattle.rkyv_table.specs.{WritesAmongParts}
 use Rattle.rkyv_collections.specs.{IsTextMap, TextMapRepresents, TextPairs, first_of_text, map_spec, text_map_spec, with_first}
-use Rattle.example_lists.proofs.RootWrites.{root_written, some_either}
+use Rattle.example_lists.proofs.Options.{some_either}
 use Rattle.example_lists.proofs.in_place.set_count.Goals as goal
 use Rattle.example_lists.proofs.in_place.set_count.Goals.{After-set_value_of}
 
@@ -39,12 +40,14 @@ module _ (c : After-set_value_of) (pairs : TextPairs ℕ) (is : IsTextMap (unsig
 
   archived : IsTextMap (unsigned w64) c.set_value_of.new.archive written
   archived =
+      let s = text_map_spec (unsigned w64) in
+      let b = c.args.table.now in
       let d = c.set_value_of.new.archive in
-      let kept = root_written (text_map_spec (unsigned w64)) c.args.table.now d c.pos-root.result is.accepted root_at c.set_value_of.ensures.parts in
+      let kept = c.writes_keep_archives.ensures b d is.accepted (subst (WritesAmongParts s b d) root_at c.set_value_of.ensures.parts) in
       record {
-        accepted = kept.0;
+        accepted = kept.valid;
         load_factor = is.load_factor;
-        represents = subst (λ n. TextMapRepresents (unsigned w64) is.load_factor d n written) kept.1 set.1;
+        represents = subst (λ n. TextMapRepresents (unsigned w64) is.load_factor d n written) (root_at ∙ ap (λ n. n - s.size) (sym kept.same_length)) set.1;
       }
 
 pub returns-clause-found : goal.returns-clause-found
