@@ -1,8 +1,14 @@
 //! Laws of the probe sequence and of written control bytes, over their definitions alone.
+ghost use Rattle.std.specs.Iterator.{YieldsFirst, item_count};
+ghost use Rattle.std.specs.Prelude.{List, ℕ, ◌≡◌};
 ghost use Rattle.rkyv_table.specs.{BucketsAreProbed, FirstEmptyIsNextHome, FoundOnWritten};
 ghost use Rattle.rkyv_table.specs.{HomesAreFirstEmpty, HomesAreOneList, HomesExist};
 ghost use Rattle.rkyv_table.specs.{MarkedAreWalked, SearchIsBounded, StridesCover, StridesReadARow};
-ghost use Rattle.rkyv_table.specs.{WalkedAreFull, WrittenAreOneList, WrittenAreValid};
+ghost use Rattle.rkyv_table.specs.{SameSteps, WalkedAreFull, WrittenAreOneList, WrittenAreValid};
+
+use crate::controls::probe::Probe;
+use crate::controls::walk::Walk;
+use rkyv_scan::simd::GroupKind;
 
 /// States that the strides of a hash begin at all indices of one residue class modulo 16.
 ///
@@ -64,6 +70,26 @@ pub fn written_are_valid()
 /// States that a walk visits a bucket if and only if it is full.
 pub fn walked_are_full()
     ensures { WalkedAreFull }
+{}
+
+/// States that a walk yields its buckets in turn, and then `None`.
+///
+/// It has as many items as buckets are left, and `next` has no condition.
+pub fn buckets_are_yielded<'a, G: GroupKind + 'a>()
+    ensures steps { SameSteps ⟦<Walk<'a, G> as Iterator>⟧.next_gives (YieldsFirst (λ s. s)) }
+    ensures remain { (left : List ℕ)
+        → ⟦<Walk<'a, G> as Iterator>⟧.remaining left ≡ item_count (λ s. s) left }
+    ensures ready { (left : List ℕ) → ⟦<Walk<'a, G> as Iterator>⟧.can_next left }
+{}
+
+/// States that a probe sequence yields the first index of each stride in turn, and then `None`.
+///
+/// It has as many items as strides are left, and `next` has no condition.
+pub fn strides_are_yielded()
+    ensures steps { SameSteps ⟦<Probe as Iterator>⟧.next_gives (YieldsFirst (λ s. s)) }
+    ensures remain { (left : List ℕ)
+        → ⟦<Probe as Iterator>⟧.remaining left ≡ item_count (λ s. s) left }
+    ensures ready { (left : List ℕ) → ⟦<Probe as Iterator>⟧.can_next left }
 {}
 
 /// States that a search in valid control bytes ends within ceil(cap / 16) strides.

@@ -2,12 +2,13 @@
 //!
 //! - `written` is about the bytes of written tables, `misplaced` about misplaced items.
 //! - `in_place` is about writes of one item in place.
+ghost use Rattle.std.specs.Int.{w32};
 ghost use Rattle.std.specs.Prelude.{List, [], ℕ, ◌↔◌, ◌≡◌};
 ghost use Rattle.rkyv_base.specs.{RepresentsAs, SameSpec, pair_format, scalar_format, text_format};
 ghost use Rattle.rkyv_base.specs.{unit_format, written_as};
-ghost use Rattle.rkyv_table.specs.{CountsPositions, LookupFindsFirst, SameSteps, VisitsHomes};
-ghost use Rattle.rkyv_table.specs.{WalkVisitsHomes, WritesOneWay, YieldsPos, table_format};
-ghost use Rattle.rkyv_table.specs.{table_spec};
+ghost use Rattle.rkyv_table.specs.{CountsPositions, ItemsLeft, LookupFindsFirst, SameSteps};
+ghost use Rattle.rkyv_table.specs.{VisitsHomes, WalkVisitsHomes, WritesOneWay, YieldsPos};
+ghost use Rattle.rkyv_table.specs.{table_format, table_spec};
 
 pub mod in_place;
 pub mod misplaced;
@@ -31,10 +32,11 @@ pub fn walk_visits_homes()
 
 /// States that a walk yields the positions of the items in turn.
 ///
-/// At most as many items remain as positions are left.
+/// At most as many items remain as positions are left, and `next` has no condition.
 pub fn positions_are_yielded<'a, T: 'a>()
     ensures steps { SameSteps ⟦<RawIter<'a, T> as Iterator>⟧.next_gives YieldsPos }
     ensures remain { CountsPositions ⟦<RawIter<'a, T> as Iterator>⟧.remaining }
+    ensures ready { (left : ItemsLeft) → ⟦<RawIter<'a, T> as Iterator>⟧.can_next left }
 {}
 
 /// States that a lookup in a written table finds the first accepted item of its list.
@@ -67,8 +69,11 @@ pub fn ready_elements_are_written_one_way<W: Width, N: Scalar, A: Archive<W>, B:
 {}
 
 /// States the layout of a table: the header, with the buckets and control bytes before it.
+///
+/// Without a width, a table is one of a narrow archive.
 pub fn tables_are_laid_out<W: Width, T: Element>()
-    ensures { SameSpec ⟦<TableOf<T, W> as HasSpec>⟧.spec (table_spec W.word T.spec) }
+    ensures spec { SameSpec ⟦<TableOf<T, W> as HasSpec>⟧.spec (table_spec W.word T.spec) }
+    ensures default { SameSpec ⟦<TableOf<T> as HasSpec>⟧.spec (table_spec w32 T.spec) }
 {}
 
 /// States that a clone of an archived table is the same table, and that cloning never fails.

@@ -198,6 +198,7 @@ fn four_indices(start: u64, cap: usize) -> [Option<usize>; 4]
 
 #[test]
 fn probe_indices(rt: HostRuntime) {
+    laws::strides_are_yielded();
     laws::strides_cover();
     laws::strides_read_a_row();
     laws::buckets_are_probed();
@@ -436,6 +437,7 @@ fn walks<G: GroupKind>(alloc: Global) -> Result<bool, AllocError> {
 
 #[test]
 fn walks_by_each_kind(rt: HostRuntime) {
+    laws::buckets_are_yielded::<generic::Group>();
     laws::walked_are_full();
     let right = [
         walks::<bytewise::Group>(rt.alloc()).ok(),
