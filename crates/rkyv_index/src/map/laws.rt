@@ -1,18 +1,19 @@
 //! Laws of index maps, over their definitions alone.
 //!
-//! They are about writes of one value in place, deserialized lists, lookups, walks and the
-//! layout.
+//! They are about the layout, lookups, iterations, comparisons, clones,
+//! deserialized lists and writes of one value in place.
 //! `written` is about the bytes of written index maps, `list_archives` about root index maps, and
 //! `nested` about writes in a map or index map that is a value.
-ghost use Rattle.std.specs.Prelude.{◌≡◌};
+ghost use Rattle.std.specs.Prelude.{◌↔◌, ◌≡◌};
 ghost use Rattle.rkyv_base.specs.{SameSpec, SameValues, entry_spec};
 ghost use Rattle.rkyv_keys.specs.{SameComparison, hash_at, hash_of, native_pairs, query_of};
 ghost use Rattle.rkyv_table.specs.{CountsPositions, SameSteps, YieldsKey, YieldsPair, YieldsValue};
 ghost use Rattle.rkyv_index.specs.{ComparedAlike, FindsFittedKeys, LookupsFindListed};
-ghost use Rattle.rkyv_index.specs.{PairsReadBackAreListed, QueriedAlike, ValueWritesKeepIndexMaps};
-ghost use Rattle.rkyv_index.specs.{ValueWritesKeepLookups, ValuesWrittenRepresent};
-ghost use Rattle.rkyv_index.specs.{WalksVisitInOrder, WrittenAlike, index_map_equal};
-ghost use Rattle.rkyv_index.specs.{index_maps_equal, index_spec, ordered_pairs, reads_as};
+ghost use Rattle.rkyv_index.specs.{PairsReadBackAreListed, QueriedAlike};
+ghost use Rattle.rkyv_index.specs.{ValueWritesKeepIndexMaps, ValueWritesKeepLookups};
+ghost use Rattle.rkyv_index.specs.{ValuesWrittenRepresent, WalksAll, WalksVisitInOrder};
+ghost use Rattle.rkyv_index.specs.{WrittenAlike, index_map_equal, index_maps_equal, index_spec};
+ghost use Rattle.rkyv_index.specs.{ordered_pairs, reads_as};
 
 pub mod list_archives;
 pub mod nested;
@@ -22,7 +23,7 @@ use crate::lists::OrderedPairs;
 use crate::map::read::iter::{Iter, Keys, Values};
 use crate::map::{ArchivedIndexMap, IndexMapOf};
 use rkyv_base::element::{Element, HasSpec, Represents};
-use rkyv_base::width::Width;
+use rkyv_base::width::{Width, Word};
 use rkyv_keys::equality::{ElementEq, ElementEquiv, RepresentsUniquely};
 use rkyv_keys::keys::{FixedKey, KeyElement, Query};
 use rkyv_scan::hash::{FxHasher64, KeyHasher};
@@ -94,15 +95,26 @@ where
         (ordered_pairs W.word K.Represents V.Represents K.key_calls (λ x. x.0.items)) }
 {}
 
-/// States that index maps are equal if and only if they have the same pairs in order.
+/// States that index maps that are values are compared by their pairs in order.
 ///
-/// - `values`: `same` compares index maps that are values.
-/// - `read`: `==` compares index maps that are read.
-pub fn index_maps_are_compared<'a, K: ElementEquiv, V: ElementEquiv, H, W: Width>()
-    ensures values { SameComparison ⟦<IndexMapOf<K, V, H, W> as ElementEq>⟧.same
+/// `same` is `true` if and only if both have the same length and the same pairs in order.
+pub fn index_maps_are_compared<K: ElementEq, V: ElementEq, H, W: Width>()
+    ensures { SameComparison ⟦<IndexMapOf<K, V, H, W> as ElementEq>⟧.same
         (index_map_equal W.word K.spec V.spec K.same V.same) }
-    ensures read { (m n : _) → ⟦<ArchivedIndexMap<'a, K, V, H, W> as PartialEq>⟧.eq m n
+{}
+
+/// States that index maps that are read are `==` if and only if they have the same pairs in order.
+pub fn read_index_maps_are_compared<'a, K: ElementEquiv, V: ElementEquiv, H, W: Width>()
+    ensures { (m n : _) → ⟦<ArchivedIndexMap<'a, K, V, H, W> as PartialEq>⟧.eq m n
         ≡ index_maps_equal K.same V.same m n }
+{}
+
+/// States that a clone is the same index map, and that cloning never fails.
+pub fn clones_are_the_same<'a, K: HasSpec, V: HasSpec, H, W: Word>()
+    ensures same { (map clone : _)
+        → ⟦<ArchivedIndexMap<'a, K, V, H, W> as Clone>⟧.is_clone map clone ↔ (clone ≡ map) }
+    ensures infallible { (map : _)
+        → ⟦<ArchivedIndexMap<'a, K, V, H, W> as Clone>⟧.is_infallible map }
 {}
 
 /// States that a lookup finds the index of the first pair of the list with an accepted key.
@@ -158,4 +170,18 @@ pub fn items_are_yielded<'a, K: Element, V: Element>()
     ensures pairs_left { CountsPositions ⟦<Iter<'a, K, V> as Iterator>⟧.remaining }
     ensures keys_left { CountsPositions ⟦<Keys<'a, K, V> as Iterator>⟧.remaining }
     ensures values_left { CountsPositions ⟦<Values<'a, K, V> as Iterator>⟧.remaining }
+{}
+
+/// States that `for` over an index map, or over a reference to one, visits what `iter` visits.
+///
+/// The iterator has the positions of all pairs of the index map, in order.
+pub fn walks_by_for_are_iterations<'a, 'b, K: Element, V: Element, H, W: Width>()
+where
+    'a: 'b,
+    ensures owned { (map : _) (pairs : _)
+        → ⟦<ArchivedIndexMap<'a, K, V, H, W> as IntoIterator>⟧.into_iter_gives map pairs
+        ↔ WalksAll map pairs }
+    ensures borrowed { (map : _) (pairs : _)
+        → ⟦<&'b ArchivedIndexMap<'a, K, V, H, W> as IntoIterator>⟧.into_iter_gives map pairs
+        ↔ WalksAll map.now pairs }
 {}

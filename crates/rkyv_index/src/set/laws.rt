@@ -1,14 +1,17 @@
 //! Laws of index sets, over their definitions alone.
 //!
-//! They are about deserialized lists, lookups, walks, the layout and the formats of lists.
+//! They are about the layout, the formats of lists, lookups, iterations,
+//! comparisons, clones and deserialized lists.
 //! `written` is about the bytes of written index sets.
-ghost use Rattle.std.specs.Prelude.{◌≡◌};
+ghost use Rattle.std.specs.Prelude.{◌↔◌, ◌≡◌};
 ghost use Rattle.rkyv_keys.specs.{SameComparison, fx_key_format, hash_at, native_key_format};
 ghost use Rattle.rkyv_keys.specs.{native_keys};
-ghost use Rattle.rkyv_index.specs.{ComparedAlike, ItemsReadBackAreListed, MembersFoundAreListed};
-ghost use Rattle.rkyv_index.specs.{QueriedAlike, SameFormats, SetWalksVisitInOrder, WrittenAlike};
+ghost use Rattle.rkyv_index.specs.{ComparedAlike, ItemsReadBackAreListed};
+ghost use Rattle.rkyv_index.specs.{MembersFoundAreListed, QueriedAlike, SameFormats};
+ghost use Rattle.rkyv_index.specs.{SetWalksVisitInOrder, WalksAll, WrittenAlike};
 ghost use Rattle.rkyv_index.specs.{index_keys_format, index_set_equal, index_set_spec};
-ghost use Rattle.rkyv_index.specs.{index_sets_equal, indices, ordered_items, ordered_items_format};
+ghost use Rattle.rkyv_index.specs.{index_sets_equal, indices, keys_of, ordered_items};
+ghost use Rattle.rkyv_index.specs.{ordered_items_format};
 ghost use Rattle.rkyv_base.specs.{SameFormat, SameSpec, SameValues, unit_spec};
 
 pub mod written;
@@ -19,8 +22,8 @@ use crate::map::write::serialize::ListFormat;
 use crate::set::{ArchivedIndexSet, IndexSetOf};
 use crate::width::IndexMapWidth;
 use rkyv_base::archive::Archive;
-use rkyv_base::element::{HasSpec, Represents};
-use rkyv_base::width::Width;
+use rkyv_base::element::{Element, HasSpec, Represents};
+use rkyv_base::width::{Width, Word};
 use rkyv_keys::equality::{ElementEq, ElementEquiv, RepresentsUniquely};
 use rkyv_keys::keys::{FixedKey, KeyElement, NativeKey, NativeQuery, Query};
 use rkyv_scan::hash::{FxHasher64, KeyHasher};
@@ -84,15 +87,40 @@ pub fn index_sets_are_laid_out<W: Width, H, A, K: KeyElement + Represents<A>>()
         (ordered_items W.word K.Represents K.key_calls (λ x. x.0.items)) }
 {}
 
-/// States that index sets are equal if and only if they have the same keys in order.
+/// States that index sets that are values are compared by their keys in order.
 ///
-/// - `values`: `same` compares index sets that are values.
-/// - `read`: `==` compares index sets that are read.
-pub fn index_sets_are_compared<'a, K: ElementEquiv, H, W: Width>()
-    ensures values { SameComparison ⟦<IndexSetOf<K, H, W> as ElementEq>⟧.same
+/// `same` is `true` if and only if both have the same length and the same keys in order.
+pub fn index_sets_are_compared<K: ElementEq, H, W: Width>()
+    ensures { SameComparison ⟦<IndexSetOf<K, H, W> as ElementEq>⟧.same
         (index_set_equal W.word K.spec K.same) }
-    ensures read { (s t : _) → ⟦<ArchivedIndexSet<'a, K, H, W> as PartialEq>⟧.eq s t
+{}
+
+/// States that index sets that are read are `==` if and only if they have the same keys in order.
+pub fn read_index_sets_are_compared<'a, K: ElementEquiv, H, W: Width>()
+    ensures { (s t : _) → ⟦<ArchivedIndexSet<'a, K, H, W> as PartialEq>⟧.eq s t
         ≡ index_sets_equal K.same s t }
+{}
+
+/// States that a clone is the same index set, and that cloning never fails.
+pub fn clones_are_the_same<'a, K: HasSpec, H, W: Word>()
+    ensures same { (set clone : _)
+        → ⟦<ArchivedIndexSet<'a, K, H, W> as Clone>⟧.is_clone set clone ↔ (clone ≡ set) }
+    ensures infallible { (set : _)
+        → ⟦<ArchivedIndexSet<'a, K, H, W> as Clone>⟧.is_infallible set }
+{}
+
+/// States that `for` over an index set, or over a reference to one, visits what `iter` visits.
+///
+/// The iterator has the positions of all keys of the index set, in order.
+pub fn walks_by_for_are_iterations<'a, 'b, K: Element, H, W: Width>()
+where
+    'a: 'b,
+    ensures owned { (set : _) (keys : _)
+        → ⟦<ArchivedIndexSet<'a, K, H, W> as IntoIterator>⟧.into_iter_gives set keys
+        ↔ WalksAll (keys_of set) keys }
+    ensures borrowed { (set : _) (keys : _)
+        → ⟦<&'b ArchivedIndexSet<'a, K, H, W> as IntoIterator>⟧.into_iter_gives set keys
+        ↔ WalksAll (keys_of set.now) keys }
 {}
 
 /// States that `serialize_from_iter` writes a list of keys as the index set of these keys.

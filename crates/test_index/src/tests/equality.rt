@@ -7,8 +7,10 @@ use rkyv_base::root::to_bytes;
 use rkyv_base::width::{Narrow, Wide, Width};
 use rkyv_collections::MapPairs;
 use rkyv_collections::map::{ArchivedHashMap, HashMapOf};
-use rkyv_index::map::laws::{fitted_keys_are_found, index_maps_are_compared};
-use rkyv_index::set::laws::index_sets_are_compared;
+use rkyv_index::map::laws::{
+    fitted_keys_are_found, index_maps_are_compared, read_index_maps_are_compared,
+};
+use rkyv_index::set::laws::{index_sets_are_compared, read_index_sets_are_compared};
 use rkyv_index::{ArchivedIndexMap, ArchivedIndexSet, IndexMapOf, IndexSetOf, OrderedPairs};
 use rkyv_keys::equality::ElementEq;
 use rkyv_scan::hash::FxHasher64;
@@ -39,6 +41,7 @@ fn equal_maps(alloc: Global, first: &[(i8, i8)], second: &[(i8, i8)]) -> Result<
 
 #[test]
 fn equal_maps_have_the_same_pairs_in_order(rt: HostRuntime) -> Result<(), Fail> {
+    read_index_maps_are_compared::<i8, i8, FxHasher64, Narrow>();
     let alloc = rt.alloc();
     let four = [(1, 2), (3, 4), (5, 6), (7, 8)];
     let found = [
@@ -82,6 +85,7 @@ fn equal_sets(alloc: Global, first: &[i8], second: &[i8]) -> Result<bool, Fail> 
 
 #[test]
 fn equal_sets_have_the_same_keys_in_order(rt: HostRuntime) -> Result<(), Fail> {
+    read_index_sets_are_compared::<i8, FxHasher64, Narrow>();
     let alloc = rt.alloc();
     let found = [
         equal_sets(alloc, &[4, 1], &[4, 1])?,

@@ -7,7 +7,10 @@ use rkyv_base::element::Element;
 use rkyv_base::errors::VerifyError;
 use rkyv_base::view::View;
 use rkyv_base::width::Narrow;
-use rkyv_index::map::laws::{index_maps_are_laid_out, items_are_yielded, walks_visit_in_order};
+use rkyv_index::map::laws::{
+    clones_are_the_same, index_maps_are_laid_out, items_are_yielded, walks_by_for_are_iterations,
+    walks_visit_in_order,
+};
 use rkyv_index::{ArchivedIndexMap, IndexMapOf, Iter, Keys, Values};
 use rkyv_scan::hash::FxHasher64;
 use rkyv_table::Strides;
@@ -109,6 +112,7 @@ fn the_buckets_of_a_map(rt: HostRuntime) {
 
 #[test]
 fn a_walk_keeps_the_order(rt: HostRuntime) -> Result<(), Fail> {
+    walks_by_for_are_iterations::<i8, i8, FxHasher64, Narrow>();
     let bytes = four_entries();
     let map = ArchivedIndexMap::of(access::<Small>(&bytes)?);
     let mut keys = 0i32;
@@ -367,6 +371,7 @@ fn copied_len(bytes: &[u8]) -> Option<usize> {
 
 #[test]
 fn a_copy_of_a_map_is_read(rt: HostRuntime) -> Result<(), Fail> {
+    clones_are_the_same::<i8, i8, FxHasher64, Narrow>();
     expect_eq!(rt; copied_len(&four_entries()), Some(4));
     Ok(())
 }

@@ -8,8 +8,9 @@ use rkyv_base::errors::{VerifyError, WriteError};
 use rkyv_base::width::Narrow;
 use rkyv_base::writer::{NoMemory, VecWriter};
 use rkyv_index::set::laws::{
-    both_hashers_look_up_alike, index_sets_are_laid_out, listed_items_are_written,
-    ordered_items_are_written, walks_visit_in_order,
+    both_hashers_look_up_alike, clones_are_the_same, index_sets_are_laid_out, listed_items_are_written,
+    ordered_items_are_written, walks_by_for_are_iterations,
+    walks_visit_in_order,
 };
 use rkyv_index::{ArchivedIndexMap, ArchivedIndexSet, IndexSetOf};
 use rkyv_scan::hash::FxHasher64;
@@ -26,6 +27,7 @@ fn one_item_is_written(rt: HostRuntime) -> Result<(), Fail> {
     listed_items_are_written::<Narrow, FxHasher64, i8, i8>();
     ordered_items_are_written::<Narrow, i8, i8>();
     walks_visit_in_order::<i8, i8, FxHasher64, Narrow>();
+    walks_by_for_are_iterations::<i8, FxHasher64, Narrow>();
     let alloc = rt.alloc();
     let bytes = set_archive(alloc, &[1])?;
     expect_eq!(rt; bytes.as_slice(), one_index_key().as_slice());
@@ -201,5 +203,6 @@ fn copied_len(bytes: &[u8]) -> Option<usize> {
 
 #[test]
 fn a_copy_of_a_set_is_read(rt: HostRuntime) {
+    clones_are_the_same::<i8, FxHasher64, Narrow>();
     expect_eq!(rt; copied_len(&one_index_key()), Some(1));
 }
