@@ -23,7 +23,7 @@ pub mod NestedWrites
 pub mod SealedIndex
 pub mod Headers
 pub mod FirstListed
-pub mod FittedKeys
+pub mod MatchedKeys
 pub mod ListedWalks
 pub mod ListArchives
 pub mod FoundValues

@@ -64,8 +64,8 @@ unfoldable pub use Map.ListArchives.{FoundAreListed, index_root}
 pub use Map.ListArchives.{FindsInRoot}
 unfoldable pub use Map.ListedLookups.{AgreesOnKeys, IsFirst, LookupsFindListed}
 pub use Map.ListedLookups.{FindsListed}
-unfoldable pub use Map.FittedKeys.{AreDifferent, FindsFittedKeys}
-pub use Map.FittedKeys.{FindsSameKey}
+unfoldable pub use Map.MatchedKeys.{FindsMatchedKeys, HasDistinctKeys}
+pub use Map.MatchedKeys.{FindsSameKey}
 unfoldable pub use Map.ListedWalks.{SetWalksVisitInOrder, WalksVisitInOrder}
 unfoldable pub use Map.Reading.{AreItemsAt, AreItemsRead, ArePairsAt, ArePairsRead, HasItemsAt}
 unfoldable pub use Map.Reading.{HasPairsAt, IsPairRead, ItemsReadBackAreListed}

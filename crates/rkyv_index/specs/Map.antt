@@ -14,7 +14,7 @@ pub mod Lookups
 pub mod InPlace
 pub mod ListArchives
 pub mod ListedLookups
-pub mod FittedKeys
+pub mod MatchedKeys
 pub mod ListedWalks
 pub mod Reading
 pub mod Writing

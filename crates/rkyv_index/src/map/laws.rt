@@ -8,7 +8,7 @@ ghost use Rattle.std.specs.Prelude.{◌↔◌, ◌≡◌};
 ghost use Rattle.rkyv_base.specs.{SameSpec, SameValues, entry_spec};
 ghost use Rattle.rkyv_keys.specs.{SameComparison, hash_at, hash_of, native_pairs, query_of};
 ghost use Rattle.rkyv_table.specs.{CountsPositions, SameSteps, YieldsKey, YieldsPair, YieldsValue};
-ghost use Rattle.rkyv_index.specs.{ComparedAlike, FindsFittedKeys, LookupsFindListed};
+ghost use Rattle.rkyv_index.specs.{ComparedAlike, FindsMatchedKeys, LookupsFindListed};
 ghost use Rattle.rkyv_index.specs.{PairsReadBackAreListed, QueriedAlike};
 ghost use Rattle.rkyv_index.specs.{ValueWritesKeepIndexMaps, ValueWritesKeepLookups};
 ghost use Rattle.rkyv_index.specs.{ValuesWrittenRepresent, WalksAll, WalksVisitInOrder};
@@ -136,11 +136,11 @@ pub fn lookups_find_listed<
         (native_pairs K.represents V.represents H.hasher K.key_calls) }
 {}
 
-/// States that a query that fits a key of a written index map finds it, or one that is the same.
+/// States that a query that matches a key of a written index map finds it, or the same key earlier.
 ///
 /// The found key is not after it. If no two keys of the index map are the same, it is that key.
-pub fn fitted_keys_are_found<Q: Query<K>, K: KeyElement, V: Element, H: KeyHasher, W: Width>()
-    ensures { FindsFittedKeys H W.Word K.HasSpec V.HasSpec Q.can_read
+pub fn matched_keys_are_found<Q: Query<K>, K: KeyElement, V: Element, H: KeyHasher, W: Width>()
+    ensures { FindsMatchedKeys H W.Word K.HasSpec V.HasSpec Q.can_read
         (λ q. query_of H.hasher K.key_calls K.same (Q.calls q) (Q.fits q)) }
 {}
 

@@ -8,7 +8,7 @@ use rkyv_base::width::{Narrow, Wide, Width};
 use rkyv_collections::MapPairs;
 use rkyv_collections::map::{ArchivedHashMap, HashMapOf};
 use rkyv_index::map::laws::{
-    fitted_keys_are_found, index_maps_are_compared, read_index_maps_are_compared,
+    index_maps_are_compared, matched_keys_are_found, read_index_maps_are_compared,
 };
 use rkyv_index::set::laws::{index_sets_are_compared, read_index_sets_are_compared};
 use rkyv_index::{ArchivedIndexMap, ArchivedIndexSet, IndexMapOf, IndexSetOf, OrderedPairs};
@@ -115,7 +115,7 @@ fn same_maps(first: &[u8], second: &[u8]) -> Result<bool, VerifyError> {
 #[test]
 fn maps_that_are_values_have_the_same_pairs_in_order(rt: HostRuntime) -> Result<(), Fail> {
     index_maps_are_compared::<i8, i8, FxHasher64, Narrow>();
-    fitted_keys_are_found::<i8, i8, i8, FxHasher64, Narrow>();
+    matched_keys_are_found::<i8, i8, i8, FxHasher64, Narrow>();
     let alloc = rt.alloc();
     let backwards = narrow(alloc, &[(7, 8), (5, 6), (3, 4), (1, 2)])?;
     let found = [

@@ -1,5 +1,5 @@
-use Rattle.rkyv_index.proofs.FittedKeys.{finds_same_key}
-use Rattle.rkyv_index.proofs.map.laws.fitted_keys_are_found.Goals as goal
+use Rattle.rkyv_index.proofs.MatchedKeys.{finds_same_key}
+use Rattle.rkyv_index.proofs.map.laws.matched_keys_are_found.Goals as goal
 
 pub returns : goal.returns
 returns g c = λ m q homes i ready written below fits.

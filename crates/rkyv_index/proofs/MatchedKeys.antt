@@ -1,4 +1,4 @@
--- A query that fits a key of a written index map finds that key or one that is the same.
+-- A query that matches a key of a written index map finds that key or one that is the same.
 use Rattle.rkyv_base.specs.declared.element.HasSpec.{Ghosts as Specs}
 use Rattle.rkyv_base.specs.declared.width.Word.{Ghosts as Words}
 use Rattle.std.proofs.Common.{◌≡◌, ℕ, ◌<◌, ◌≤◌, ◌^◌, ◌∙◌, arith, inl, inr, refl, sym, Bool, true, List, None, Option, Some}
@@ -40,9 +40,9 @@ module _ {K V H W Q State : Type 0} {ks : Specs K} {vs : Specs V} {wt : Words W}
       valid_key ks.laws vs.laws (index_bytes m) (key_pos m i)
       (entry_viewable wt.word wt.kind s (entry_element ks.spec vs.spec ks.laws vs.laws) (index_bytes m) (index_pos m) m.valid i below).valid
 
-  -- two keys that the query fits are the same
-  fitting_same : (i j : ℕ) → i < index_len m → j < index_len m → accept i ≡ true → accept j ≡ true → same (index_bytes m) (key_pos m i) (index_bytes m) (key_pos m j) ≡ true
-  fitting_same i j below there ok okay =
+  -- two keys that the query matches are the same
+  matching_same : (i j : ℕ) → i < index_len m → j < index_len m → accept i ≡ true → accept j ≡ true → same (index_bytes m) (key_pos m i) (index_bytes m) (key_pos m j) ≡ true
+  matching_same i j below there ok okay =
       sym (query.respects_same q (index_bytes m) (index_bytes m) (key_pos m i) (key_pos m j) ready (key_valid i below) (key_valid j there) ok) ∙ okay
 
   pub finds_same_key : (homes : List ℕ) → IsWritten (index_of m) (hash_at hasher key_calls) homes → (i : ℕ) → i < index_len m → accept i ≡ true
@@ -57,9 +57,9 @@ module _ {K V H W Q State : Type 0} {ks : Specs K} {vs : Specs V} {wt : Words W}
         index = f.0;
         not_after = f.2;
         at = first ∙ f.1;
-        same = fitting_same i f.0 below there ok f.3;
-        alone = λ different. elim (cases_lt f.0 i) [
-          | inl lt ↦ absurd (both_ways (same (index_bytes m) (key_pos m f.0) (index_bytes m) (key_pos m i)) (different f.0 i lt below) (fitting_same f.0 i there below f.3 ok))
+        same = matching_same f.0 i there below f.3 ok;
+        alone = λ distinct. elim (cases_lt f.0 i) [
+          | inl lt ↦ absurd (both_ways (same (index_bytes m) (key_pos m f.0) (index_bytes m) (key_pos m i)) (distinct f.0 i lt below) (matching_same f.0 i there below f.3 ok))
           | inr le ↦ omega (arith, f.2, le)
         ];
       }
