@@ -24,6 +24,7 @@ pub mod SealedIndex
 pub mod Headers
 pub mod FirstListed
 pub mod MatchedKeys
+pub mod ListedAt
 pub mod ListedWalks
 pub mod ListArchives
 pub mod FoundValues

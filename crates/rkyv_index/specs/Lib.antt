@@ -9,6 +9,7 @@ unfoldable pub use Set.IndexSet.{unit_specs}
 unfoldable pub use Set.SetFormat.{IndexSetRepresents, WrittenIndexSets, index_set_format}
 unfoldable pub use Set.ListArchives.{MembersFoundAreListed, index_set_root}
 pub use Set.ListArchives.{FindsInRootSet}
+unfoldable pub use Set.ItemsAt.{ItemsAtAreListed}
 unfoldable pub use Map.{AreUnderHash, CanCompareIndex, CanCompareIndices, CanCompareKeys}
 unfoldable pub use Map.{CanCompareKeysIn, CanCompareKeysOf, ComparesIndexBy, ComparesKeysBy}
 unfoldable pub use Map.{CountsBy, CountsKey, FindsBy, FindsFirstBy, FindsFirstIndex, FindsFirstKey}
@@ -67,6 +68,7 @@ pub use Map.ListedLookups.{FindsListed}
 unfoldable pub use Map.MatchedKeys.{FindsMatchedKeys, HasDistinctKeys}
 pub use Map.MatchedKeys.{FindsSameKey}
 unfoldable pub use Map.ListedWalks.{SetWalksVisitInOrder, WalksVisitInOrder}
+unfoldable pub use Map.PairsAt.{PairsAtAreListed}
 unfoldable pub use Map.Reading.{AreItemsAt, AreItemsRead, ArePairsAt, ArePairsRead, HasItemsAt}
 unfoldable pub use Map.Reading.{HasPairsAt, IsPairRead, ItemsReadBackAreListed}
 unfoldable pub use Map.Reading.{PairsReadBackAreListed, ReadsItems, ReadsPairs}

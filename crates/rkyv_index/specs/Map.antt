@@ -16,6 +16,7 @@ pub mod ListArchives
 pub mod ListedLookups
 pub mod MatchedKeys
 pub mod ListedWalks
+pub mod PairsAt
 pub mod Reading
 pub mod Writing
 use Rattle.rkyv_base.specs.declared.element.HasSpec.{Ghosts as Specs}

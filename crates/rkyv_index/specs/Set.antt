@@ -2,3 +2,4 @@
 pub mod IndexSet
 pub mod SetFormat
 pub mod ListArchives
+pub mod ItemsAt

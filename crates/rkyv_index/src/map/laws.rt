@@ -1,6 +1,6 @@
 //! Laws of index maps, over their definitions alone.
 //!
-//! They are about the layout, lookups, iterations, comparisons, clones,
+//! They are about the layout, lookups, pairs at an index, iterations, comparisons, clones,
 //! deserialized lists and writes of one value in place.
 //! `written` is about the bytes of written index maps, `list_archives` about root index maps, and
 //! `nested` about writes in a map or index map that is a value.
@@ -9,7 +9,7 @@ ghost use Rattle.rkyv_base.specs.{SameSpec, SameValues, entry_spec};
 ghost use Rattle.rkyv_keys.specs.{SameComparison, hash_at, hash_of, native_pairs, query_of};
 ghost use Rattle.rkyv_table.specs.{CountsPositions, SameSteps, YieldsKey, YieldsPair, YieldsValue};
 ghost use Rattle.rkyv_index.specs.{ComparedAlike, FindsMatchedKeys, LookupsFindListed};
-ghost use Rattle.rkyv_index.specs.{PairsReadBackAreListed, QueriedAlike};
+ghost use Rattle.rkyv_index.specs.{PairsAtAreListed, PairsReadBackAreListed, QueriedAlike};
 ghost use Rattle.rkyv_index.specs.{ValueWritesKeepIndexMaps, ValueWritesKeepLookups};
 ghost use Rattle.rkyv_index.specs.{ValuesWrittenRepresent, WalksAll, WalksVisitInOrder};
 ghost use Rattle.rkyv_index.specs.{WrittenAlike, index_map_equal, index_maps_equal, index_spec};
@@ -142,6 +142,22 @@ pub fn lookups_find_listed<
 pub fn matched_keys_are_found<Q: Query<K>, K: KeyElement, V: Element, H: KeyHasher, W: Width>()
     ensures { FindsMatchedKeys H W.Word K.HasSpec V.HasSpec Q.can_read
         (λ q. query_of H.hasher K.key_calls K.same (Q.calls q) (Q.fits q)) }
+{}
+
+/// States that `get_index` returns the pair of the represented list at its index.
+///
+/// It returns `None` if and only if the list has no pair there. The header of the index map may be
+/// anywhere in the archive.
+pub fn pairs_at_are_listed<
+    A,
+    B,
+    K: KeyElement + Represents<A>,
+    V: Represents<B>,
+    H: KeyHasher,
+    W: Width,
+>()
+    ensures { PairsAtAreListed H W.Word K.HasSpec V.HasSpec
+        (native_pairs K.represents V.represents H.hasher K.key_calls) }
 {}
 
 /// States that `iter`, `keys` and `values` return the pairs of the represented list, in order.

@@ -1,12 +1,12 @@
 //! Laws of index sets, over their definitions alone.
 //!
-//! They are about the layout, the formats of lists, lookups, iterations,
+//! They are about the layout, the formats of lists, lookups, keys at an index, iterations,
 //! comparisons, clones and deserialized lists.
 //! `written` is about the bytes of written index sets.
 ghost use Rattle.std.specs.Prelude.{◌↔◌, ◌≡◌};
 ghost use Rattle.rkyv_keys.specs.{SameComparison, fx_key_format, hash_at, native_key_format};
 ghost use Rattle.rkyv_keys.specs.{native_keys};
-ghost use Rattle.rkyv_index.specs.{ComparedAlike, ItemsReadBackAreListed};
+ghost use Rattle.rkyv_index.specs.{ComparedAlike, ItemsAtAreListed, ItemsReadBackAreListed};
 ghost use Rattle.rkyv_index.specs.{MembersFoundAreListed, QueriedAlike, SameFormats};
 ghost use Rattle.rkyv_index.specs.{SetWalksVisitInOrder, WalksAll, WrittenAlike};
 ghost use Rattle.rkyv_index.specs.{index_keys_format, index_set_equal, index_set_spec};
@@ -56,6 +56,14 @@ pub fn members_found_are_listed<
 >()
     ensures { MembersFoundAreListed H W.Word K.HasSpec
         (native_keys K.represents (hash_at H.hasher K.key_calls) Q.fits Q.equals) }
+{}
+
+/// States that `get_index` returns the key of the represented list at its index.
+///
+/// It returns `None` if and only if the list has no key there. The header of the index set may be
+/// anywhere in the archive.
+pub fn items_at_are_listed<A, K: KeyElement + Represents<A>, H: KeyHasher, W: Width>()
+    ensures { ItemsAtAreListed H W.Word K.HasSpec K.represents (hash_at H.hasher K.key_calls) }
 {}
 
 /// States that `iter` returns the keys of the list that an index set represents, in order.

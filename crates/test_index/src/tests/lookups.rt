@@ -8,8 +8,8 @@ use rkyv_base::errors::VerifyError;
 use rkyv_base::view::View;
 use rkyv_base::width::Narrow;
 use rkyv_index::map::laws::{
-    clones_are_the_same, index_maps_are_laid_out, items_are_yielded, walks_by_for_are_iterations,
-    walks_visit_in_order,
+    clones_are_the_same, index_maps_are_laid_out, items_are_yielded, pairs_at_are_listed,
+    walks_by_for_are_iterations, walks_visit_in_order,
 };
 use rkyv_index::{ArchivedIndexMap, IndexMapOf, Iter, Keys, Values};
 use rkyv_scan::hash::FxHasher64;
@@ -25,6 +25,7 @@ type Small = IndexMapOf<i8, i8>;
 fn a_key_is_found_with_its_index(rt: HostRuntime) -> Result<(), Fail> {
     index_maps_are_laid_out::<Narrow, FxHasher64, i8, i8, i8, i8>();
     items_are_yielded::<i8, i8>();
+    pairs_at_are_listed::<i8, i8, i8, i8, FxHasher64, Narrow>();
     walks_visit_in_order::<i8, i8, i8, i8, FxHasher64, Narrow>();
     let bytes = four_entries();
     let map = ArchivedIndexMap::of(access::<Small>(&bytes)?);

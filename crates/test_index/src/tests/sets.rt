@@ -8,8 +8,8 @@ use rkyv_base::errors::{VerifyError, WriteError};
 use rkyv_base::width::Narrow;
 use rkyv_base::writer::{NoMemory, VecWriter};
 use rkyv_index::set::laws::{
-    both_hashers_look_up_alike, clones_are_the_same, index_sets_are_laid_out, listed_items_are_written,
-    ordered_items_are_written, walks_by_for_are_iterations,
+    both_hashers_look_up_alike, clones_are_the_same, index_sets_are_laid_out, items_at_are_listed,
+    listed_items_are_written, ordered_items_are_written, walks_by_for_are_iterations,
     walks_visit_in_order,
 };
 use rkyv_index::{ArchivedIndexMap, ArchivedIndexSet, IndexSetOf};
@@ -27,6 +27,7 @@ fn one_item_is_written(rt: HostRuntime) -> Result<(), Fail> {
     listed_items_are_written::<Narrow, FxHasher64, i8, i8>();
     ordered_items_are_written::<Narrow, i8, i8>();
     walks_visit_in_order::<i8, i8, FxHasher64, Narrow>();
+    items_at_are_listed::<i8, i8, FxHasher64, Narrow>();
     walks_by_for_are_iterations::<i8, FxHasher64, Narrow>();
     let alloc = rt.alloc();
     let bytes = set_archive(alloc, &[1])?;
