@@ -1,4 +1,4 @@
-//! The pieces in which index maps and index sets are written.
+//! The lengths of the pieces that index maps and index sets append.
 
 use rkyv_base::archive::Serialize;
 use rkyv_base::root::write_root;
