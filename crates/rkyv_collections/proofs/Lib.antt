@@ -14,7 +14,7 @@ pub mod StdReading
 pub mod StdComparing
 pub mod StdFinding
 pub mod WrittenRoots
-pub mod FittedKeys
+pub mod MatchedKeys
 pub mod FoundPairs
 pub mod ListedLookups
 pub mod FoundValues

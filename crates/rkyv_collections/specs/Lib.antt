@@ -60,8 +60,8 @@ unfoldable pub use Map.ListedWalks.{SetWalksVisitEach, WalksVisitEach, WalksVisi
 unfoldable pub use Map.ListedWalks.{key_positions_at}
 pub use Map.ListedWalks.{HasEachOnce}
 unfoldable pub use Map.BothHashers.{ComparedAlike, QueriedAlike, WrittenAlike, fx_found}
-unfoldable pub use Map.FittedKeys.{FindsFittedKeys, HasDistinctKeys}
-pub use Map.FittedKeys.{FindsSameKey}
+unfoldable pub use Map.MatchedKeys.{FindsMatchedKeys, HasDistinctKeys}
+pub use Map.MatchedKeys.{FindsSameKey}
 unfoldable pub use Map.InPlace.{SetsFirst, SetsFound, SetsValue, with_first}
 unfoldable pub use Map.ListArchives.{FoundAreListed, IsTextMapUnder, OpensTextMap, TextMapFails}
 unfoldable pub use Map.ListArchives.{TextMapRepresents, TextMapResult, TextPairs, first_of_text}

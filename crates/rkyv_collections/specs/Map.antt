@@ -13,7 +13,7 @@ pub mod ValueWrites
 pub mod ListedLookups
 pub mod ListedWalks
 pub mod BothHashers
-pub mod FittedKeys
+pub mod MatchedKeys
 pub mod InPlace
 pub mod ListArchives
 pub mod NestedWrites

@@ -6,7 +6,7 @@
 ghost use Rattle.rkyv_base.specs.{SameSpec, SameValues};
 ghost use Rattle.rkyv_keys.specs.{SameComparison, hash_at, native_pairs, query_of};
 ghost use Rattle.rkyv_table.specs.{CountsPositions, SameSteps, YieldsKey, YieldsPair, YieldsValue};
-ghost use Rattle.rkyv_collections.specs.{ComparedAlike, EqualHaveSamePairs, FindsFittedKeys};
+ghost use Rattle.rkyv_collections.specs.{ComparedAlike, EqualHaveSamePairs, FindsMatchedKeys};
 ghost use Rattle.rkyv_collections.specs.{LookupsFindListed, QueriedAlike, RepeatedKeysAreMisplaced};
 ghost use Rattle.rkyv_collections.specs.{WalksVisitEach, WalksVisitPairs, WrittenAlike, map_equal};
 ghost use Rattle.rkyv_collections.specs.{map_list, map_spec};
@@ -64,11 +64,11 @@ pub fn repeated_keys_are_misplaced<K: KeyElement, V: Element, H: KeyHasher, W: W
         K.same }
 {}
 
-/// States that a query that fits a key of a written map finds that key or one that is the same.
+/// States that a query that matches a key of a written map finds it, or a key that is the same.
 ///
 /// The found key was not inserted later. If no two keys of the map are the same, it is that key.
-pub fn fitted_keys_are_found<Q: Query<K>, K: KeyElement, V: Element, H: KeyHasher, W: Width>()
-    ensures { FindsFittedKeys W.word K.spec V.spec Q.can_read
+pub fn matched_keys_are_found<Q: Query<K>, K: KeyElement, V: Element, H: KeyHasher, W: Width>()
+    ensures { FindsMatchedKeys W.word K.spec V.spec Q.can_read
         (λ q. query_of H.hasher K.key_calls K.same (Q.calls q) (Q.fits q)) }
 {}
 

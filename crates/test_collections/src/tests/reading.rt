@@ -14,8 +14,8 @@ use rkyv_base::text::Text;
 use rkyv_base::view::View;
 use rkyv_base::width::{Narrow, Wide};
 use rkyv_collections::map::laws::{
-    equal_maps_have_the_same_pairs, fitted_keys_are_found, items_are_yielded, maps_are_compared,
-    maps_are_laid_out, repeated_keys_are_misplaced,
+    equal_maps_have_the_same_pairs, items_are_yielded, maps_are_compared, maps_are_laid_out,
+    matched_keys_are_found, repeated_keys_are_misplaced,
 };
 use rkyv_collections::map::{ArchivedHashMap, HashMapOf};
 use rkyv_scan::hash::FxHasher64;
@@ -263,7 +263,7 @@ fn first_of_equal_keys_is_found(rt: HostRuntime) {
 #[test]
 fn misplaced_keys_are_counted(rt: HostRuntime) {
     repeated_keys_are_misplaced::<i8, i8, FxHasher64, Narrow>();
-    fitted_keys_are_found::<i8, i8, i8, FxHasher64, Narrow>();
+    matched_keys_are_found::<i8, i8, i8, FxHasher64, Narrow>();
     let mut moved = one_pair();
     moved[0] = 2;
     let misplaced = [
