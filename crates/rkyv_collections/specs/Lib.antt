@@ -62,6 +62,7 @@ pub use Map.ListedWalks.{HasEachOnce}
 unfoldable pub use Map.BothHashers.{ComparedAlike, QueriedAlike, WrittenAlike, fx_found}
 unfoldable pub use Map.MatchedKeys.{FindsMatchedKeys, HasDistinctKeys}
 pub use Map.MatchedKeys.{FindsSameKey}
+unfoldable pub use Map.Walking.{WalksAll}
 unfoldable pub use Map.InPlace.{SetsFirst, SetsFound, SetsValue, with_first}
 unfoldable pub use Map.ListArchives.{FoundAreListed, IsTextMapUnder, OpensTextMap, TextMapFails}
 unfoldable pub use Map.ListArchives.{TextMapRepresents, TextMapResult, TextPairs, first_of_text}
@@ -78,5 +79,6 @@ unfoldable pub use Set.{set_bytes, set_cap, set_equal, set_len, set_misplaced, s
 unfoldable pub use Set.{set_view}
 unfoldable pub use Set.ListArchives.{MembersFoundAreListed, SetLookupsFindListed, set_root}
 unfoldable pub use Set.SetFormat.{SetRepresents, WrittenSetsRepresent, set_format}
+unfoldable pub use Set.Walking.{WalksAllKeys}
 unfoldable pub use Listed.{map_list, map_list_format, pairs_under, set_list, set_list_format}
 unfoldable pub use Listed.{std_map_format}

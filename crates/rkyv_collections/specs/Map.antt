@@ -14,6 +14,7 @@ pub mod ListedLookups
 pub mod ListedWalks
 pub mod BothHashers
 pub mod MatchedKeys
+pub mod Walking
 pub mod InPlace
 pub mod ListArchives
 pub mod NestedWrites

@@ -1,6 +1,7 @@
 -- Hash sets in an archive, and the results of lookups in them, as in the map of the keys.
 pub mod ListArchives
 pub mod SetFormat
+pub mod Walking
 use Rattle.rkyv_base.specs.declared.element.HasSpec.{Ghosts as Specs}
 use Rattle.rkyv_base.specs.declared.width.Word.{Ghosts as Words}
 use Rattle.std.specs.Prelude.{ℕ, List, Option}

@@ -3,13 +3,14 @@
 //! - This module has laws of equality, lookups and walks.
 //! - `written` is about the bytes of written maps, and `list_archives` about root maps.
 //! - `in_place` is about writes of one value, and `nested` about maps that are values of maps.
+ghost use Rattle.std.specs.Prelude.{◌↔◌};
 ghost use Rattle.rkyv_base.specs.{SameSpec, SameValues};
 ghost use Rattle.rkyv_keys.specs.{SameComparison, hash_at, native_pairs, query_of};
 ghost use Rattle.rkyv_table.specs.{CountsPositions, SameSteps, YieldsKey, YieldsPair, YieldsValue};
 ghost use Rattle.rkyv_collections.specs.{ComparedAlike, EqualHaveSamePairs, FindsMatchedKeys};
 ghost use Rattle.rkyv_collections.specs.{LookupsFindListed, QueriedAlike, RepeatedKeysAreMisplaced};
-ghost use Rattle.rkyv_collections.specs.{WalksVisitEach, WalksVisitPairs, WrittenAlike, map_equal};
-ghost use Rattle.rkyv_collections.specs.{map_list, map_spec};
+ghost use Rattle.rkyv_collections.specs.{WalksAll, WalksVisitEach, WalksVisitPairs, WrittenAlike};
+ghost use Rattle.rkyv_collections.specs.{map_equal, map_list, map_spec};
 
 pub mod in_place;
 pub mod list_archives;
@@ -17,8 +18,8 @@ pub mod nested;
 pub mod written;
 
 use crate::lists::MapPairs;
-use crate::map::HashMapOf;
 use crate::map::read::iter::{Iter, Keys, Values};
+use crate::map::{ArchivedHashMap, HashMapOf};
 use rkyv_base::element::{Element, HasSpec, Represents};
 use rkyv_base::width::Width;
 use rkyv_keys::equality::{ElementEq, ElementEquiv};
@@ -37,6 +38,18 @@ pub fn items_are_yielded<'a, K: 'a + Element, V: 'a + Element, H: 'a, W: 'a>()
     ensures pairs_left { CountsPositions ⟦<Iter<'a, K, V, H, W> as Iterator>⟧.remaining }
     ensures keys_left { CountsPositions ⟦<Keys<'a, K, V, H, W> as Iterator>⟧.remaining }
     ensures values_left { CountsPositions ⟦<Values<'a, K, V, H, W> as Iterator>⟧.remaining }
+{}
+
+/// States that a `for` over a map, or over a reference to it, visits the pairs of `iter`.
+///
+/// They are all pairs of the map, in bucket order.
+pub fn walks_by_for_are_iterations<'a, 'b, K: Element, V: Element, H, W: Width>()
+    ensures owned { (map pairs : _) →
+        ⟦<ArchivedHashMap<'a, K, V, H, W> as IntoIterator>⟧.into_iter_gives map pairs
+        ↔ WalksAll map pairs }
+    ensures borrowed { (map pairs : _) →
+        ⟦<&'b ArchivedHashMap<'a, K, V, H, W> as IntoIterator>⟧.into_iter_gives map pairs
+        ↔ WalksAll map.now pairs }
 {}
 
 /// States that two maps that are values are compared by their lengths and by lookups.

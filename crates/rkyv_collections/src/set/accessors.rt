@@ -9,8 +9,8 @@
 ghost use Rattle.std.specs.Prelude.{IsTrue, length, ◌↔◌, ◌≡◌};
 ghost use Rattle.rkyv_base.specs.{IsValidView, archive_of, pos_of, unit_spec};
 ghost use Rattle.rkyv_base.specs.Lemmas.Empty.{unit_element};
-ghost use Rattle.rkyv_collections.specs.{FoundMemberHas, GetsMember, IsSetAt, member_positions};
-ghost use Rattle.rkyv_collections.specs.{set_archive, set_cap, set_len, set_spec};
+ghost use Rattle.rkyv_collections.specs.{FoundMemberHas, GetsMember, IsSetAt, WalksAllKeys};
+ghost use Rattle.rkyv_collections.specs.{member_positions, set_archive, set_cap, set_len, set_spec};
 ghost use Rattle.rkyv_keys.specs.{IsFoundAt, query_of};
 ghost use Rattle.rkyv_collections.specs.Lemmas.MapElement.{map_element};
 
@@ -130,14 +130,11 @@ impl<'a, K: Element, H, W: Width> IntoIterator for ArchivedHashSet<'a, K, H, W> 
 
     type IntoIter = Keys<'a, K, (), H, W>;
 
-    ghost into_iter_gives = { λ set keys. (keys.archive ≡ set_archive set)
-        × (keys.positions ≡ member_positions set) × (length keys.positions ≡ set_len set) };
+    ghost into_iter_gives = { λ set. WalksAllKeys set };
 
     #[inline]
     fn into_iter(self) -> Keys<'a, K, (), H, W>
-        ensures into_iter_gives { (result.archive ≡ set_archive self.entry)
-            × (result.positions ≡ member_positions self.entry)
-            × (length result.positions ≡ set_len self.entry) }
+        ensures into_iter_gives { WalksAllKeys self.entry result }
     {
         self.iter()
     }
@@ -149,14 +146,11 @@ impl<'a, K: Element, H, W: Width> IntoIterator for &ArchivedHashSet<'a, K, H, W>
 
     type IntoIter = Keys<'a, K, (), H, W>;
 
-    ghost into_iter_gives = { λ set keys. (keys.archive ≡ set_archive set.now)
-        × (keys.positions ≡ member_positions set.now) × (length keys.positions ≡ set_len set.now) };
+    ghost into_iter_gives = { λ set. WalksAllKeys set.now };
 
     #[inline]
     fn into_iter(self) -> Keys<'a, K, (), H, W>
-        ensures into_iter_gives { (result.archive ≡ set_archive self.entry.now)
-            × (result.positions ≡ member_positions self.entry.now)
-            × (length result.positions ≡ set_len self.entry.now) }
+        ensures into_iter_gives { WalksAllKeys self.entry.now result }
     {
         self.iter()
     }

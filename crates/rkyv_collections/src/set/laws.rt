@@ -2,9 +2,10 @@
 //!
 //! They are about equality, iterations and lookups. `written` is about the bytes of written sets.
 
+ghost use Rattle.std.specs.Prelude.{◌↔◌};
 ghost use Rattle.rkyv_collections.specs.{ComparedAlike, MembersFoundAreListed, QueriedAlike};
-ghost use Rattle.rkyv_collections.specs.{SetLookupsFindListed, SetWalksVisitEach, WrittenAlike};
-ghost use Rattle.rkyv_collections.specs.{set_equal, set_list, set_spec};
+ghost use Rattle.rkyv_collections.specs.{SetLookupsFindListed, SetWalksVisitEach, WalksAllKeys};
+ghost use Rattle.rkyv_collections.specs.{WrittenAlike, set_equal, set_list, set_spec};
 ghost use Rattle.rkyv_base.specs.{SameSpec, SameValues, unit_spec};
 ghost use Rattle.rkyv_keys.specs.{SameComparison, hash_at, native_keys};
 
@@ -12,12 +13,24 @@ pub mod written;
 
 use crate::lists::SetItems;
 use crate::map::laws::both_hashers_look_up_alike as maps_look_up_alike;
-use crate::set::HashSetOf;
-use rkyv_base::element::{HasSpec, Represents};
+use crate::set::{ArchivedHashSet, HashSetOf};
+use rkyv_base::element::{Element, HasSpec, Represents};
 use rkyv_base::width::Width;
 use rkyv_keys::equality::ElementEq;
 use rkyv_keys::keys::{FixedKey, KeyElement, NativeQuery, Query};
 use rkyv_scan::hash::KeyHasher;
+
+/// States that a `for` over a set, or over a reference to it, visits the keys of `iter`.
+///
+/// They are all keys of the set, in bucket order.
+pub fn walks_by_for_are_iterations<'a, 'b, K: Element, H, W: Width>()
+    ensures owned { (set keys : _) →
+        ⟦<ArchivedHashSet<'a, K, H, W> as IntoIterator>⟧.into_iter_gives set keys
+        ↔ WalksAllKeys set keys }
+    ensures borrowed { (set keys : _) →
+        ⟦<&'b ArchivedHashSet<'a, K, H, W> as IntoIterator>⟧.into_iter_gives set keys
+        ↔ WalksAllKeys set.now keys }
+{}
 
 /// States that two sets that are values are compared by their lengths and by lookups.
 ///

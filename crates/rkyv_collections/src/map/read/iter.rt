@@ -6,7 +6,7 @@ ghost use Rattle.std.specs.Prelude.{length, ◌≡◌};
 ghost use Rattle.std.specs.Iterator.{at_most};
 ghost use Rattle.rkyv_base.specs.{entry_spec};
 ghost use Rattle.rkyv_table.specs.{HintsExactly, YieldsKey, YieldsPair, YieldsValue};
-ghost use Rattle.rkyv_collections.specs.{key_positions, map_archive, map_len};
+ghost use Rattle.rkyv_collections.specs.{WalksAll, key_positions, map_archive, map_len};
 
 use crate::map::ArchivedHashMap;
 use rkyv_base::element::{Element, HasSpec};
@@ -212,14 +212,11 @@ impl<'a, K: Element, V: Element, H, W: Width> IntoIterator for ArchivedHashMap<'
 
     type IntoIter = Iter<'a, K, V, H, W>;
 
-    ghost into_iter_gives = { λ map pairs. (pairs.archive ≡ map_archive map)
-        × (pairs.positions ≡ key_positions map) × (length pairs.positions ≡ map_len map) };
+    ghost into_iter_gives = { λ map. WalksAll map };
 
     #[inline]
     fn into_iter(self) -> Iter<'a, K, V, H, W>
-        ensures into_iter_gives { (result.archive ≡ map_archive self.entry)
-            × (result.positions ≡ key_positions self.entry)
-            × (length result.positions ≡ map_len self.entry) }
+        ensures into_iter_gives { WalksAll self.entry result }
     {
         self.iter()
     }
@@ -231,14 +228,11 @@ impl<'a, K: Element, V: Element, H, W: Width> IntoIterator for &ArchivedHashMap<
 
     type IntoIter = Iter<'a, K, V, H, W>;
 
-    ghost into_iter_gives = { λ map pairs. (pairs.archive ≡ map_archive map.now)
-        × (pairs.positions ≡ key_positions map.now) × (length pairs.positions ≡ map_len map.now) };
+    ghost into_iter_gives = { λ map. WalksAll map.now };
 
     #[inline]
     fn into_iter(self) -> Iter<'a, K, V, H, W>
-        ensures into_iter_gives { (result.archive ≡ map_archive self.entry.now)
-            × (result.positions ≡ key_positions self.entry.now)
-            × (length result.positions ≡ map_len self.entry.now) }
+        ensures into_iter_gives { WalksAll self.entry.now result }
     {
         self.iter()
     }
