@@ -3,7 +3,7 @@
 //! - This module has laws of equality, lookups and walks.
 //! - `written` is about the bytes of written maps, and `list_archives` about root maps.
 //! - `in_place` is about writes of one value, and `nested` about maps that are values of maps.
-ghost use Rattle.std.specs.Prelude.{◌↔◌};
+ghost use Rattle.std.specs.Prelude.{◌↔◌, ◌≡◌};
 ghost use Rattle.rkyv_base.specs.{SameSpec, SameValues};
 ghost use Rattle.rkyv_keys.specs.{SameComparison, hash_at, native_pairs, query_of};
 ghost use Rattle.rkyv_table.specs.{CountsPositions, SameSteps, YieldsKey, YieldsPair, YieldsValue};
@@ -21,7 +21,7 @@ use crate::lists::MapPairs;
 use crate::map::read::iter::{Iter, Keys, Values};
 use crate::map::{ArchivedHashMap, HashMapOf};
 use rkyv_base::element::{Element, HasSpec, Represents};
-use rkyv_base::width::Width;
+use rkyv_base::width::{Width, Word};
 use rkyv_keys::equality::{ElementEq, ElementEquiv};
 use rkyv_keys::keys::{FixedKey, KeyElement, Query};
 use rkyv_scan::hash::KeyHasher;
@@ -50,6 +50,14 @@ pub fn walks_by_for_are_iterations<'a, 'b, K: Element, V: Element, H, W: Width>(
     ensures borrowed { (map pairs : _) →
         ⟦<&'b ArchivedHashMap<'a, K, V, H, W> as IntoIterator>⟧.into_iter_gives map pairs
         ↔ WalksAll map.now pairs }
+{}
+
+/// States that a clone of a map is the same map, and that cloning never fails.
+pub fn clones_are_the_same<'a, K: HasSpec, V: HasSpec, H, W: Word>()
+    ensures same { (map clone : _) →
+        ⟦<ArchivedHashMap<'a, K, V, H, W> as Clone>⟧.is_clone map clone ↔ (clone ≡ map) }
+    ensures infallible { (map : _) →
+        ⟦<ArchivedHashMap<'a, K, V, H, W> as Clone>⟧.is_infallible map }
 {}
 
 /// States that two maps that are values are compared by their lengths and by lookups.

@@ -2,7 +2,7 @@
 //!
 //! They are about equality, iterations and lookups. `written` is about the bytes of written sets.
 
-ghost use Rattle.std.specs.Prelude.{◌↔◌};
+ghost use Rattle.std.specs.Prelude.{◌↔◌, ◌≡◌};
 ghost use Rattle.rkyv_collections.specs.{ComparedAlike, MembersFoundAreListed, QueriedAlike};
 ghost use Rattle.rkyv_collections.specs.{SetLookupsFindListed, SetWalksVisitEach, WalksAllKeys};
 ghost use Rattle.rkyv_collections.specs.{WrittenAlike, set_equal, set_list, set_spec};
@@ -15,7 +15,7 @@ use crate::lists::SetItems;
 use crate::map::laws::both_hashers_look_up_alike as maps_look_up_alike;
 use crate::set::{ArchivedHashSet, HashSetOf};
 use rkyv_base::element::{Element, HasSpec, Represents};
-use rkyv_base::width::Width;
+use rkyv_base::width::{Width, Word};
 use rkyv_keys::equality::ElementEq;
 use rkyv_keys::keys::{FixedKey, KeyElement, NativeQuery, Query};
 use rkyv_scan::hash::KeyHasher;
@@ -30,6 +30,14 @@ pub fn walks_by_for_are_iterations<'a, 'b, K: Element, H, W: Width>()
     ensures borrowed { (set keys : _) →
         ⟦<&'b ArchivedHashSet<'a, K, H, W> as IntoIterator>⟧.into_iter_gives set keys
         ↔ WalksAllKeys set.now keys }
+{}
+
+/// States that a clone of a set is the same set, and that cloning never fails.
+pub fn clones_are_the_same<'a, K: HasSpec, H, W: Word>()
+    ensures same { (set clone : _) →
+        ⟦<ArchivedHashSet<'a, K, H, W> as Clone>⟧.is_clone set clone ↔ (clone ≡ set) }
+    ensures infallible { (set : _) →
+        ⟦<ArchivedHashSet<'a, K, H, W> as Clone>⟧.is_infallible set }
 {}
 
 /// States that two sets that are values are compared by their lengths and by lookups.
