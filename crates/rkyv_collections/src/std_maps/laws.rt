@@ -105,9 +105,10 @@ where
         (StdSetRepresents K.spec K.represents W.word A.eq)) }
 {}
 
-/// States that a map equals a map of std whose keys and values its lookups find.
+/// States that an archived map is compared with a map of std by their lengths and by lookups.
 ///
-/// It has as many pairs. A lookup of each key of the map of std finds an equal value.
+/// They are equal if they have the same length, and a lookup of each key of the map of std
+/// finds an equal value.
 pub fn std_maps_are_compared<K, V, H, W: Width, A, B, T: BuildHasher>()
 where
     K: KeyElement + Represents<A>,
@@ -122,9 +123,9 @@ where
         (StdMapEquals W.word K.spec V.spec (hash_of H.hasher A.calls) A.fits V.equals)) }
 {}
 
-/// States that a set equals a set of std whose keys its lookups find.
+/// States that an archived set is compared with a set of std by their lengths and by lookups.
 ///
-/// It has as many keys. A lookup finds each key of the set of std.
+/// They are equal if they have the same length, and a lookup finds each key of the set of std.
 pub fn std_sets_are_compared<K, H, W: Width, A, T: BuildHasher>()
 where
     K: KeyElement + Represents<A>,
@@ -214,7 +215,7 @@ where
         (λ x. with_units x.map.keys)) }
 {}
 
-/// States that a written map of std equals its map in any archive that has its bytes.
+/// States that in any archive with the written bytes of a map of std, the archived map equals it.
 pub fn written_maps_are_equal<
     W: Width,
     H: KeyHasher,
@@ -233,7 +234,7 @@ where
     written_values_are_equal::<W, Hashed<HashMap<A, B, T>, H>>();
 }
 
-/// States that a written set of std equals its set in any archive that has its bytes.
+/// States that in any archive with the written bytes of a set of std, the archived set equals it.
 pub fn written_sets_are_equal<W: Width, H: KeyHasher, A: Archive<W> + Hash, T: BuildHasher>()
 where
     A::Archived: KeyElement,
@@ -292,7 +293,7 @@ where
         M.format M.eq }
 {}
 
-/// States that a written value equals itself in any archive that has its bytes.
+/// States that in any archive with the written bytes of a value, the archived value equals it.
 fn written_values_are_equal<W: Width, M: EqualsWritten<W>>()
 where
     M::Archived: MatchesNative<M>,
