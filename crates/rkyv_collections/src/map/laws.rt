@@ -1,6 +1,6 @@
 //! Laws of maps, over their definitions alone.
 //!
-//! - This module has laws of equality, lookups and walks.
+//! - This module has laws of equality, lookups, walks and clones.
 //! - `written` is about the bytes of written maps, and `list_archives` about root maps.
 //! - `in_place` is about writes of one value, and `nested` about maps that are values of maps.
 ghost use Rattle.std.specs.Prelude.{◌↔◌, ◌≡◌};
