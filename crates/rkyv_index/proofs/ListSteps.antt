@@ -1,5 +1,5 @@
--- Properties of each element of a list after a push, and of two equal lists.
-use Rattle.std.proofs.Common.{◌≡◌, ℕ, zero, suc, ◌+◌, ◌∙◌, List, [], ◌∷◌, ◌++◌, Bool, true, Some, ap, arith, length, refl, subst, sym}
+-- Properties of each element of a list after a push, of two equal lists, and of a count.
+use Rattle.std.proofs.Common.{◌≡◌, ◌<◌, ℕ, zero, suc, ◌+◌, ◌∙◌, List, [], ◌∷◌, ◌++◌, Bool, true, Some, ap, arith, length, refl, subst, sym}
 use Rattle.std.proofs.lemmas.Bool.{and_from}
 use Rattle.std.proofs.lemmas.List.{length_push}
 use Rattle.std.proofs.lemmas.Option.{none-some, same_Some}
@@ -31,3 +31,8 @@ equal_lists equal (x ∷ xs) [] n h = absurd (omega (arith, n))
 equal_lists equal (x ∷ xs) (y ∷ ys) n h =
     and_from (equal x y) (pointwise equal xs ys) (h 0 x y refl refl)
     (equal_lists equal xs ys (omega (arith, n)) (λ i. h (suc i)))
+
+-- a number that isn't 0 is above 0
+pub above_zero : (n : ℕ) → (n ≡ 0 → ⊥) → 0 < n
+above_zero zero not_zero = absurd (not_zero refl)
+above_zero (suc n) not_zero = omega arith

@@ -6,7 +6,8 @@
 ghost use Rattle.std.specs.Prelude.{◌↔◌, ◌≡◌};
 ghost use Rattle.rkyv_base.specs.{SameSpec, SameValues};
 ghost use Rattle.rkyv_keys.specs.{SameComparison, hash_at, native_pairs, query_of};
-ghost use Rattle.rkyv_table.specs.{CountsPositions, SameSteps, YieldsKey, YieldsPair, YieldsValue};
+ghost use Rattle.rkyv_table.specs.{CountsPositions, ItemsLeft, SameSteps, YieldsKey, YieldsPair};
+ghost use Rattle.rkyv_table.specs.{YieldsValue};
 ghost use Rattle.rkyv_collections.specs.{ComparedAlike, EqualHaveSamePairs, FindsMatchedKeys};
 ghost use Rattle.rkyv_collections.specs.{LookupsFindListed, QueriedAlike, RepeatedKeysAreMisplaced};
 ghost use Rattle.rkyv_collections.specs.{WalksAll, WalksVisitEach, WalksVisitPairs, WrittenAlike};
@@ -28,7 +29,7 @@ use rkyv_scan::hash::KeyHasher;
 
 /// States that the iterators yield the pairs, keys and values at their positions in turn.
 ///
-/// At most as many items remain as positions are left.
+/// At most as many items remain as positions are left, and `next` has no condition.
 pub fn items_are_yielded<'a, K: 'a + Element, V: 'a + Element, H: 'a, W: 'a>()
     ensures pairs { SameSteps ⟦<Iter<'a, K, V, H, W> as Iterator>⟧.next_gives
         (YieldsPair K.spec V.spec) }
@@ -38,6 +39,10 @@ pub fn items_are_yielded<'a, K: 'a + Element, V: 'a + Element, H: 'a, W: 'a>()
     ensures pairs_left { CountsPositions ⟦<Iter<'a, K, V, H, W> as Iterator>⟧.remaining }
     ensures keys_left { CountsPositions ⟦<Keys<'a, K, V, H, W> as Iterator>⟧.remaining }
     ensures values_left { CountsPositions ⟦<Values<'a, K, V, H, W> as Iterator>⟧.remaining }
+    ensures pairs_ready { (left : ItemsLeft) → ⟦<Iter<'a, K, V, H, W> as Iterator>⟧.can_next left }
+    ensures keys_ready { (left : ItemsLeft) → ⟦<Keys<'a, K, V, H, W> as Iterator>⟧.can_next left }
+    ensures values_ready { (left : ItemsLeft)
+        → ⟦<Values<'a, K, V, H, W> as Iterator>⟧.can_next left }
 {}
 
 /// States that a `for` over a map, or over a reference to it, visits the pairs of `iter`.

@@ -57,11 +57,11 @@ pair_deserialize_fails {ks = ks} {vs} key value m index e =
     entry_deserialize_fails ks.spec vs.spec key value (index_bytes m) (key_pos m index) e
 
 module _ {A B : Type 0} (w : Width) (k : DeserializeMembers A) (v : DeserializeMembers B) where
-  -- `e`: error of deserializing the pairs of the index map at `p` of `b`. It is `Memory`,
-  -- or the error of a key or a value, after all pairs before it were deserialized
+  -- `e`: error of deserializing the pairs of the index map at `p` of `b`. It is `Memory`, unless
+  -- there are none, or the error of a key or a value, after all pairs before it were deserialized
   abbrev pub pairs_deserialize_fails : DeserializeErrors
   pairs_deserialize_fails b p e =
-      (e ≡ Memory)
+      ((e ≡ Memory) × (0 < len_at w b p))
       ⊎ ((before : List (A × B)) × (length before < len_at w b p)
       × ArePairsAt w k.spec v.spec k.represents v.represents b p before
       × entry_deserialize_fails k.spec v.spec k.deserialize_fails v.deserialize_fails b
@@ -89,11 +89,11 @@ module _ {K H W A : Type 0} {ks : Specs K} {wt : Words W} (key : List ℕ → �
   abbrev pub ReadsItems : List A → Type 0
   ReadsItems items = HasItemsAt wt.word ks.spec key (set_bytes s) (set_pos s) items
 
--- `e`: error of deserializing the keys of the index set at `p` of `b`. It is `Memory`,
--- or the error of a key, after all keys before it were deserialized
+-- `e`: error of deserializing the keys of the index set at `p` of `b`. It is `Memory`, unless
+-- there are none, or the error of a key, after all keys before it were deserialized
 abbrev pub items_deserialize_fails : {A : Type 0} → Width → DeserializeMembers A → DeserializeErrors
 items_deserialize_fails {A} w k b p e =
-    (e ≡ Memory)
+    ((e ≡ Memory) × (0 < len_at w b p))
     ⊎ ((before : List A) × (length before < len_at w b p)
     × AreItemsAt w k.spec k.represents b p before
     × k.deserialize_fails b (pair_at w k.spec unit_spec b p (length before)) e)

@@ -7,7 +7,8 @@
 ghost use Rattle.std.specs.Prelude.{◌↔◌, ◌≡◌};
 ghost use Rattle.rkyv_base.specs.{SameSpec, SameValues, entry_spec};
 ghost use Rattle.rkyv_keys.specs.{SameComparison, hash_at, hash_of, native_pairs, query_of};
-ghost use Rattle.rkyv_table.specs.{CountsPositions, SameSteps, YieldsKey, YieldsPair, YieldsValue};
+ghost use Rattle.rkyv_table.specs.{CountsPositions, ItemsLeft, SameSteps, YieldsKey, YieldsPair};
+ghost use Rattle.rkyv_table.specs.{YieldsValue};
 ghost use Rattle.rkyv_index.specs.{ComparedAlike, FindsMatchedKeys, LookupsFindListed};
 ghost use Rattle.rkyv_index.specs.{PairsAtAreListed, PairsReadBackAreListed, QueriedAlike};
 ghost use Rattle.rkyv_index.specs.{ValueWritesKeepIndexMaps, ValueWritesKeepLookups};
@@ -177,7 +178,7 @@ pub fn walks_visit_in_order<
 
 /// States that the iterators yield the pairs, keys and values at their positions in turn.
 ///
-/// At most as many items remain as positions are left.
+/// At most as many items remain as positions are left, and `next` has no condition.
 pub fn items_are_yielded<'a, K: Element, V: Element>()
     ensures pairs { SameSteps ⟦<Iter<'a, K, V> as Iterator>⟧.next_gives (YieldsPair K.spec V.spec) }
     ensures keys { SameSteps ⟦<Keys<'a, K, V> as Iterator>⟧.next_gives (YieldsKey K.spec) }
@@ -186,6 +187,9 @@ pub fn items_are_yielded<'a, K: Element, V: Element>()
     ensures pairs_left { CountsPositions ⟦<Iter<'a, K, V> as Iterator>⟧.remaining }
     ensures keys_left { CountsPositions ⟦<Keys<'a, K, V> as Iterator>⟧.remaining }
     ensures values_left { CountsPositions ⟦<Values<'a, K, V> as Iterator>⟧.remaining }
+    ensures pairs_ready { (left : ItemsLeft) → ⟦<Iter<'a, K, V> as Iterator>⟧.can_next left }
+    ensures keys_ready { (left : ItemsLeft) → ⟦<Keys<'a, K, V> as Iterator>⟧.can_next left }
+    ensures values_ready { (left : ItemsLeft) → ⟦<Values<'a, K, V> as Iterator>⟧.can_next left }
 {}
 
 /// States that `for` over an index map, or over a reference to one, visits what `iter` visits.

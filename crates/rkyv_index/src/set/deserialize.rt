@@ -30,7 +30,7 @@ impl<'a, K: Element, H, W: Width> ArchivedIndexSet<'a, K, H, W> {
     ///
     /// # Errors
     ///
-    /// - `Memory`: memory for the list could not be allocated.
+    /// - `Memory`: memory for the list could not be allocated. An empty list needs none.
     /// - The first error of deserializing a key.
     ///
     /// # Examples

@@ -32,7 +32,7 @@ impl<'a, K: Element, V: Element, H, W: Width> ArchivedIndexMap<'a, K, V, H, W> {
     ///
     /// # Errors
     ///
-    /// - `Memory`: memory for the list could not be allocated.
+    /// - `Memory`: memory for the list could not be allocated. An empty list needs none.
     /// - The first error of deserializing a key or a value.
     ///
     /// # Examples
