@@ -1,6 +1,7 @@
 //! Laws of sets, over their definitions alone.
 //!
-//! They are about equality, walks, lookups and clones. `written` is about the bytes of written sets.
+//! They are about equality, walks, lookups and clones. `written` is about the bytes of written
+//! sets.
 
 ghost use Rattle.std.specs.Prelude.{◌↔◌, ◌≡◌};
 ghost use Rattle.rkyv_collections.specs.{ComparedAlike, MembersFoundAreListed, QueriedAlike};
