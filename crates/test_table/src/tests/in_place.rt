@@ -60,6 +60,7 @@ fn set_twice(bytes: &mut [u8; 48]) -> Result<([u8; 48], [u8; 48]), VerifyError> 
 fn each_item_is_set(rt: HostRuntime) {
     laws::in_place::items_written_represent::<u32, u32, Narrow>();
     laws::in_place::writes_keep_the_table::<u32, Narrow>();
+    laws::in_place::writes_keep_archives::<TableOf<u32>, Narrow>();
     let mut bytes = two_archived();
     let written = set_twice(&mut bytes).ok();
     let mut sevens = two_archived();

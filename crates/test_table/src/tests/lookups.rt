@@ -82,6 +82,7 @@ fn is_empty_copied<T: Element>(bytes: &[u8]) -> Option<bool> {
 
 #[test]
 fn a_pair_is_found_in_one_stride(rt: HostRuntime) {
+    laws::clones_are_the_same::<Entry<u32, u32>, Narrow>();
     let archive = one_number();
     let bytes: &[u8] = &archive;
     let empty = is_empty_copied::<Entry<u32, u32>>(bytes);
