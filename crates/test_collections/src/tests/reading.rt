@@ -14,8 +14,8 @@ use rkyv_base::text::Text;
 use rkyv_base::view::View;
 use rkyv_base::width::{Narrow, Wide};
 use rkyv_collections::map::laws::{
-    equal_maps_have_the_same_pairs, items_are_yielded, maps_are_compared, maps_are_laid_out,
-    matched_keys_are_found, repeated_keys_are_misplaced,
+    clones_are_the_same, equal_maps_have_the_same_pairs, items_are_yielded, maps_are_compared,
+    maps_are_laid_out, matched_keys_are_found, repeated_keys_are_misplaced,
 };
 use rkyv_collections::map::{ArchivedHashMap, HashMapOf};
 use rkyv_scan::hash::FxHasher64;
@@ -428,5 +428,6 @@ fn copied_len(bytes: &[u8]) -> Option<usize> {
 
 #[test]
 fn a_copy_of_a_map_is_read(rt: HostRuntime) {
+    clones_are_the_same::<i8, i8, FxHasher64, Narrow>();
     expect_eq!(rt; copied_len(&four_pairs()), Some(4));
 }

@@ -131,5 +131,6 @@ fn copied_len(bytes: &[u8]) -> Option<usize> {
 
 #[test]
 fn a_copy_of_a_set_is_read(rt: HostRuntime) {
+    laws::clones_are_the_same::<u8, FxHasher64, Narrow>();
     expect_eq!(rt; copied_len(&three_keys()), Some(3));
 }

@@ -3,9 +3,11 @@ use crate::tests::opened::small_map;
 use rkyv_base::access::access;
 use rkyv_base::element::Element;
 use rkyv_base::errors::VerifyError;
+use rkyv_base::width::Narrow;
 use rkyv_collections::map::read::iter::{Iter, Keys, Values};
-use rkyv_collections::map::{ArchivedHashMap, HashMapOf};
-use rkyv_collections::set::{ArchivedHashSet, HashSetOf};
+use rkyv_collections::map::{ArchivedHashMap, HashMapOf, laws as map_laws};
+use rkyv_collections::set::{ArchivedHashSet, HashSetOf, laws as set_laws};
+use rkyv_scan::hash::FxHasher64;
 use test_support::archives::{four_pairs, no_items, one_unit, three_keys};
 
 // Returns the positions of the next key and its value.
@@ -152,6 +154,8 @@ fn sums(map: &[u8], set: &[u8]) -> Result<[u8; 3], VerifyError> {
 
 #[test]
 fn maps_and_sets_are_walked_by_for(rt: HostRuntime) {
+    map_laws::walks_by_for_are_iterations::<u8, u8, FxHasher64, Narrow>();
+    set_laws::walks_by_for_are_iterations::<u8, FxHasher64, Narrow>();
     expect_eq!(rt; sums(&four_pairs(), &three_keys()).ok(), Some([36, 6, 6]));
 }
 
