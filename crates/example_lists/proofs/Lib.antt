@@ -1,2 +1,1 @@
 mod Options
-mod TextAt

@@ -14,7 +14,9 @@ use rkyv_collections::set::laws::members_found_are_listed;
 use rkyv_collections::set::{ArchivedHashSet, HashSetOf};
 use rkyv_collections::{FxHasher64, SetItems};
 use rkyv_index::lists::OrderedItems;
-use rkyv_index::set::laws::members_found_are_listed as indexed_members_found_are_listed;
+use rkyv_index::set::laws::{
+    items_at_are_listed, members_found_are_listed as indexed_members_found_are_listed,
+};
 use rkyv_index::set::{ArchivedIndexSet, IndexSetOf};
 
 /// A set of texts in a narrow archive.
@@ -72,6 +74,7 @@ pub fn name_at(set: &[u8], index: usize) -> Result<Option<&str>, VerifyError>
         ⟦<Names as Represents<OrderedItems<&'static str>>>⟧ set.now list
         → IsTextOk (slice_get list.0.items index) result }
 {
+    items_at_are_listed::<&str, Text, FxHasher64, Narrow>();
     let names = ArchivedIndexSet::of(access::<Names>(set)?);
     match names.get_index(index) {
         Some(name) => Ok(Some(name.as_str())),
