@@ -1,5 +1,5 @@
 -- Inspections of archives, and their errors.
-use Rattle.std.specs.Prelude.{◌≡◌, ℕ, ◌-◌, ◌⊎◌, ⊤, Err, List, MatchResult, Result, false, length}
+use Rattle.std.specs.Prelude.{◌≡◌, ℕ, ◌-◌, ◌⊎◌, Err, List, MatchResult, Result, false, length}
 use Rattle.std.specs.Prelude.{true}
 use Rattle.std.specs.Int.{Width}
 use Rattle.rkyv_base.specs.{AccessFails, ElementSpec, IsValidArchive}
@@ -26,11 +26,11 @@ IsSummaryOf HashSet m limit = IsMapSummary m limit
 IsSummaryOf IndexMap m limit = IsIndexSummary m limit
 IsSummaryOf IndexSet m limit = IsIndexSummary m limit
 
--- `error`: the first fault of the archive `b`, or that of an allocation
+-- `error`: the first fault of the archive `b`, or that of an allocation for a valid one
 abbrev pub IsFault : ℕ → ElementSpec → List ℕ → InspectError → Type 0
 IsFault most root b (Invalid fault) = AccessFails most root b fault
 IsFault most root b (Unsupported item) = ⊥
-IsFault most root b Memory = ⊤
+IsFault most root b Memory = IsValidArchive most root b
 
 -- an archive that is inspected. `word`: word of its width, `most`: greatest length,
 -- `contents`: its contents, `bytes`: its bytes, `limit`: limit of strides
