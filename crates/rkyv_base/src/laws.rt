@@ -54,8 +54,11 @@ pub fn scalars_are_numbers<W: Width, N: Scalar>()
 {}
 
 /// States the layout of text, and that `&str` and `String` are archived as their bytes.
+///
+/// Without a width, text is that of a narrow archive.
 pub fn texts_are_their_bytes<'t, W: Width>()
     ensures spec { SameSpec ⟦<Text<W> as HasSpec>⟧.spec (text_spec W.word) }
+    ensures default { SameSpec ⟦<Text as HasSpec>⟧.spec (text_spec w32) }
     ensures slices { SameValues ⟦<Text<W> as Represents<&'t str>>⟧.represents
         (IsTextOf W.word (λ t. t.now)) }
     ensures strings { SameValues ⟦<Text<W> as Represents<String>>⟧.represents
@@ -127,7 +130,7 @@ pub fn largest_element()
     ensures { LARGEST ≡ 1073741824 }
 {}
 
-/// States where the output of each writer begins, which bytes it has, and what its count counts.
+/// States the output of each writer: its first position, its bytes, and its count of failures.
 ///
 /// That of a `VecWriter` begins at position 0. A `LimitWriter` has the bytes of its inner writer,
 /// and a count of failures of its own.

@@ -32,7 +32,7 @@ equal_lists equal (x ∷ xs) (y ∷ ys) n h =
     and_from (equal x y) (pointwise equal xs ys) (h 0 x y refl refl)
     (equal_lists equal xs ys (omega (arith, n)) (λ i. h (suc i)))
 
--- a number that isn't 0 is above 0
-pub above_zero : (n : ℕ) → (n ≡ 0 → ⊥) → 0 < n
-above_zero zero not_zero = absurd (not_zero refl)
-above_zero (suc n) not_zero = omega arith
+-- a number that equals one that isn't 0 is above 0
+pub above_zero : (n m : ℕ) → n ≡ m → (n ≡ 0 → ⊥) → 0 < m
+above_zero n zero is not_zero = absurd (not_zero is)
+above_zero n (suc m) is not_zero = omega arith

@@ -1,9 +1,9 @@
 -- The pair at an index of an index map that represents a list, and the key at an index of an index set.
-use Rattle.std.proofs.Common.{◌≡◌, ◌∙◌, ◌≤◌, ℕ, List, None, Option, Some, ap, arith, inl, inr, length, sym}
+use Rattle.std.proofs.Common.{◌≡◌, ◌∙◌, ◌≤◌, ℕ, List, None, Option, Some, ap, arith, length, sym}
 use Rattle.std.specs.Option.{option_map}
 use Rattle.std.specs.Prelude.{MatchOption, slice_get}
 use Rattle.std.proofs.lemmas.List.{length-map}
-use Rattle.std.proofs.lemmas.Option.{slice_get-map, slice_get_cases}
+use Rattle.std.proofs.lemmas.Option.{slice_get-map, slice_get_past}
 use Rattle.rkyv_base.specs.{AtView, unit_represents, unit_spec}
 use Rattle.rkyv_base.specs.declared.element.HasSpec.{Ghosts as Specs}
 use Rattle.rkyv_base.specs.declared.view.View.{View}
@@ -11,6 +11,7 @@ use Rattle.rkyv_base.specs.declared.width.Word.{Ghosts as Words}
 use Rattle.rkyv_keys.specs.{NativePairs}
 use Rattle.rkyv_table.specs.{with_units}
 use Rattle.rkyv_table.proofs.Moved.{moved}
+use Rattle.rkyv_table.specs.Lemmas.SlotWalk.{item_below}
 use Rattle.rkyv_index.specs.{IndexRepresents, IsKeyOf, IsPairOf, IsValueOf, ItemsAtAreListed, PairsAtAreListed, index_bytes, index_len, index_pos, keys_of}
 use Rattle.rkyv_index.specs.declared.map.ArchivedIndexMap.{ArchivedIndexMap}
 
@@ -24,14 +25,10 @@ module _ {A B K V H W : Type 0} {ks : Specs K} {vs : Specs V} {wt : Words W} (m 
 
   pair_at_index : (found : Option (View K × View V)) → MatchOption found (index_len m ≤ index) (IsPairOf m index)
       → MatchOption found (slice_get pairs index ≡ None) (λ views. (pair : A × B) × (slice_get pairs index ≡ Some pair) × AtView key views.0 pair.0 × AtView value views.1 pair.1)
-  pair_at_index None past = elim ((slice_get_cases pairs index).1) [
-    | inl x ↦ absurd (omega (arith, past, x.1, represents.len))
-    | inr none ↦ none.1
-  ]
-  pair_at_index (Some views) is = elim ((slice_get_cases pairs index).1) [
-    | inl x ↦ (x.0, x.2, key_at_index views.0 x.0 is.0 x.2, value_at_index views.1 x.0 is.1 x.2)
-    | inr none ↦ absurd (omega (arith, is.0.below, none.0, represents.len))
-  ]
+  pair_at_index None past = slice_get_past pairs index (omega (arith, past, represents.len))
+  pair_at_index (Some views) is =
+      let x = item_below pairs index (omega (arith, is.0.below, represents.len)) in
+      (x.0, x.1, key_at_index views.0 x.0 is.0 x.1, value_at_index views.1 x.0 is.1 x.1)
 
 -- the keys of an index map to the unit value
 module _ {A K U H W : Type 0} {ks : Specs K} {us : Specs U} {wt : Words W} (m : ArchivedIndexMap K U H W ks us wt) (key : List ℕ → ℕ → A → Type 0) (hash : List ℕ → ℕ → ℕ) (factor : ℕ × ℕ) (items : List A)
@@ -47,14 +44,10 @@ module _ {A K U H W : Type 0} {ks : Specs K} {us : Specs U} {wt : Words W} (m : 
 
   item_at_index : (found : Option (View K)) → MatchOption found (index_len m ≤ index) (IsKeyOf m index)
       → MatchOption found (slice_get items index ≡ None) (λ view. (item : A) × (slice_get items index ≡ Some item) × AtView key view item)
-  item_at_index None past = elim ((slice_get_cases items index).1) [
-    | inl x ↦ absurd (omega (arith, past, x.1, item_len))
-    | inr none ↦ none.1
-  ]
-  item_at_index (Some view) is = elim ((slice_get_cases items index).1) [
-    | inl x ↦ (x.0, x.2, key_at_index m key unit_represents hash factor (with_units items) represents index view (x.0, tt) is (unit_at_index x.0 x.2))
-    | inr none ↦ absurd (omega (arith, is.below, none.0, item_len))
-  ]
+  item_at_index None past = slice_get_past items index (omega (arith, past, item_len))
+  item_at_index (Some view) is =
+      let x = item_below items index (omega (arith, is.below, item_len)) in
+      (x.0, x.1, key_at_index m key unit_represents hash factor (with_units items) represents index view (x.0, tt) is (unit_at_index x.0 x.1))
 
 pub pairs_at : {A B K V W : Type 0} (H : Type 0) (wt : Words W) (ks : Specs K) (vs : Specs V) (native : NativePairs A B) → PairsAtAreListed H wt ks vs native
 pairs_at H wt ks vs native = λ map header archive p factor pairs index found view at is.

@@ -3,6 +3,7 @@
 //! - This module has laws of equality, lookups, walks and clones.
 //! - `written` is about the bytes of written maps, and `list_archives` about root maps.
 //! - `in_place` is about writes of one value, and `nested` about maps that are values of maps.
+ghost use Rattle.std.specs.Int.{w32};
 ghost use Rattle.std.specs.Prelude.{◌↔◌, ◌≡◌};
 ghost use Rattle.rkyv_base.specs.{SameSpec, SameValues};
 ghost use Rattle.rkyv_keys.specs.{SameComparison, hash_at, native_pairs, query_of};
@@ -25,7 +26,7 @@ use rkyv_base::element::{Element, HasSpec, Represents};
 use rkyv_base::width::{Width, Word};
 use rkyv_keys::equality::{ElementEq, ElementEquiv};
 use rkyv_keys::keys::{FixedKey, KeyElement, Query};
-use rkyv_scan::hash::KeyHasher;
+use rkyv_scan::hash::{FxHasher64, KeyHasher};
 
 /// States that the iterators yield the pairs, keys and values at their positions in turn.
 ///
@@ -151,6 +152,8 @@ pub fn both_hashers_look_up_alike<Q: Query<K>, K: FixedKey, V: Element, W: Width
 {}
 
 /// States the layout of a map, and that it represents the pairs of a list in insertion order.
+///
+/// Without a hasher and a width, it is that of `FxHasher64` and of a narrow archive.
 pub fn maps_are_laid_out<'a, W, H, A, B, K, V>()
 where
     A: 'a,
@@ -164,5 +167,10 @@ where
     ensures list { SameValues
         ⟦<HashMapOf<K, V, H, W> as Represents<MapPairs<'a, A, B, H>>>⟧.represents
         (map_list W.word K.Represents V.Represents (hash_at H.hasher K.key_calls)
+        (λ x. x.load_factor) (λ x. x.pairs.now)) }
+    ensures default { SameValues
+        ⟦<HashMapOf<K, V> as Represents<MapPairs<'a, A, B>>>⟧.represents
+        (map_list w32 K.Represents V.Represents
+        (hash_at ⟦<FxHasher64 as KeyHasher>⟧.hasher K.key_calls)
         (λ x. x.load_factor) (λ x. x.pairs.now)) }
 {}

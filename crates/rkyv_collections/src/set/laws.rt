@@ -3,6 +3,7 @@
 //! They are about equality, walks, lookups and clones. `written` is about the bytes of written
 //! sets.
 
+ghost use Rattle.std.specs.Int.{w32};
 ghost use Rattle.std.specs.Prelude.{◌↔◌, ◌≡◌};
 ghost use Rattle.rkyv_collections.specs.{ComparedAlike, MembersFoundAreListed, QueriedAlike};
 ghost use Rattle.rkyv_collections.specs.{SetLookupsFindListed, SetWalksVisitEach, WalksAllKeys};
@@ -19,7 +20,7 @@ use rkyv_base::element::{Element, HasSpec, Represents};
 use rkyv_base::width::{Width, Word};
 use rkyv_keys::equality::ElementEq;
 use rkyv_keys::keys::{FixedKey, KeyElement, NativeQuery, Query};
-use rkyv_scan::hash::KeyHasher;
+use rkyv_scan::hash::{FxHasher64, KeyHasher};
 
 /// States that a `for` over a set, or over a reference to it, visits the keys of `iter`.
 ///
@@ -97,6 +98,8 @@ pub fn both_hashers_look_up_alike<Q: Query<K>, K: FixedKey, W: Width>()
 }
 
 /// States the layout of a set, and that it represents the keys of a list in insertion order.
+///
+/// Without a hasher and a width, it is that of `FxHasher64` and of a narrow archive.
 pub fn sets_are_laid_out<'a, W, H, A, K>()
 where
     A: 'a,
@@ -107,4 +110,7 @@ where
     ensures list { SameValues ⟦<HashSetOf<K, H, W> as Represents<SetItems<'a, A, H>>>⟧.represents
         (set_list W.word K.Represents (hash_at H.hasher K.key_calls) (λ x. x.load_factor)
         (λ x. x.items.now)) }
+    ensures default { SameValues ⟦<HashSetOf<K> as Represents<SetItems<'a, A>>>⟧.represents
+        (set_list w32 K.Represents (hash_at ⟦<FxHasher64 as KeyHasher>⟧.hasher K.key_calls)
+        (λ x. x.load_factor) (λ x. x.items.now)) }
 {}

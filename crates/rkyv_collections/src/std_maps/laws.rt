@@ -140,7 +140,7 @@ where
 
 /// States which archived maps and sets `eq_archived` of a map or set of std takes as equal.
 ///
-/// They are those whose `eq_std` returns `true` of the map or set of std.
+/// They are those whose `eq_std` returns `true` for the map or set of std.
 pub fn std_values_are_compared<'a, K, V, H, W: Width, A, B, T: BuildHasher>()
 where
     K: KeyElement + Represents<A>,

@@ -4,6 +4,7 @@
 //! deserialized lists and writes of one value in place.
 //! `written` is about the bytes of written index maps, `list_archives` about root index maps, and
 //! `nested` about writes in a map or index map that is a value.
+ghost use Rattle.std.specs.Int.{w32};
 ghost use Rattle.std.specs.Prelude.{◌↔◌, ◌≡◌};
 ghost use Rattle.rkyv_base.specs.{SameSpec, SameValues, entry_spec};
 ghost use Rattle.rkyv_keys.specs.{SameComparison, hash_at, hash_of, native_pairs, query_of};
@@ -85,7 +86,8 @@ pub fn both_hashers_look_up_alike<Q: Query<K>, K: FixedKey, V: Element, W: Width
 
 /// States the layout of an index map, and that it represents the pairs of a list in order.
 ///
-/// The layout is the same under every hasher. Lists are under `FxHasher64` alone.
+/// The layout is the same under every hasher. Lists are under `FxHasher64` alone. Without a hasher
+/// and a width, an index map is that of `FxHasher64` and of a narrow archive.
 pub fn index_maps_are_laid_out<W, H, A, B, K: KeyElement + Represents<A>, V: Represents<B>>()
 where
     W: Width,
@@ -94,6 +96,9 @@ where
     ensures list { SameValues
         ⟦<IndexMapOf<K, V, FxHasher64, W> as Represents<OrderedPairs<A, B>>>⟧.represents
         (ordered_pairs W.word K.Represents V.Represents K.key_calls (λ x. x.0.items)) }
+    ensures default { SameValues
+        ⟦<IndexMapOf<K, V> as Represents<OrderedPairs<A, B>>>⟧.represents
+        (ordered_pairs w32 K.Represents V.Represents K.key_calls (λ x. x.0.items)) }
 {}
 
 /// States that index maps that are values are compared by their pairs in order.
@@ -110,7 +115,7 @@ pub fn read_index_maps_are_compared<'a, K: ElementEquiv, V: ElementEquiv, H, W: 
         ≡ index_maps_equal K.same V.same m n }
 {}
 
-/// States that a clone is the same index map, and that cloning never fails.
+/// States that a clone of an index map is the same index map, and that cloning never fails.
 pub fn clones_are_the_same<'a, K: HasSpec, V: HasSpec, H, W: Word>()
     ensures same { (map clone : _)
         → ⟦<ArchivedIndexMap<'a, K, V, H, W> as Clone>⟧.is_clone map clone ↔ (clone ≡ map) }
@@ -192,9 +197,9 @@ pub fn items_are_yielded<'a, K: Element, V: Element>()
     ensures values_ready { (left : ItemsLeft) → ⟦<Values<'a, K, V> as Iterator>⟧.can_next left }
 {}
 
-/// States that `for` over an index map, or over a reference to one, visits what `iter` visits.
+/// States that a `for` over an index map, or over a reference to it, visits the pairs of `iter`.
 ///
-/// The iterator has the positions of all pairs of the index map, in order.
+/// They are all pairs of the index map, in order.
 pub fn walks_by_for_are_iterations<'a, 'b, K: Element, V: Element, H, W: Width>()
 where
     'a: 'b,

@@ -3,6 +3,7 @@
 //! They are about the layout, the formats of lists, lookups, keys at an index, iterations,
 //! comparisons, clones and deserialized lists.
 //! `written` is about the bytes of written index sets.
+ghost use Rattle.std.specs.Int.{w32};
 ghost use Rattle.std.specs.Prelude.{◌↔◌, ◌≡◌};
 ghost use Rattle.rkyv_keys.specs.{SameComparison, fx_key_format, hash_at, native_key_format};
 ghost use Rattle.rkyv_keys.specs.{native_keys};
@@ -86,13 +87,17 @@ pub fn both_hashers_look_up_alike<Q: Query<K>, K: FixedKey, W: Width>()
 
 /// States the layout of an index set, and that it represents the keys of a list in order.
 ///
-/// The layout is the same under every hasher. Lists are under `FxHasher64` alone.
+/// The layout is the same under every hasher. Lists are under `FxHasher64` alone. Without a hasher
+/// and a width, an index set is that of `FxHasher64` and of a narrow archive.
 pub fn index_sets_are_laid_out<W: Width, H, A, K: KeyElement + Represents<A>>()
     ensures spec { SameSpec ⟦<IndexSetOf<K, H, W> as HasSpec>⟧.spec
         (index_set_spec W.word K.spec) }
     ensures list { SameValues
         ⟦<IndexSetOf<K, FxHasher64, W> as Represents<OrderedItems<A>>>⟧.represents
         (ordered_items W.word K.Represents K.key_calls (λ x. x.0.items)) }
+    ensures default { SameValues
+        ⟦<IndexSetOf<K> as Represents<OrderedItems<A>>>⟧.represents
+        (ordered_items w32 K.Represents K.key_calls (λ x. x.0.items)) }
 {}
 
 /// States that index sets that are values are compared by their keys in order.
@@ -109,7 +114,7 @@ pub fn read_index_sets_are_compared<'a, K: ElementEquiv, H, W: Width>()
         ≡ index_sets_equal K.same s t }
 {}
 
-/// States that a clone is the same index set, and that cloning never fails.
+/// States that a clone of an index set is the same index set, and that cloning never fails.
 pub fn clones_are_the_same<'a, K: HasSpec, H, W: Word>()
     ensures same { (set clone : _)
         → ⟦<ArchivedIndexSet<'a, K, H, W> as Clone>⟧.is_clone set clone ↔ (clone ≡ set) }
@@ -117,9 +122,9 @@ pub fn clones_are_the_same<'a, K: HasSpec, H, W: Word>()
         → ⟦<ArchivedIndexSet<'a, K, H, W> as Clone>⟧.is_infallible set }
 {}
 
-/// States that `for` over an index set, or over a reference to one, visits what `iter` visits.
+/// States that a `for` over an index set, or over a reference to it, visits the keys of `iter`.
 ///
-/// The iterator has the positions of all keys of the index set, in order.
+/// They are all keys of the index set, in order.
 pub fn walks_by_for_are_iterations<'a, 'b, K: Element, H, W: Width>()
 where
     'a: 'b,
