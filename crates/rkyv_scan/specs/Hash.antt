@@ -113,10 +113,10 @@ hash_words state words = fold hash_word state words
 abbrev pub fx_feed : SizeWords → ℕ → HasherCall → ℕ
 fx_feed sizes state call = hash_words state (call_words sizes call)
 
--- the `FxHasher` of the rule `sizes`. Its state is at first 0, and is its own hash
+-- the hasher of the rule `sizes`. Its state is at first 0, and is its own hash
 abbrev pub fx_hasher : SizeWords → Hasher ℕ
 fx_hasher sizes = record { initial = 0; feed = fx_feed sizes; finish = λ state. state }
 
--- the hash of a list of calls by the `FxHasher` of the rule `sizes`
+-- the hash of a list of calls by the hasher of the rule `sizes`
 abbrev pub fx_hash : SizeWords → List HasherCall → ℕ
 fx_hash sizes calls = hash_of_calls (fx_hasher sizes) calls

@@ -9,12 +9,12 @@
 ghost use Rattle.std.specs.Prelude.{◌≡◌, ℕ, ◌+◌, ◌≤◌, ◌%◌, ◌^◌, length};
 ghost use Rattle.std.specs.Int.{w16, w32, w64};
 ghost use Rattle.rkyv_scan.specs.{Bytes, Hasher, I128, I16, I32, I64, I8, Isize, NumbersFit};
-ghost use Rattle.rkyv_scan.specs.{SizeWords, U128, U16, U32, U64, U8, Usize, all_bits, byte_words};
+ghost use Rattle.rkyv_scan.specs.{U128, U16, U32, U64, U8, Usize, all_bits, byte_words};
 ghost use Rattle.rkyv_scan.specs.{four_bytes, fx_hasher, hash_word, hash_words, last_byte};
 ghost use Rattle.rkyv_scan.specs.{low_halves, number_from, rest_words, two_bytes};
 ghost use Rattle.rkyv_scan.specs.Lemmas.Numbers.{fx_fits};
 
-use std::marker::{Model, PhantomData};
+use std::marker::Model;
 use std::simd::prelude::*;
 
 /// A state machine that is fed calls and returns a hash.
@@ -100,59 +100,6 @@ pub trait KeyHasher: Default + Drop {
 
     // The hash of any list of calls of a new hasher is below 2^64.
     ghost fits: { NumbersFit hasher };
-}
-
-/// The rule by which an `FxHasher` turns a `usize` or an `isize` into one word.
-pub trait SizeRule: Drop {
-    // The words that it returns.
-    ghost words: { SizeWords };
-
-    /// Returns the word of a `usize`.
-    fn usize_word(number: usize) -> u64
-        ensures { result ≡ words.usize_word number };
-
-    /// Returns the word of an `isize`.
-    fn isize_word(number: isize) -> u64
-        ensures { result ≡ words.isize_word number };
-}
-
-/// The rule that takes the low 32 bits alone, as a 32-bit machine has them.
-///
-/// It sign-extends those of an `isize` to 64 bits.
-#[derive(Drop)]
-pub struct LowHalves;
-
-impl SizeRule for LowHalves {
-    ghost words = { low_halves };
-
-    #[inline]
-    fn usize_word(number: usize) -> u64 {
-        (number & 0xffff_ffff) as u64
-    }
-
-    #[inline]
-    fn isize_word(number: isize) -> u64 {
-        let low = (number.cast_unsigned() & 0xffff_ffff) as u32;
-        i64::from(low.cast_signed()).cast_unsigned()
-    }
-}
-
-/// The rule that takes all 64 bits.
-#[derive(Drop)]
-pub struct AllBits;
-
-impl SizeRule for AllBits {
-    ghost words = { all_bits };
-
-    #[inline]
-    fn usize_word(number: usize) -> u64 {
-        number as u64
-    }
-
-    #[inline]
-    fn isize_word(number: isize) -> u64 {
-        number.cast_unsigned() as u64
-    }
 }
 
 #[inline]
@@ -247,17 +194,10 @@ fn hash_bytes(state: u64, bytes: &[u8]) -> u64
     hash_rest(state, bytes)
 }
 
-/// A hasher whose state is one word, at first 0, which is also its hash.
-///
-/// Each word fed is mixed into the state by a rotation, an xor and a product.
-/// The rule `S` chooses the words of a `usize` and an `isize`.
-#[derive(Drop)]
-pub struct FxHasher<S> {
-    state: u64,
-    rule: PhantomData<S>,
-}
-
 /// The hasher of archived maps. On every machine it takes the low 32 bits of a `usize` or `isize`.
+///
+/// Its state is one word, at first 0, which is also its hash. Each word fed is mixed into the
+/// state by a rotation, an xor and a product.
 ///
 /// It takes no secret key, so whoever chooses the keys can let them share a hash. A lookup among
 /// such keys may read the whole table, and writing them takes quadratic time.
@@ -269,43 +209,32 @@ pub struct FxHasher<S> {
 /// hasher.write_u8(1);
 /// assert_eq!(rt; hasher.finish(), 0x517c_c1b7_2722_0a95);
 /// ```
-pub type FxHasher64 = FxHasher<LowHalves>;
+#[derive(Drop)]
+pub struct FxHasher64 {
+    state: u64,
+}
 
-/// The variant of `FxHasher64` that feeds a `usize` or an `isize` as one word of all its 64 bits.
-///
-/// # Examples
-///
-/// ```rust
-/// let mut hasher = FxHasher64Wide::default();
-/// hasher.write_usize(4_294_967_297);
-/// assert_eq!(rt; hasher.finish(), 0x789e_cc4c_2722_0a95);
-/// ```
-pub type FxHasher64Wide = FxHasher<AllBits>;
-
-impl<S> Model for FxHasher<S> {
+impl Model for FxHasher64 {
     ghost Value = { ℕ };
 
     ghost view = { λ s. s.state };
 }
 
-impl<S> Default for FxHasher<S> {
+impl Default for FxHasher64 {
     ghost is_default = { λ s. s ≡ 0 };
 
     #[inline]
     fn default() -> Self {
-        FxHasher {
-            state: 0,
-            rule: PhantomData,
-        }
+        FxHasher64 { state: 0 }
     }
 }
 
-impl<S: SizeRule> KeyHasher for FxHasher<S> {
-    ghost hasher = { fx_hasher S.words };
+impl KeyHasher for FxHasher64 {
+    ghost hasher = { fx_hasher low_halves };
 
     ghost starts = { λ s h. h };
 
-    ghost fits = { fx_fits S.words };
+    ghost fits = { fx_fits low_halves };
 
     #[inline]
     fn write(&mut self, bytes: &[u8]) {
@@ -341,7 +270,7 @@ impl<S: SizeRule> KeyHasher for FxHasher<S> {
 
     #[inline]
     fn write_usize(&mut self, number: usize) {
-        self.state = hash_word(self.state, S::usize_word(number));
+        self.write_u64((number & 0xffff_ffff) as u64);
     }
 
     #[inline]
@@ -371,11 +300,121 @@ impl<S: SizeRule> KeyHasher for FxHasher<S> {
 
     #[inline]
     fn write_isize(&mut self, number: isize) {
-        self.state = hash_word(self.state, S::isize_word(number));
+        let low = (number.cast_unsigned() & 0xffff_ffff) as u32;
+        self.write_i64(i64::from(low.cast_signed()));
     }
 
     #[inline]
     fn finish(&self) -> u64 {
         self.state
+    }
+}
+
+/// The variant of `FxHasher64` that feeds a `usize` or an `isize` as one word of all its 64 bits.
+///
+/// # Examples
+///
+/// ```rust
+/// let mut hasher = FxHasher64Wide::default();
+/// hasher.write_usize(4_294_967_297);
+/// assert_eq!(rt; hasher.finish(), 0x789e_cc4c_2722_0a95);
+/// ```
+#[derive(Drop)]
+pub struct FxHasher64Wide {
+    inner: FxHasher64,
+}
+
+impl Model for FxHasher64Wide {
+    ghost Value = { ℕ };
+
+    ghost view = { λ s. s.inner };
+}
+
+impl Default for FxHasher64Wide {
+    ghost is_default = { λ s. s ≡ 0 };
+
+    #[inline]
+    fn default() -> Self {
+        FxHasher64Wide {
+            inner: FxHasher64::default(),
+        }
+    }
+}
+
+impl KeyHasher for FxHasher64Wide {
+    ghost hasher = { fx_hasher all_bits };
+
+    ghost starts = { λ s h. h };
+
+    ghost fits = { fx_fits all_bits };
+
+    #[inline]
+    fn write(&mut self, bytes: &[u8]) {
+        self.inner.write(bytes);
+    }
+
+    #[inline]
+    fn write_u8(&mut self, number: u8) {
+        self.inner.write_u8(number);
+    }
+
+    #[inline]
+    fn write_u16(&mut self, number: u16) {
+        self.inner.write_u16(number);
+    }
+
+    #[inline]
+    fn write_u32(&mut self, number: u32) {
+        self.inner.write_u32(number);
+    }
+
+    #[inline]
+    fn write_u64(&mut self, number: u64) {
+        self.inner.write_u64(number);
+    }
+
+    #[inline]
+    fn write_u128(&mut self, number: u128) {
+        self.inner.write_u128(number);
+    }
+
+    #[inline]
+    fn write_usize(&mut self, number: usize) {
+        self.inner.write_u64(number as u64);
+    }
+
+    #[inline]
+    fn write_i8(&mut self, number: i8) {
+        self.inner.write_i8(number);
+    }
+
+    #[inline]
+    fn write_i16(&mut self, number: i16) {
+        self.inner.write_i16(number);
+    }
+
+    #[inline]
+    fn write_i32(&mut self, number: i32) {
+        self.inner.write_i32(number);
+    }
+
+    #[inline]
+    fn write_i64(&mut self, number: i64) {
+        self.inner.write_i64(number);
+    }
+
+    #[inline]
+    fn write_i128(&mut self, number: i128) {
+        self.inner.write_i128(number);
+    }
+
+    #[inline]
+    fn write_isize(&mut self, number: isize) {
+        self.inner.write_u64(number.cast_unsigned() as u64);
+    }
+
+    #[inline]
+    fn finish(&self) -> u64 {
+        self.inner.finish()
     }
 }

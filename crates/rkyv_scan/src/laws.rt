@@ -8,7 +8,7 @@ ghost use Rattle.rkyv_scan.specs.{FixedCallsHashAlike, HasherCall, WritesJoin, a
 ghost use Rattle.rkyv_scan.specs.{bytewise_kind, generic_kind, lanes_kind, paired_kind};
 ghost use Rattle.rkyv_scan.specs.{hash_of_calls, indices_where, is_word_match_at, low_halves};
 
-use crate::hash::{FxHasher, FxHasher64, FxHasher64Wide, KeyHasher, SizeRule};
+use crate::hash::{FxHasher64, FxHasher64Wide, KeyHasher};
 use crate::simd::{GroupKind, MAX_GROUP_WIDTH, Marks, bytewise, generic, lanes, paired};
 use crate::{Bitmask, Group};
 
@@ -50,13 +50,10 @@ pub fn empty_masks() -> (bytewise::Bitmask, generic::Bitmask, lanes::Bitmask)
     )
 }
 
-/// States that the hash of an `FxHasher` is `fx_hash` of its rule for `usize` and `isize`.
+/// States that the hash of each hasher is `fx_hash` of its rule for `usize` and `isize`.
 ///
 /// The rule of `FxHasher64` is `low_halves`, and that of `FxHasher64Wide` is `all_bits`.
-pub fn fx_hashers<S: SizeRule>()
-    ensures rule { (calls : List HasherCall)
-        → hash_of_calls ⟦<FxHasher<S> as KeyHasher>⟧.hasher calls
-        ≡ fx_hash S.words calls }
+pub fn fx_hashers()
     ensures narrow { (calls : List HasherCall)
         → hash_of_calls ⟦<FxHasher64 as KeyHasher>⟧.hasher calls
         ≡ fx_hash low_halves calls }

@@ -17,4 +17,3 @@ macro_rules! expect_eq {
 
 mod groups;
 mod hashing;
-mod rules;

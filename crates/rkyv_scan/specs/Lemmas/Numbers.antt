@@ -1,4 +1,4 @@
--- The hash of an `FxHasher` fits in 64 bits.
+-- The hash of a list of calls fits in 64 bits.
 use Rattle.std.proofs.Common.{ℕ, ◌^◌, ◌<◌, List, [], ◌∷◌, arith}
 use Rattle.std.specs.List.{fold}
 use Rattle.rkyv_scan.specs.{HasherCall, NumbersFit, SizeWords, call_words, fx_feed, fx_hasher}

@@ -2,7 +2,7 @@
 ghost use Rattle.std.specs.Prelude.{◌≡◌, [], ◌∷◌};
 ghost use Rattle.rkyv_scan.specs.{Isize, Usize, hash_of_calls};
 
-use rkyv_scan::hash::{FxHasher64, FxHasher64Wide, KeyHasher, LowHalves};
+use rkyv_scan::hash::{FxHasher64, FxHasher64Wide, KeyHasher};
 use rkyv_scan::laws;
 
 const SEED: u64 = 0x517c_c1b7_2722_0a95;
@@ -124,7 +124,7 @@ fn fed_bits<H: KeyHasher>() -> ([u64; 5], u64) {
 #[test]
 fn words_are_fed(rt: HostRuntime) {
     laws::calls_hash_their_words();
-    laws::fx_hashers::<LowHalves>();
+    laws::fx_hashers();
     laws::fixed_calls_agree();
     laws::fixed_calls_hash_alike();
     expect_eq!(rt;
