@@ -168,9 +168,9 @@ where
         ⟦<HashMapOf<K, V, H, W> as Represents<MapPairs<'a, A, B, H>>>⟧.represents
         (map_list W.word K.Represents V.Represents (hash_at H.hasher K.key_calls)
         (λ x. x.load_factor) (λ x. x.pairs.now)) }
-    ensures default { SameValues
+    ensures default_width { SameSpec ⟦<HashMapOf<K, V, H> as HasSpec>⟧.spec
+        (map_spec w32 K.spec V.spec) }
+    ensures default_hasher { SameValues
         ⟦<HashMapOf<K, V> as Represents<MapPairs<'a, A, B>>>⟧.represents
-        (map_list w32 K.Represents V.Represents
-        (hash_at ⟦<FxHasher64 as KeyHasher>⟧.hasher K.key_calls)
-        (λ x. x.load_factor) (λ x. x.pairs.now)) }
+        ⟦<HashMapOf<K, V, FxHasher64> as Represents<MapPairs<'a, A, B, FxHasher64>>>⟧.represents }
 {}

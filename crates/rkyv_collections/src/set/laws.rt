@@ -110,7 +110,8 @@ where
     ensures list { SameValues ⟦<HashSetOf<K, H, W> as Represents<SetItems<'a, A, H>>>⟧.represents
         (set_list W.word K.Represents (hash_at H.hasher K.key_calls) (λ x. x.load_factor)
         (λ x. x.items.now)) }
-    ensures default { SameValues ⟦<HashSetOf<K> as Represents<SetItems<'a, A>>>⟧.represents
-        (set_list w32 K.Represents (hash_at ⟦<FxHasher64 as KeyHasher>⟧.hasher K.key_calls)
-        (λ x. x.load_factor) (λ x. x.items.now)) }
+    ensures default_width { SameSpec ⟦<HashSetOf<K, H> as HasSpec>⟧.spec (set_spec w32 K.spec) }
+    ensures default_hasher { SameValues
+        ⟦<HashSetOf<K> as Represents<SetItems<'a, A>>>⟧.represents
+        ⟦<HashSetOf<K, FxHasher64> as Represents<SetItems<'a, A, FxHasher64>>>⟧.represents }
 {}
