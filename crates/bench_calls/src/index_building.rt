@@ -13,7 +13,6 @@ ghost use Rattle.rkyv_index.specs.Lemmas.IndexSound.{index_sound};
 use crate::building::Pairs;
 use rkyv_base::archive::{Archive, ResolveResult, Serialize, WriteResult};
 use rkyv_base::element::Represents;
-use rkyv_base::width::Width;
 use rkyv_base::writer::Writer;
 use rkyv_index::width::IndexMapWidth;
 use rkyv_index::{ArchivedIndexMap, IndexMapOf, IndexMapResolver};
@@ -25,9 +24,15 @@ use std::alloc::Global;
 #[derive(Drop)]
 pub(crate) struct IndexPairs<'a, A, B, H>(pub(crate) Pairs<'a, A, B, H>);
 
-impl<'a, W: Width, H: KeyHasher, A, B, K: KeyElement + Represents<A>, V: Represents<B>> Represents<
-    IndexPairs<'a, A, B, H>,
-> for IndexMapOf<K, V, H, W> {
+impl<
+    'a,
+    W: IndexMapWidth,
+    H: KeyHasher,
+    A,
+    B,
+    K: KeyElement + Represents<A>,
+    V: Represents<B>,
+> Represents<IndexPairs<'a, A, B, H>> for IndexMapOf<K, V, H, W> {
     ghost represents = { RepresentsAs (λ x. zip x.0.keys.now x.0.values.now)
         (IndexRepresents W.word K.spec V.spec K.represents V.represents
         (hash_at H.hasher K.key_calls) (7, 8)) };
@@ -47,7 +52,7 @@ where
     type Resolver = IndexMapResolver<W>;
 
     ghost format = { written_as (λ x. zip x.0.keys.now x.0.values.now) (listed W.MAX_CAPACITY (7, 8)
-        (index_format W.word W.Place.spec W.Place.encoding A.Archived.spec B.Archived.spec
+        (index_format W.word W.Index.spec W.Index.encoding A.Archived.spec B.Archived.spec
         A.format B.format (hash_of H.hasher A.calls) (7, 8))) };
 
     fn resolve(&self, resolver: IndexMapResolver<W>, pos: u64, out: &mut [u8]) -> ResolveResult {
@@ -57,14 +62,14 @@ where
     ghost laws = { let represents = IndexRepresents W.word A.Archived.spec B.Archived.spec
         A.Archived.represents B.Archived.represents
         (hash_at H.hasher A.Archived.key_calls) (7, 8) in
-        let format = index_format W.word W.Place.spec W.Place.encoding A.Archived.spec
+        let format = index_format W.word W.Index.spec W.Index.encoding A.Archived.spec
         B.Archived.spec A.format B.format (hash_of H.hasher A.calls) (7, 8) in
         let spec = index_spec W.word (entry_spec A.Archived.spec B.Archived.spec) in
         written_as-format (λ x. zip x.0.keys.now x.0.values.now) spec represents
         (listed W.MAX_CAPACITY (7, 8) format)
         (listed-format W.MAX_CAPACITY (7, 8) spec represents format
-        (index_sound H.hasher W.word W.layout.kind W.Place.spec W.Place.encoding
-        W.Place.HasSpec.laws W.Place.Scalar.laws W.index W.reads_back A.Archived.laws
+        (index_sound H.hasher W.word W.layout.kind W.Index.spec W.Index.encoding
+        W.Index.HasSpec.laws W.Index.Scalar.laws W.index W.reads_back A.Archived.laws
         B.Archived.laws (7, 8) A.query A.native A.Eq.laws.refl A.reads A.Archive.laws B.laws)) };
 }
 

@@ -10,18 +10,21 @@ use crate::index::{index_header_of, index_of};
 use crate::status::{DONE, NOT_FOUND, VALUE_TOO_LARGE};
 use crate::value::Value;
 use rkyv_base::element::Represents;
-use rkyv_base::width::Width;
 use rkyv_index::IndexMapOf;
 use rkyv_index::map::in_place::set_value_at;
 use rkyv_index::map::laws::lookups_find_listed;
+use rkyv_index::width::IndexMapWidth;
 use rkyv_keys::keys::{KeyElement, NativeKey};
 use rkyv_scan::hash::FxHasher64;
 
 /// Returns the index that a lookup of the key finds in a valid archive.
-fn index_found_in<A: NativeKey<K>, B, K: KeyElement + Represents<A>, V: Represents<B>, W: Width>(
-    archive: &[u8],
-    key: &A,
-) -> Option<usize>
+fn index_found_in<
+    A: NativeKey<K>,
+    B,
+    K: KeyElement + Represents<A>,
+    V: Represents<B>,
+    W: IndexMapWidth,
+>(archive: &[u8], key: &A) -> Option<usize>
     requires archive { IsIndexArchive W.word W.LIMIT K.spec V.spec archive.now }
     requires query { A.can_read key.now }
     ensures found { result ≡ found_index (index_in W.word K.spec V.spec archive.now)
@@ -44,11 +47,12 @@ fn index_found_in<A: NativeKey<K>, B, K: KeyElement + Represents<A>, V: Represen
 /// - `NOT_FOUND`: the lookup doesn't find the key.
 ///
 /// After an error no byte is changed.
-pub(crate) fn set_indexed_in<A: NativeKey<K>, K: KeyElement + Represents<A>, V: Value, W: Width>(
-    archive: &mut [u8],
-    key: &A,
-    value: u64,
-) -> u32
+pub(crate) fn set_indexed_in<
+    A: NativeKey<K>,
+    K: KeyElement + Represents<A>,
+    V: Value,
+    W: IndexMapWidth,
+>(archive: &mut [u8], key: &A, value: u64) -> u32
     requires archive { IsIndexArchive W.word W.LIMIT K.spec V.spec archive.old }
     requires query { A.can_read key.now }
     ensures kept { IsIndexArchive W.word W.LIMIT K.spec V.spec archive.new }

@@ -23,7 +23,7 @@ fn numbers_in<K: NumberKey, V: Value, W: IndexMapWidth, P: PairOf<K, u64>>(
     alloc: Global,
     items: &[P],
 ) -> Result<Vec<u8>, u32>
-    ensures { let w = index_width W.Width W.Place.spec W.Place.encoding in
+    ensures { let w = index_width W.Width W.Index.spec W.Index.encoding in
         WritesNumberIndex K.NumberKey w V.spec V.encoding (map P.pair_of items.now) result }
 {
     let pairs = number_items::pairs_of::<K, V, P>(alloc, items)?;
@@ -76,7 +76,7 @@ fn texts_in<'a, V: Value, W: IndexMapWidth, P: PairOf<&'a [u8], u64>>(
     alloc: Global,
     items: &[P],
 ) -> Result<Vec<u8>, u32>
-    ensures { let w = index_width W.Width W.Place.spec W.Place.encoding in
+    ensures { let w = index_width W.Width W.Index.spec W.Index.encoding in
         WritesTextIndex w V.spec V.encoding (map P.pair_of items.now) result }
 {
     let pairs = text_items::pairs_of::<V, P>(alloc, items)?;

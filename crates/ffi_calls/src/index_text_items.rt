@@ -22,7 +22,7 @@ fn number_texts_in<'a, K: NumberKey, W: IndexMapWidth, P: PairOf<K, &'a [u8]>>(
     alloc: Global,
     items: &[P],
 ) -> Result<Vec<u8>, u32>
-    ensures { let w = index_width W.Width W.Place.spec W.Place.encoding in
+    ensures { let w = index_width W.Width W.Index.spec W.Index.encoding in
         WritesNumberTextIndex K.NumberKey w (map P.pair_of items.now) result }
 {
     let pairs = numbers_to_texts_items::pairs_of::<K, P>(alloc, items)?;
@@ -74,7 +74,7 @@ fn text_texts_in<'a, W: IndexMapWidth, P: PairOf<&'a [u8], &'a [u8]>>(
     alloc: Global,
     items: &[P],
 ) -> Result<Vec<u8>, u32>
-    ensures { let w = index_width W.Width W.Place.spec W.Place.encoding in
+    ensures { let w = index_width W.Width W.Index.spec W.Index.encoding in
         MatchResult result (λ v. TextTextIndexWriteOk w (map P.pair_of items.now) v.items)
         (TextTextIndexWriteFails w (map P.pair_of items.now)) }
 {

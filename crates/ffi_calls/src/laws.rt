@@ -50,7 +50,7 @@ where
     B: Archive<W, Archived = V>,
     K: KeyElement + Represents<A>,
     V: Represents<B>,
-    ensures { IndexesRepresent (index_width W.Width W.Place.spec W.Place.encoding)
+    ensures { IndexesRepresent (index_width W.Width W.Index.spec W.Index.encoding)
         (fx_format K.spec V.spec A.format B.format A.calls)
         (fx_pairs K.represents V.represents K.key_calls) }
 {}

@@ -7,8 +7,7 @@ ghost use Rattle.std.specs.Prelude.{FitsSigned, MatchOption, length, pos, ℕ, �
 ghost use Rattle.std.specs.Prelude.{◌-◌, ◌<◌, ◌^◌, ◌≡◌, ◌≤◌};
 ghost use Rattle.std.specs.Int.{Width as IntWidth, byte_len, cast_unsigned, to_le_bytes, w32, w64};
 ghost use mir.Val.{bits};
-ghost use Rattle.rkyv_base.specs.{IsArchiveWord, IsIndexEncoding, IsLayout, narrow_limit};
-ghost use Rattle.rkyv_base.specs.{number_at, signed_at};
+ghost use Rattle.rkyv_base.specs.{IsArchiveWord, IsLayout, narrow_limit, number_at, signed_at};
 ghost use Rattle.rkyv_base.specs.Lemmas.Layout.{narrow_layout};
 ghost use Rattle.rkyv_base.specs.Lemmas.Layout.{wide_layout};
 ghost use Rattle.std.proofs.Common.{inl, inr, refl};
@@ -25,8 +24,8 @@ pub trait Word {
 
 /// The width of the positions and counts of an archive, and the sizes that depend on it.
 pub trait Width: Word {
-    /// The element of an index in an index map: a number of one word.
-    type Place: Scalar;
+    /// The number that stores an index in an index map: `u32` or `u64`.
+    type Place;
 
     /// The greatest position, and the greatest length of an archive, in bytes.
     const LIMIT: u64;
@@ -110,8 +109,6 @@ pub trait Width: Word {
 
     ghost layout: { IsLayout Self.word LIMIT MAX_CAPACITY TABLE_SIZE INDEX_SIZE ALIGN TEXT_SIZE
         TEXT_LIMIT };
-
-    ghost index: { IsIndexEncoding Self.word Self.Place.encoding };
 }
 
 /// The width of archives of up to 4,294,967,295 bytes. Positions and counts have 32 bits.
@@ -189,8 +186,6 @@ impl Width for Narrow {
     }
 
     ghost layout = { narrow_layout };
-
-    ghost index = { record { word = refl; any = λ n. tt } };
 }
 
 impl Width for Wide {
@@ -245,6 +240,4 @@ impl Width for Wide {
     }
 
     ghost layout = { wide_layout };
-
-    ghost index = { record { word = refl; any = λ n. tt } };
 }

@@ -21,7 +21,6 @@ use crate::set::{ArchivedIndexSet, IndexSetOf};
 use crate::width::IndexMapWidth;
 use rkyv_base::archive::{Archive, ResolveResult, Serialize, WriteResult};
 use rkyv_base::element::Represents;
-use rkyv_base::width::Width;
 use rkyv_base::writer::Writer;
 use rkyv_keys::keys::{KeyElement, NativeKey};
 use rkyv_scan::hash::FxHasher64;
@@ -45,8 +44,9 @@ use std::alloc::Global;
 #[derive(Drop)]
 pub struct OrderedPairs<K, V>(pub Vec<(K, V)>);
 
-impl<W: Width, A, B, K: KeyElement + Represents<A>, V: Represents<B>> Represents<OrderedPairs<A, B>>
-    for IndexMapOf<K, V, FxHasher64, W> {
+impl<W: IndexMapWidth, A, B, K: KeyElement + Represents<A>, V: Represents<B>> Represents<
+    OrderedPairs<A, B>,
+> for IndexMapOf<K, V, FxHasher64, W> {
     ghost represents = { RepresentsAs (λ x. x.0.items)
         (IndexRepresents W.word K.spec V.spec K.represents V.represents
         (hash_at (fx_hasher low_halves) K.key_calls) (7, 8)) };
@@ -67,7 +67,7 @@ where
     type Resolver = IndexMapResolver<W>;
 
     ghost format = { written_as (λ x. x.0.items) (listed W.MAX_CAPACITY (7, 8)
-        (index_format W.word W.Place.spec W.Place.encoding A.Archived.spec B.Archived.spec
+        (index_format W.word W.Index.spec W.Index.encoding A.Archived.spec B.Archived.spec
         A.format B.format
         (hash_of (fx_hasher low_halves) A.calls) (7, 8))) };
 
@@ -78,15 +78,15 @@ where
     ghost laws = { let represents = IndexRepresents W.word A.Archived.spec B.Archived.spec
         A.Archived.represents B.Archived.represents
         (hash_at (fx_hasher low_halves) A.Archived.key_calls) (7, 8) in
-        let format = index_format W.word W.Place.spec W.Place.encoding A.Archived.spec
+        let format = index_format W.word W.Index.spec W.Index.encoding A.Archived.spec
         B.Archived.spec A.format
         B.format
         (hash_of (fx_hasher low_halves) A.calls) (7, 8) in
         let spec = index_spec W.word (entry_spec A.Archived.spec B.Archived.spec) in
         written_as-format (λ x. x.0.items) spec represents (listed W.MAX_CAPACITY (7, 8) format)
         (listed-format W.MAX_CAPACITY (7, 8) spec represents format
-        (index_sound (fx_hasher low_halves) W.word W.layout.kind W.Place.spec W.Place.encoding
-        W.Place.HasSpec.laws W.Place.Scalar.laws W.index W.reads_back
+        (index_sound (fx_hasher low_halves) W.word W.layout.kind W.Index.spec W.Index.encoding
+        W.Index.HasSpec.laws W.Index.Scalar.laws W.index W.reads_back
         A.Archived.laws B.Archived.laws (7, 8) A.query A.native A.Eq.laws.refl A.reads
         A.Archive.laws B.laws)) };
 }
@@ -126,7 +126,7 @@ where
 #[derive(Drop)]
 pub struct OrderedItems<K>(pub Vec<K>);
 
-impl<W: Width, A, K: KeyElement + Represents<A>> Represents<OrderedItems<A>>
+impl<W: IndexMapWidth, A, K: KeyElement + Represents<A>> Represents<OrderedItems<A>>
     for IndexSetOf<K, FxHasher64, W> {
     ghost represents = { RepresentsAs (λ x. x.0.items)
         (IndexSetRepresents W.word K.spec K.represents
@@ -147,7 +147,7 @@ where
     type Resolver = IndexSetResolver<W>;
 
     ghost format = { written_as (λ x. x.0.items) (listed W.MAX_CAPACITY (7, 8)
-        (index_set_format W.word W.Place.spec W.Place.encoding A.Archived.spec A.format
+        (index_set_format W.word W.Index.spec W.Index.encoding A.Archived.spec A.format
         (hash_of (fx_hasher low_halves) A.calls) (7, 8))) };
 
     fn resolve(&self, resolver: IndexSetResolver<W>, pos: u64, out: &mut [u8]) -> ResolveResult {
@@ -156,14 +156,14 @@ where
 
     ghost laws = { let represents = IndexSetRepresents W.word A.Archived.spec A.Archived.represents
         (hash_at (fx_hasher low_halves) A.Archived.key_calls) (7, 8) in
-        let format = index_set_format W.word W.Place.spec W.Place.encoding A.Archived.spec
+        let format = index_set_format W.word W.Index.spec W.Index.encoding A.Archived.spec
         A.format
         (hash_of (fx_hasher low_halves) A.calls) (7, 8) in
         let spec = index_set_spec W.word A.Archived.spec in
         written_as-format (λ x. x.0.items) spec represents (listed W.MAX_CAPACITY (7, 8) format)
         (listed-format W.MAX_CAPACITY (7, 8) spec represents format
         (index_set_sound (fx_hasher low_halves) W.word W.layout.kind A.Archived.laws
-        (7, 8) W.Place.spec W.Place.encoding W.Place.HasSpec.laws W.Place.Scalar.laws W.index
+        (7, 8) W.Index.spec W.Index.encoding W.Index.HasSpec.laws W.Index.Scalar.laws W.index
         W.reads_back
         A.query A.native A.Eq.laws.refl A.reads A.Archive.laws)) };
 }

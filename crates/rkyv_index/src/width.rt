@@ -5,40 +5,55 @@
 ghost use Rattle.std.specs.Prelude.{◌≡◌, ◌<◌, ◌^◌};
 ghost use Rattle.std.proofs.Common.{refl};
 ghost use mir.Val.{bits};
+ghost use Rattle.rkyv_base.specs.{IsIndexEncoding};
 ghost use Rattle.rkyv_index.specs.{CodesReadBack};
 
+use rkyv_base::scalars::Scalar;
 use rkyv_base::width::{Narrow, Wide, Width};
 
 /// A width whose numbers can be indices of entries.
 ///
 /// The code of an encoded number is that number.
 pub trait IndexMapWidth: Width {
+    /// The element of an index in an index map: a number of one word.
+    type Index: Scalar;
+
     /// Returns the number of the width that encodes `number`.
     ///
     /// # Requires
     ///
     /// - `number` fits in a word of the width.
-    fn to_index(number: u64) -> Self::Place
+    fn to_index(number: u64) -> Self::Index
         requires { number < 2 ^ bits Self.word }
-        ensures { result ≡ Self.Place.encoding.value number };
+        ensures { result ≡ Self.Index.encoding.value number };
 
-    ghost reads_back: { CodesReadBack Self.Place.encoding };
+    ghost index: { IsIndexEncoding Self.word Self.Index.encoding };
+
+    ghost reads_back: { CodesReadBack Self.Index.encoding };
 }
 
 impl IndexMapWidth for Narrow {
+    type Index = u32;
+
     #[inline]
     fn to_index(number: u64) -> u32 {
         number as u32
     }
 
+    ghost index = { record { word = refl; any = λ n. tt } };
+
     ghost reads_back = { λ n. refl };
 }
 
 impl IndexMapWidth for Wide {
+    type Index = u64;
+
     #[inline]
     fn to_index(number: u64) -> u64 {
         number
     }
+
+    ghost index = { record { word = refl; any = λ n. tt } };
 
     ghost reads_back = { λ n. refl };
 }

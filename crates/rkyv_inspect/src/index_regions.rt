@@ -13,7 +13,7 @@ use crate::table_regions::{Buckets, IndexItem};
 use rkyv_base::element::Element;
 use rkyv_base::entry::Entry;
 use rkyv_base::view::View;
-use rkyv_base::width::Width;
+use rkyv_index::width::IndexMapWidth;
 use rkyv_index::{ArchivedIndexMap, IndexMapOf};
 use std::alloc::{AllocError, Global};
 
@@ -26,7 +26,7 @@ use std::alloc::{AllocError, Global};
 /// # Errors
 ///
 /// - A text or the list fails to allocate.
-fn add_parts<K: Field, V: Field, H, W: Width>(
+fn add_parts<K: Field, V: Field, H, W: IndexMapWidth>(
     alloc: Global,
     root: View<'_, IndexMapOf<K, V, H, W>>,
     list: &mut RegionList,
@@ -52,7 +52,7 @@ fn add_parts<K: Field, V: Field, H, W: Width>(
 }
 
 /// Returns the position of the entry at an index of the map.
-fn entry_pos<K: Field, V: Field, H, W: Width>(
+fn entry_pos<K: Field, V: Field, H, W: IndexMapWidth>(
     map: ArchivedIndexMap<'_, K, V, H, W>,
     index: usize,
 ) -> usize
@@ -75,7 +75,7 @@ fn entry_pos<K: Field, V: Field, H, W: Width>(
 /// # Errors
 ///
 /// - A text or the list fails to allocate.
-fn add_entries<K: Field, V: Field, H, W: Width>(
+fn add_entries<K: Field, V: Field, H, W: IndexMapWidth>(
     alloc: Global,
     root: View<'_, IndexMapOf<K, V, H, W>>,
     list: &mut RegionList,
@@ -113,7 +113,7 @@ fn add_entries<K: Field, V: Field, H, W: Width>(
 /// # Errors
 ///
 /// - A text or the list fails to allocate.
-pub fn index_regions<K: Field, V: Field, H, W: Width>(
+pub fn index_regions<K: Field, V: Field, H, W: IndexMapWidth>(
     alloc: Global,
     root: View<'_, IndexMapOf<K, V, H, W>>,
 ) -> Result<Vec<Region>, AllocError>

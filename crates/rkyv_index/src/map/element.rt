@@ -6,10 +6,11 @@ ghost use Rattle.rkyv_index.specs.Lemmas.IndexLaws.{index_element};
 
 use crate::map::IndexMapOf;
 use crate::map::check::{check_indices, check_part};
+use crate::width::IndexMapWidth;
 use rkyv_base::element::{Element, HasSpec, PartRange};
 use rkyv_base::entry::Entry;
 use rkyv_base::errors::VerifyError;
-use rkyv_base::width::{Width, Word};
+use rkyv_base::width::Word;
 use rkyv_table::table::ArchivedHashTable;
 
 impl<K: HasSpec, V: HasSpec, H, W: Word> HasSpec for IndexMapOf<K, V, H, W> {
@@ -19,7 +20,7 @@ impl<K: HasSpec, V: HasSpec, H, W: Word> HasSpec for IndexMapOf<K, V, H, W> {
         (entry_element K.spec V.spec K.laws V.laws) };
 }
 
-impl<K: Element, V: Element, H, W: Width> Element for IndexMapOf<K, V, H, W> {
+impl<K: Element, V: Element, H, W: IndexMapWidth> Element for IndexMapOf<K, V, H, W> {
     #[inline]
     fn size() -> usize {
         W::INDEX_SIZE
@@ -31,7 +32,7 @@ impl<K: Element, V: Element, H, W: Width> Element for IndexMapOf<K, V, H, W> {
     }
 
     fn check(bytes: &[u8], pos: u64, range: PartRange) -> Result<PartRange, VerifyError> {
-        let rest = ArchivedHashTable::<W::Place, W>::verify(bytes, pos, range)?;
+        let rest = ArchivedHashTable::<W::Index, W>::verify(bytes, pos, range)?;
         let len = check_indices::<W>(bytes, pos)?;
         let end = check_part::<W, Entry<K, V>>(bytes, pos, len, rest)?;
         Ok(PartRange {

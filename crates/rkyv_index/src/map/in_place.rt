@@ -30,17 +30,21 @@ mod sealed;
 pub mod text;
 
 use crate::map::ArchivedIndexMap;
+use crate::width::IndexMapWidth;
 use rkyv_base::element::{Element, Represents};
 use rkyv_base::scalars::Scalar;
 use rkyv_base::seal::set_at;
 use rkyv_base::view::{View, found_pos};
-use rkyv_base::width::Width;
 use rkyv_keys::keys::{KeyElement, Query};
 use rkyv_scan::hash::KeyHasher;
 
 /// Returns the position of the value at `index`, in the map at `root` of an archive.
 #[inline]
-fn value_pos_at<K: Element, V: Element, H, W: Width>(archive: &[u8], root: u64, index: usize) -> u64
+fn value_pos_at<K: Element, V: Element, H, W: IndexMapWidth>(
+    archive: &[u8],
+    root: u64,
+    index: usize,
+) -> u64
     requires map { Viewable (index_spec W.word (entry_spec K.spec V.spec)) archive.now root }
     requires below { index < len_at W.word archive.now root }
     ensures at { result ≡ value_pos K.spec V.spec
@@ -51,7 +55,13 @@ fn value_pos_at<K: Element, V: Element, H, W: Width>(archive: &[u8], root: u64, 
     map.entry(index).value().pos()
 }
 
-impl<'a, K: KeyElement, V: Element, H: KeyHasher, W: Width> ArchivedIndexMap<'a, K, V, H, W> {
+impl<'a, K: KeyElement, V: Element, H: KeyHasher, W: IndexMapWidth> ArchivedIndexMap<
+    'a,
+    K,
+    V,
+    H,
+    W,
+> {
     /// Returns the position of the value that a lookup finds, in the map at `root` of an archive.
     #[inline]
     fn value_pos_in<Q: Query<K>>(archive: &[u8], root: u64, key: &Q) -> Option<u64>
@@ -133,7 +143,7 @@ impl<'a, K: KeyElement, V: Element, H: KeyHasher, W: Width> ArchivedIndexMap<'a,
 ///     None => Ok(None),
 /// }
 /// ```
-pub fn set_value_at<A, K: KeyElement + Represents<A>, N: Scalar, H: KeyHasher, W: Width>(
+pub fn set_value_at<A, K: KeyElement + Represents<A>, N: Scalar, H: KeyHasher, W: IndexMapWidth>(
     archive: &mut [u8],
     root: u64,
     index: usize,

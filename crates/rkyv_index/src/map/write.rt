@@ -36,16 +36,16 @@ fn write_indices<W: IndexMapWidth, H, S: Writer, U: HashedEntry<H>>(
 ) -> WriteResult<HashTableResolver<W>, S>
     requires capacity { HasCapacity (length entries.now) load_factor W.MAX_CAPACITY }
     requires hashes { (entry : U) → U.can_hash entry }
-    ensures { WritesIndices W.Width (indices W.Place.spec W.Place.encoding)
+    ensures { WritesIndices W.Width (indices W.Index.spec W.Index.encoding)
         (hashed U.hash load_factor entries.now)
         (S.output serializer.old) (S.output serializer.new) result }
 {
     let indices = HashedIndices::<'_, U, H, W>::new(entries);
-    ArchivedHashTable::<W::Place, W>::serialize_by::<
+    ArchivedHashTable::<W::Index, W>::serialize_by::<
         lanes::Group,
         S,
-        W::Place,
-        W::Place,
+        W::Index,
+        W::Index,
         HashedIndices<'_, U, H, W>,
     >(alloc, indices, entries.len(), load_factor, serializer)
 }
@@ -66,7 +66,7 @@ pub(crate) fn write_index<W: IndexMapWidth, H, S: Writer, U: HashedEntry<H> + Se
     requires empty { resolvers.items ≡ [] }
     requires resolvers { length entries.now ≤ vec_capacity resolvers }
     requires room { 0 < length entries.now → length scratch.old ≡ U.Archived.spec.size }
-    ensures { WritesEntries W.Width (indices W.Place.spec W.Place.encoding)
+    ensures { WritesEntries W.Width (indices W.Index.spec W.Index.encoding)
         (hashed_row U.Archived.spec U.format U.hash load_factor entries.now)
         (S.output serializer.old) (S.output serializer.new) result }
 {

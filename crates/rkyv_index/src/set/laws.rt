@@ -24,7 +24,7 @@ use crate::set::{ArchivedIndexSet, IndexSetOf};
 use crate::width::IndexMapWidth;
 use rkyv_base::archive::Archive;
 use rkyv_base::element::{Element, HasSpec, Represents};
-use rkyv_base::width::{Width, Word};
+use rkyv_base::width::Word;
 use rkyv_keys::equality::{ElementEq, ElementEquiv, RepresentsUniquely};
 use rkyv_keys::keys::{FixedKey, KeyElement, NativeKey, NativeQuery, Query};
 use rkyv_scan::hash::{FxHasher64, KeyHasher};
@@ -36,7 +36,7 @@ pub fn items_read_back_are_listed<
     A: PartialEq,
     K: KeyElement + RepresentsUniquely<A>,
     H: KeyHasher,
-    W: Width,
+    W: IndexMapWidth,
 >()
     ensures { ItemsReadBackAreListed W.word K.spec K.represents
         (hash_at H.hasher K.key_calls) A.eq }
@@ -53,7 +53,7 @@ pub fn members_found_are_listed<
     Q: NativeQuery<A, K>,
     K: KeyElement + Represents<A>,
     H: KeyHasher,
-    W: Width,
+    W: IndexMapWidth,
 >()
     ensures { MembersFoundAreListed H W.Word K.HasSpec
         (native_keys K.represents (hash_at H.hasher K.key_calls) Q.fits Q.equals) }
@@ -63,21 +63,21 @@ pub fn members_found_are_listed<
 ///
 /// It returns `None` if and only if the list has no key there. The header of the index set may be
 /// anywhere in the archive.
-pub fn items_at_are_listed<A, K: KeyElement + Represents<A>, H: KeyHasher, W: Width>()
+pub fn items_at_are_listed<A, K: KeyElement + Represents<A>, H: KeyHasher, W: IndexMapWidth>()
     ensures { ItemsAtAreListed H W.Word K.HasSpec K.represents (hash_at H.hasher K.key_calls) }
 {}
 
 /// States that `iter` returns the keys of the list that an index set represents, in order.
 ///
 /// The n-th position of a walk has the n-th key of the list, and there are no others.
-pub fn walks_visit_in_order<A, K: KeyElement + Represents<A>, H: KeyHasher, W: Width>()
+pub fn walks_visit_in_order<A, K: KeyElement + Represents<A>, H: KeyHasher, W: IndexMapWidth>()
     ensures { SetWalksVisitInOrder W.word K.spec K.represents (hash_at H.hasher K.key_calls) }
 {}
 
 /// States that both hashers look up alike in an index set whose keys hash no `usize` or `isize`.
 ///
 /// It is the law of index maps for the index map of the keys to the unit value.
-pub fn both_hashers_look_up_alike<Q: Query<K>, K: FixedKey, W: Width>()
+pub fn both_hashers_look_up_alike<Q: Query<K>, K: FixedKey, W: IndexMapWidth>()
     ensures written { WrittenAlike W.word K.spec unit_spec K.key_calls }
     ensures compared { ComparedAlike W.word }
     ensures queried { QueriedAlike W.word K.spec unit_spec K.key_calls Q.KeyHash Q.fits }
@@ -89,7 +89,7 @@ pub fn both_hashers_look_up_alike<Q: Query<K>, K: FixedKey, W: Width>()
 ///
 /// The layout is the same under every hasher. Lists are under `FxHasher64` alone. Without a hasher
 /// and a width, an index set is that of `FxHasher64` and of a narrow archive.
-pub fn index_sets_are_laid_out<W: Width, H, A, K: KeyElement + Represents<A>>()
+pub fn index_sets_are_laid_out<W: IndexMapWidth, H, A, K: KeyElement + Represents<A>>()
     ensures spec { SameSpec ⟦<IndexSetOf<K, H, W> as HasSpec>⟧.spec
         (index_set_spec W.word K.spec) }
     ensures list { SameValues
@@ -103,13 +103,13 @@ pub fn index_sets_are_laid_out<W: Width, H, A, K: KeyElement + Represents<A>>()
 /// States that index sets that are values are compared by their keys in order.
 ///
 /// `same` is `true` if and only if both have the same length and the same keys in order.
-pub fn index_sets_are_compared<K: ElementEq, H, W: Width>()
+pub fn index_sets_are_compared<K: ElementEq, H, W: IndexMapWidth>()
     ensures { SameComparison ⟦<IndexSetOf<K, H, W> as ElementEq>⟧.same
         (index_set_equal W.word K.spec K.same) }
 {}
 
 /// States that index sets that are read are `==` if and only if they have the same keys in order.
-pub fn read_index_sets_are_compared<'a, K: ElementEquiv, H, W: Width>()
+pub fn read_index_sets_are_compared<'a, K: ElementEquiv, H, W: IndexMapWidth>()
     ensures { (s t : _) → ⟦<ArchivedIndexSet<'a, K, H, W> as PartialEq>⟧.eq s t
         ≡ index_sets_equal K.same s t }
 {}
@@ -125,7 +125,7 @@ pub fn clones_are_the_same<'a, K: HasSpec, H, W: Word>()
 /// States that a `for` over an index set, or over a reference to it, visits the keys of `iter`.
 ///
 /// They are all keys of the index set, in order.
-pub fn walks_by_for_are_iterations<'a, 'b, K: Element, H, W: Width>()
+pub fn walks_by_for_are_iterations<'a, 'b, K: Element, H, W: IndexMapWidth>()
 where
     'a: 'b,
     ensures owned { (set : _) (keys : _)
@@ -142,7 +142,7 @@ where
     K: KeyElement + Represents<A>,
     A: NativeKey<K> + Archive<W, Archived = K>,
     ensures { SameFormats ⟦<IndexSetOf<K, H, W> as ListFormat<A>>⟧.format
-        (index_keys_format W.word (indices W.Place.spec W.Place.encoding)
+        (index_keys_format W.word (indices W.Index.spec W.Index.encoding)
         (native_key_format K.spec A.format H.hasher A.calls)) }
 {}
 
@@ -153,6 +153,6 @@ pub fn ordered_items_are_written<
     A: NativeKey<K> + Archive<W, Archived = K>,
 >()
     ensures { SameFormat ⟦<OrderedItems<A> as Archive<W>>⟧.format
-        (ordered_items_format W.Width (indices W.Place.spec W.Place.encoding)
+        (ordered_items_format W.Width (indices W.Index.spec W.Index.encoding)
         (fx_key_format K.spec A.format A.calls) (λ x. x.0.items)) }
 {}

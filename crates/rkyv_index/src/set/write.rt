@@ -29,7 +29,7 @@ pub type IndexSetResolver<W = Narrow> = IndexMapResolver<W>;
 
 impl<K: Element, H: KeyHasher, W: IndexMapWidth, A: KeyHash + Archive<W>> ListFormat<A>
     for IndexSetOf<K, H, W> {
-    ghost format = { index_keys_format W.word (indices W.Place.spec W.Place.encoding)
+    ghost format = { index_keys_format W.word (indices W.Index.spec W.Index.encoding)
         (native_key_format K.spec A.format H.hasher A.calls) };
 }
 

@@ -10,7 +10,7 @@ use rkyv_base::element::{Element, Represents};
 use rkyv_base::errors::VerifyError;
 use rkyv_base::scalars::Scalar;
 use rkyv_base::view::{View, found_pos};
-use rkyv_base::width::{Narrow, Width};
+use rkyv_base::width::Narrow;
 use rkyv_index::map::in_place::set_value_at;
 use rkyv_index::map::laws::nested::{
     nested_writes_keep_index_maps, nested_writes_keep_lookups, nested_writes_represent,
@@ -19,6 +19,7 @@ use rkyv_index::map::laws::nested::{
 use rkyv_index::map::laws::{
     value_writes_keep_index_maps, value_writes_keep_lookups, values_written_represent,
 };
+use rkyv_index::width::IndexMapWidth;
 use rkyv_index::{ArchivedIndexMap, IndexMapOf, OrderedPairs};
 use rkyv_keys::keys::{KeyElement, Query};
 use rkyv_scan::hash::{FxHasher64, KeyHasher};
@@ -192,7 +193,7 @@ fn unsuccessful_lookup_returns_no_seal(rt: HostRuntime) {
 }
 
 // Returns the index of a key, by a plain lookup in the map at `root`.
-pub(crate) fn index_of<K: KeyElement, V: Element, H: KeyHasher, W: Width, Q: Query<K>>(
+pub(crate) fn index_of<K: KeyElement, V: Element, H: KeyHasher, W: IndexMapWidth, Q: Query<K>>(
     bytes: &[u8],
     root: u64,
     key: &Q,
@@ -205,11 +206,14 @@ pub(crate) fn index_of<K: KeyElement, V: Element, H: KeyHasher, W: Width, Q: Que
 }
 
 // Validates an archive, and writes a value over that of a key, by its index. Returns the index.
-fn write_at<A, K: KeyElement + Represents<A>, N: Scalar, H: KeyHasher, W: Width, Q: Query<K>>(
-    bytes: &mut [u8],
-    key: &Q,
-    value: N,
-) -> Result<Option<usize>, VerifyError>
+fn write_at<
+    A,
+    K: KeyElement + Represents<A>,
+    N: Scalar,
+    H: KeyHasher,
+    W: IndexMapWidth,
+    Q: Query<K>,
+>(bytes: &mut [u8], key: &Q, value: N) -> Result<Option<usize>, VerifyError>
     requires { Q.can_read key.now }
 {
     let root = access_in::<W, IndexMapOf<K, N, H, W>>(&*bytes)?.pos();

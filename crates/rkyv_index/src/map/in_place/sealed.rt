@@ -19,11 +19,11 @@ ghost use Rattle.rkyv_index.specs.{IsStoredIn, IsValueSeal, SealsPair, SealsValu
 ghost use Rattle.rkyv_index.specs.{index_in, index_pos};
 
 use crate::map::{ArchivedIndexMap, IndexMapOf};
+use crate::width::IndexMapWidth;
 use rkyv_base::element::Element;
 use rkyv_base::entry::value_offset;
 use rkyv_base::seal::{ArchiveSeal, Seal};
 use rkyv_base::view::View;
-use rkyv_base::width::Width;
 use rkyv_keys::hash::KeyHash;
 use rkyv_keys::keys::{KeyElement, Query};
 use rkyv_scan::hash::KeyHasher;
@@ -44,7 +44,13 @@ fn value_seal<'a, K: Element, V: Element, H, W>(
 }
 
 // Every sealed lookup finds an index, and then returns a seal of the pair or value at it.
-impl<'a, K: KeyElement, V: Element, H: KeyHasher, W: Width> ArchivedIndexMap<'a, K, V, H, W> {
+impl<'a, K: KeyElement, V: Element, H: KeyHasher, W: IndexMapWidth> ArchivedIndexMap<
+    'a,
+    K,
+    V,
+    H,
+    W,
+> {
     /// Returns the index map at the seal, to be read.
     #[inline]
     fn read<'s>(
@@ -185,7 +191,13 @@ impl<'a, K: KeyElement, V: Element, H: KeyHasher, W: Width> ArchivedIndexMap<'a,
     }
 }
 
-impl<'a, K: KeyElement, V: Element, H: KeyHasher, W: Width> ArchivedIndexMap<'a, K, V, H, W> {
+impl<'a, K: KeyElement, V: Element, H: KeyHasher, W: IndexMapWidth> ArchivedIndexMap<
+    'a,
+    K,
+    V,
+    H,
+    W,
+> {
     /// Returns an index, its key, which the comparison accepts, and a seal of its value, or `None`.
     ///
     /// It looks up as `get_full_with` does.

@@ -27,7 +27,7 @@ pub fn written_index_maps_represent<
     A: NativeKey<K> + Archive<W, Archived = K>,
     B: Archive<W, Archived = V>,
 >()
-    ensures { WrittenIndexMaps W.word (indices W.Place.spec W.Place.encoding)
+    ensures { WrittenIndexMaps W.word (indices W.Index.spec W.Index.encoding)
         (element K.spec K.represents A.format) (element V.spec V.represents B.format)
         (hash_at H.hasher K.key_calls) (hash_of H.hasher A.calls) }
 {}
@@ -40,7 +40,7 @@ where
     A: NativeKey<K> + Archive<W, Archived = K>,
     B: Archive<W, Archived = V>,
     ensures { SameFormats ⟦<IndexMapOf<K, V, H, W> as ListFormat<(A, B)>>⟧.format
-        (index_map_format W.word (indices W.Place.spec W.Place.encoding)
+        (index_map_format W.word (indices W.Index.spec W.Index.encoding)
         (native_format K.spec V.spec A.format B.format H.hasher A.calls)) }
 {}
 
@@ -53,6 +53,6 @@ pub fn ordered_pairs_are_written<
     B: Archive<W, Archived = V>,
 >()
     ensures { SameFormat ⟦<OrderedPairs<A, B> as Archive<W>>⟧.format
-        (ordered_pairs_format W.Width (indices W.Place.spec W.Place.encoding)
+        (ordered_pairs_format W.Width (indices W.Index.spec W.Index.encoding)
         (fx_format K.spec V.spec A.format B.format A.calls) (λ x. x.0.items)) }
 {}

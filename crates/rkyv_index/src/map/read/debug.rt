@@ -3,12 +3,13 @@ ghost use Rattle.rkyv_base.specs.{IsValidView, entry_spec};
 ghost use Rattle.rkyv_index.specs.{index_spec};
 
 use crate::map::{ArchivedIndexMap, IndexMapOf};
+use crate::width::IndexMapWidth;
 use rkyv_base::view::View;
-use rkyv_base::width::Width;
 use rkyv_keys::debug::{ElementDebug, Shown};
 use std::fmt::{self, Debug, Formatter, Write};
 
-impl<K: ElementDebug, V: ElementDebug, H, W: Width> ElementDebug for IndexMapOf<K, V, H, W> {
+impl<K: ElementDebug, V: ElementDebug, H, W: IndexMapWidth> ElementDebug
+    for IndexMapOf<K, V, H, W> {
     fn debug<U: Write>(view: View<'_, IndexMapOf<K, V, H, W>>, f: &mut Formatter<U>) -> fmt::Result
         requires { IsValidView (index_spec W.word (entry_spec K.spec V.spec)) view }
     {
@@ -20,7 +21,8 @@ impl<K: ElementDebug, V: ElementDebug, H, W: Width> ElementDebug for IndexMapOf<
     }
 }
 
-impl<'a, K: ElementDebug, V: ElementDebug, H, W: Width> Debug for ArchivedIndexMap<'a, K, V, H, W> {
+impl<'a, K: ElementDebug, V: ElementDebug, H, W: IndexMapWidth> Debug
+    for ArchivedIndexMap<'a, K, V, H, W> {
     fn fmt<U: Write>(&self, f: &mut Formatter<U>) -> fmt::Result {
         IndexMapOf::debug(self.view, f)
     }

@@ -10,10 +10,10 @@ ghost use Rattle.rkyv_index.specs.{entry_at, index_archive, index_len, index_pos
 ghost use Rattle.rkyv_index.specs.{pair_at, stored_index};
 
 use crate::map::{ArchivedIndexMap, IndexMapOf};
+use crate::width::IndexMapWidth;
 use rkyv_base::element::Element;
 use rkyv_base::entry::Entry;
 use rkyv_base::view::{PairView, View};
-use rkyv_base::width::Width;
 use rkyv_table::Strides;
 use rkyv_table::table::{ArchivedHashTable, TableOf};
 
@@ -28,7 +28,7 @@ fn entry_pos(begin: u64, i: usize, size: usize) -> u64
 
 /// Returns a view of the entry at `index` of the map at `view`, with the entries from `begin` on.
 #[inline]
-fn entry_in<'a, K: Element, V: Element, H, W: Width>(
+fn entry_in<'a, K: Element, V: Element, H, W: IndexMapWidth>(
     view: View<'a, IndexMapOf<K, V, H, W>>,
     begin: u64,
     index: usize,
@@ -44,13 +44,13 @@ fn entry_in<'a, K: Element, V: Element, H, W: Width>(
     view.at::<Entry<K, V>>(at)
 }
 
-impl<'a, K: Element, V: Element, H, W: Width> ArchivedIndexMap<'a, K, V, H, W> {
+impl<'a, K: Element, V: Element, H, W: IndexMapWidth> ArchivedIndexMap<'a, K, V, H, W> {
     /// Returns the table of the indices.
     #[inline]
-    pub(crate) fn table(self) -> ArchivedHashTable<'a, W::Place, W>
+    pub(crate) fn table(self) -> ArchivedHashTable<'a, W::Index, W>
         ensures at { IsAt result.view (index_archive self.entry) (index_pos self.entry) }
     {
-        let view = self.view.at::<TableOf<W::Place, W>>(self.view.pos());
+        let view = self.view.at::<TableOf<W::Index, W>>(self.view.pos());
         ArchivedHashTable::with_header(view, self.header)
     }
 
@@ -76,7 +76,7 @@ impl<'a, K: Element, V: Element, H, W: Width> ArchivedIndexMap<'a, K, V, H, W> {
 
 /// Returns a view of the key at `index` of the map at `view`, with the entries from `begin` on.
 #[inline]
-pub(crate) fn key_in<'a, K: Element, V: Element, H, W: Width>(
+pub(crate) fn key_in<'a, K: Element, V: Element, H, W: IndexMapWidth>(
     view: View<'a, IndexMapOf<K, V, H, W>>,
     begin: u64,
     index: usize,
@@ -91,7 +91,7 @@ pub(crate) fn key_in<'a, K: Element, V: Element, H, W: Width>(
 
 /// Returns the index at an item of a table of indices.
 #[inline]
-fn read_index<W: Width>(item: View<'_, W::Place>) -> usize
+fn read_index<W: IndexMapWidth>(item: View<'_, W::Index>) -> usize
     requires { pos_of item + byte_len W.word ≤ length (bytes_of item) }
     ensures { result ≡ stored_index W.word item.entry }
 {
@@ -102,8 +102,8 @@ fn read_index<W: Width>(item: View<'_, W::Place>) -> usize
 ///
 /// The count is increased by the strides of sixteen control bytes that are read.
 #[inline]
-pub(crate) fn find_index<W: Width, F: Fn(usize) -> bool>(
-    table: ArchivedHashTable<'_, W::Place, W>,
+pub(crate) fn find_index<W: IndexMapWidth, F: Fn(usize) -> bool>(
+    table: ArchivedHashTable<'_, W::Index, W>,
     hash: u64,
     accepts: F,
     strides: &mut Strides,

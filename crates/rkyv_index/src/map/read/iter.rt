@@ -8,10 +8,10 @@ ghost use Rattle.rkyv_table.specs.{AllValid, HintsExactly, YieldsKey, YieldsPair
 ghost use Rattle.rkyv_index.specs.{WalksAll, index_archive, index_len, key_positions};
 
 use crate::map::ArchivedIndexMap;
+use crate::width::IndexMapWidth;
 use rkyv_base::element::{Element, HasSpec};
 use rkyv_base::entry::Entry;
 use rkyv_base::view::{PairView, View};
-use rkyv_base::width::Width;
 use std::marker::{Model, PhantomData};
 
 /// The pairs of an index map that remain, in order.
@@ -164,7 +164,7 @@ impl<'a, K: Element, V: Element> ExactSizeIterator for Values<'a, K, V> {
     }
 }
 
-impl<'a, K: Element, V: Element, H, W: Width> ArchivedIndexMap<'a, K, V, H, W> {
+impl<'a, K: Element, V: Element, H, W: IndexMapWidth> ArchivedIndexMap<'a, K, V, H, W> {
     /// Returns an iterator over the pairs, in order.
     ///
     /// # Examples
@@ -223,7 +223,8 @@ impl<'a, K: Element, V: Element, H, W: Width> ArchivedIndexMap<'a, K, V, H, W> {
 }
 
 /// `for (key, value) in map` visits the pairs, in order.
-impl<'a, K: Element, V: Element, H, W: Width> IntoIterator for ArchivedIndexMap<'a, K, V, H, W> {
+impl<'a, K: Element, V: Element, H, W: IndexMapWidth> IntoIterator
+    for ArchivedIndexMap<'a, K, V, H, W> {
     type Item = PairView<'a, K, V>;
 
     type IntoIter = Iter<'a, K, V>;
@@ -239,7 +240,8 @@ impl<'a, K: Element, V: Element, H, W: Width> IntoIterator for ArchivedIndexMap<
 }
 
 /// `for (key, value) in &map` visits the pairs, in order.
-impl<'a, K: Element, V: Element, H, W: Width> IntoIterator for &ArchivedIndexMap<'a, K, V, H, W> {
+impl<'a, K: Element, V: Element, H, W: IndexMapWidth> IntoIterator
+    for &ArchivedIndexMap<'a, K, V, H, W> {
     type Item = PairView<'a, K, V>;
 
     type IntoIter = Iter<'a, K, V>;

@@ -66,18 +66,18 @@ impl<'a, U, H, W> HashedIndices<'a, U, H, W> {
 }
 
 impl<'a, U: HashedEntry<H>, H, W: IndexMapWidth> Iterator for HashedIndices<'a, U, H, W> {
-    type Item = (u64, W::Place);
+    type Item = (u64, W::Index);
 
     ghost can_next = { λ s. (s.index + length (iter_rest s.values) ≤ W.LIMIT)
         × ((value : U) → U.can_hash value) };
 
-    ghost next_gives = { YieldsFirst (λ s. indices_from U.hash W.Place.encoding.value s.index
+    ghost next_gives = { YieldsFirst (λ s. indices_from U.hash W.Index.encoding.value s.index
         (iter_rest s.values)) };
 
     ghost remaining = { λ s. at_most (length (iter_rest s.values)) };
 
     #[inline]
-    fn next(&mut self) -> Option<(u64, W::Place)> {
+    fn next(&mut self) -> Option<(u64, W::Index)> {
         let hash = self.values.next()?.hash();
         let index = W::to_index(self.index);
         self.index += 1;

@@ -4,28 +4,29 @@ ghost use Rattle.std.specs.Prelude.{◌≡◌, ◌+◌, ◌<◌, ◌^◌, length
 ghost use Rattle.rkyv_index.specs.{IndexResolver, WritesIndexHeader};
 
 use crate::map::ArchivedIndexMap;
+use crate::width::IndexMapWidth;
 use rkyv_base::archive::ResolveResult;
 use rkyv_base::element::HasSpec;
 use rkyv_base::errors::DistanceTooLarge;
-use rkyv_base::width::{Narrow, Width};
+use rkyv_base::width::Narrow;
 use rkyv_table::table::ArchivedHashTable;
 use rkyv_table::table::resolve::HashTableResolver;
 use std::marker::Model;
 
 /// The resolver of a written index map: that of its table, and the position of its entries.
 #[derive(Drop)]
-pub struct IndexMapResolver<W: Width = Narrow> {
+pub struct IndexMapResolver<W: IndexMapWidth = Narrow> {
     pub(crate) table: HashTableResolver<W>,
     pub(crate) entries: u64,
 }
 
-impl<W: Width> Model for IndexMapResolver<W> {
+impl<W: IndexMapWidth> Model for IndexMapResolver<W> {
     ghost Value = { IndexResolver };
 
     ghost view = { λ r. record { table = r.table; entries = r.entries } };
 }
 
-impl<W: Width> IndexMapResolver<W> {
+impl<W: IndexMapWidth> IndexMapResolver<W> {
     /// Returns the number of pairs of the map.
     #[inline]
     pub fn len(&self) -> usize
@@ -66,7 +67,7 @@ impl<W: Width> IndexMapResolver<W> {
     }
 }
 
-impl<'a, K: HasSpec, V: HasSpec, H, W: Width> ArchivedIndexMap<'a, K, V, H, W> {
+impl<'a, K: HasSpec, V: HasSpec, H, W: IndexMapWidth> ArchivedIndexMap<'a, K, V, H, W> {
     /// Writes the header of a written map over the whole of `out`, for a header at `pos`.
     ///
     /// It is the header of the table of indices, and then the distance to the entries.
@@ -99,7 +100,7 @@ impl<'a, K: HasSpec, V: HasSpec, H, W: Width> ArchivedIndexMap<'a, K, V, H, W> {
             None => return Err(DistanceTooLarge),
         };
         let (table, entries) = out.split_at_mut(W::TABLE_SIZE);
-        ArchivedHashTable::<W::Place, W>::resolve_from_len(
+        ArchivedHashTable::<W::Index, W>::resolve_from_len(
             len,
             load_factor,
             resolver.table,

@@ -40,7 +40,7 @@ impl<
     A: KeyHash + Archive<W>,
     B: Archive<W>,
 > ListFormat<(A, B)> for IndexMapOf<K, V, H, W> {
-    ghost format = { index_map_format W.word (indices W.Place.spec W.Place.encoding)
+    ghost format = { index_map_format W.word (indices W.Index.spec W.Index.encoding)
         (native_format K.spec V.spec A.format B.format H.hasher A.calls) };
 }
 

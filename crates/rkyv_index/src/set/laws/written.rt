@@ -20,7 +20,7 @@ pub fn written_index_sets_represent<
     K: KeyElement + Represents<A>,
     A: NativeKey<K> + Archive<W, Archived = K>,
 >()
-    ensures { WrittenIndexSets W.word (indices W.Place.spec W.Place.encoding)
+    ensures { WrittenIndexSets W.word (indices W.Index.spec W.Index.encoding)
         (element K.spec K.represents A.format)
         (hash_at H.hasher K.key_calls) (hash_of H.hasher A.calls) }
 {}

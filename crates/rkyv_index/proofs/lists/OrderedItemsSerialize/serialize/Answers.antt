@@ -18,7 +18,7 @@ returns g c =
     let rest : Refs g.row.A.Denot → List g.row.A.Denot = λ s. iter_rest s.items in
     let steps = YieldsFirstBy view rest in
     let hash = hash_of (fx_hasher low_halves) g.A.KeyHash.calls in
-    let f = index_set_format g.W.Word.word g.W.Place.HasSpec.spec g.W.Place.Scalar.encoding g.A.Archived.HasSpec.spec g.A.Archive.format hash (7, 8) in
+    let f = index_set_format g.W.Word.word g.W.Index.HasSpec.spec g.W.Index.Scalar.encoding g.A.Archived.HasSpec.spec g.A.Archive.format hash (7, 8) in
     let all : iter_rest keys.items ≡ values = search rules in
     let count : c.len.result ≡ length values = search rules in
     results_listed (Drains steps keys) (YieldsOtherCount steps c.len.result keys) (key_values (λ k. k.now)) values

@@ -18,7 +18,7 @@ returns g c =
     let rest : PairRefs g.row.A.Denot g.row.B.Denot → List (g.row.A.Denot × g.row.B.Denot) = λ s. iter_rest s.pairs in
     let steps = YieldsFirstBy view rest in
     let hash = hash_of (fx_hasher low_halves) g.A.KeyHash.calls in
-    let f = index_format g.W.Word.word g.W.Place.HasSpec.spec g.W.Place.Scalar.encoding g.A.Archived.HasSpec.spec g.B.Archived.HasSpec.spec g.A.Archive.format g.B.Archive.format hash (7, 8) in
+    let f = index_format g.W.Word.word g.W.Index.HasSpec.spec g.W.Index.Scalar.encoding g.A.Archived.HasSpec.spec g.B.Archived.HasSpec.spec g.A.Archive.format g.B.Archive.format hash (7, 8) in
     let all : iter_rest pairs.pairs ≡ values = search rules in
     let count : c.len.result ≡ length values = search rules in
     results_listed (Drains steps pairs) (YieldsOtherCount steps c.len.result pairs) (pair_values (λ k. k.now) (λ k. k.now)) values

@@ -17,6 +17,6 @@ returns g c =
     let there = sym c.as_slice.ensures.value in
     let exactly : Drains steps c.args.iter (pairs_of entries) = subst (λ (xs : List (EntryAdapter g.row.BK.Denot g.row.BV.Denot g.row.A.Denot g.row.B.Denot)). Drains steps c.args.iter (pairs_of xs)) there c.in-Ok.ensures.0 in
     let count : length entries ≡ c.args.len = ap length c.as_slice.ensures.value ∙ c.in-Ok.ensures.1 in
-    items_result g.row.S-Fault.Denot g.BK.Lend.lent g.BV.Lend.lent g.W.Word.word g.W.Place.HasSpec.spec g.W.Place.Scalar.encoding g.K.HasSpec.spec g.V.HasSpec.spec g.A.Archive.format g.B.Archive.format hash c.args.load_factor
+    items_result g.row.S-Fault.Denot g.BK.Lend.lent g.BV.Lend.lent g.W.Word.word g.W.Index.HasSpec.spec g.W.Index.Scalar.encoding g.K.HasSpec.spec g.V.HasSpec.spec g.A.Archive.format g.B.Archive.format hash c.args.load_factor
     (Drains steps c.args.iter) (YieldsOtherCount steps c.args.len c.args.iter) c.args.len g.W.Width.MAX_CAPACITY g.W.Width.LIMIT has entries exactly count
     (g.S.Writer.output c.args.serializer.now) (g.S.Writer.output c.write_index.new.serializer) c.write_index.result c.write_index.ensures

@@ -12,13 +12,13 @@ use Rattle.rkyv_index.proofs.Checking.{buckets_below, decoded_before, decoded_be
 use Rattle.rkyv_index.proofs.map.check.check_indices.Goals as goal
 
 pub new-requires : goal.new-requires
-new-requires g c = number_table_viewable g.W.Word.word g.W.Place.HasSpec.spec g.W.Place.Scalar.encoding g.met.W.Place.Scalar.laws g.met.W.Width.index c.args.bytes.now c.args.pos c.requires
+new-requires g c = number_table_viewable g.W.Word.word g.W.Index.HasSpec.spec g.W.Index.Scalar.encoding g.met.W.Index.Scalar.laws g.met.W.IndexMapWidth.index c.args.bytes.now c.args.pos c.requires
 
 pub of-table-requires : goal.of-table-requires
 of-table-requires g c =
-    let s = table_spec g.W.Word.word g.W.Place.HasSpec.spec in
+    let s = table_spec g.W.Word.word g.W.Index.HasSpec.spec in
     view_there s c.new.result c.args.bytes c.args.pos c.new.ensures
-    (number_table_viewable g.W.Word.word g.W.Place.HasSpec.spec g.W.Place.Scalar.encoding g.met.W.Place.Scalar.laws g.met.W.Width.index c.args.bytes.now c.args.pos c.requires)
+    (number_table_viewable g.W.Word.word g.W.Index.HasSpec.spec g.W.Index.Scalar.encoding g.met.W.Index.Scalar.laws g.met.W.IndexMapWidth.index c.args.bytes.now c.args.pos c.requires)
 
 pub buckets_begin-requires : goal.buckets_begin-requires
 buckets_begin-requires g c =
@@ -55,21 +55,21 @@ returns-then-all_below-clause-below g c =
 
 pub read_count-index-requires : goal.read_count-index-requires
 read_count-index-requires g c =
-    let s = g.W.Place.HasSpec.spec in
+    let s = g.W.Index.HasSpec.spec in
     let before = c.loop-at.at-iterator in
     let after = c.next.new.self in
     let inv = c.loop-at.invariant in
     let e = c.in-Some.ensures.steps in
     let here : Viewable s before.archive.now c.in-Some.at =
     All-head (Viewable s before.archive.now) c.in-Some.at after.positions (subst (All (Viewable s before.archive.now)) e.takes inv.all_valid) in
-    let size = g.met.W.Place.Scalar.laws.size ∙ ap byte_len g.met.W.Width.index.word in
+    let size = g.met.W.Index.Scalar.laws.size ∙ ap byte_len g.met.W.IndexMapWidth.index.word in
     subst (λ n. c.in-Some.at + n ≤ length c.args.bytes.now) size
     (subst (λ (b : List ℕ). c.in-Some.at + s.size ≤ length b) inv.archive here.inside)
 
 pub loop-at-preserved : goal.loop-at-preserved
 loop-at-preserved g c =
     let w = g.W.Word.word in
-    let s = g.W.Place.HasSpec.spec in
+    let s = g.W.Index.HasSpec.spec in
     let b : List ℕ = c.args.bytes.now in
     let n : ℕ = c.len-len.result in
     let at : ℕ = c.in-Some.at in
@@ -91,7 +91,7 @@ loop-at-preserved g c =
 pub loop-at-init : goal.loop-at-init
 loop-at-init g c =
     let w = g.W.Word.word in
-    let s = g.W.Place.HasSpec.spec in
+    let s = g.W.Index.HasSpec.spec in
     let b : List ℕ = c.args.bytes.now in
     let n : ℕ = c.len-len.result in
     let t = c.of-table.result in
@@ -99,7 +99,7 @@ loop-at-init g c =
     let into = c.into_iter-at-iterator.ensures.into_iter_gives in
     let archive : t.view.archive ≡ c.args.bytes = ap (λ v. v.archive) c.of-table.ensures.view ∙ c.new.ensures.0 in
     let pos : t.view.pos ≡ c.args.pos = ap (λ v. v.pos) c.of-table.ensures.view ∙ c.new.ensures.1 in
-    let size : s.size ≡ byte_len w = g.met.W.Place.Scalar.laws.size ∙ ap byte_len g.met.W.Width.index.word in
+    let size : s.size ≡ byte_len w = g.met.W.Index.Scalar.laws.size ∙ ap byte_len g.met.W.IndexMapWidth.index.word in
     let indices : c.into_iter-at-iterator.result.positions ≡ item_positions w (byte_len w) b c.args.pos =
     ap (λ (l : ItemsLeft). l.positions) into ∙ raw.positions ∙ ap (λ k. item_positions w k t.view.archive.now t.view.pos) size
     ∙ ap (λ (a : Bor (List ℕ)). item_positions w (byte_len w) a.now t.view.pos) archive ∙ ap (item_positions w (byte_len w) b) pos in

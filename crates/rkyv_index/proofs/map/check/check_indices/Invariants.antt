@@ -11,7 +11,7 @@ invariant-loop-at g l =
     let w = g.W.Word.word in
     let all = item_positions w (byte_len w) l.bytes l.pos in
     record {
-      all_valid : AllValid g.W.Place.HasSpec.spec l.at-iterator;
+      all_valid : AllValid g.W.Index.HasSpec.spec l.at-iterator;
       archive : l.at-iterator.archive.now ≡ l.bytes;
       len : l.len ≡ len_at w l.bytes l.pos;
       below : IndicesBelow w l.bytes l.len l.at-iterator.positions → IndicesBelow w l.bytes l.len all;
