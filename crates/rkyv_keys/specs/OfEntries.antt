@@ -3,7 +3,7 @@ use Rattle.std.specs.Prelude.{ℕ, ◌+◌, ◌⊎◌, Bool, ◌&&◌, List, ◌
 use Rattle.rkyv_scan.specs.{HasherCall}
 use Rattle.rkyv_base.specs.{ElementSpec, value_offset}
 use Rattle.rkyv_keys.specs.Equality.{Comparison}
-use Rattle.rkyv_keys.specs.Deserialize.{DeserializeErrors}
+use Rattle.rkyv_keys.specs.Deserialize.{DeserializeErrors, DeserializeMembers}
 
 module _ (k v : ElementSpec) where
   -- both the keys and the values are the same
@@ -26,9 +26,13 @@ module _ (k v : ElementSpec) where
       → List ℕ → ℕ → A × B → Type 0
   entry_equals key value b p pair = key b p pair.0 × value b (p + value_offset k v) pair.1
 
-  -- an error of either part
-  abbrev pub entry_deserialize_fails : DeserializeErrors → DeserializeErrors → DeserializeErrors
-  entry_deserialize_fails key value b p e = key b p e ⊎ value b (p + value_offset k v) e
+-- `e`: error of the key, or, after the key was deserialized, error of the value
+abbrev pub entry_deserialize_fails : {A B : Type 0} → DeserializeMembers A → DeserializeMembers B
+    → DeserializeErrors
+entry_deserialize_fails {A} k v b p e =
+    k.deserialize_fails b p e
+    ⊎ ((key : A) × k.represents b p key
+    × v.deserialize_fails b (p + value_offset k.spec v.spec) e)
 
 -- the calls of both parts of a pair
 abbrev pub pair_calls : {A B : Type 0} → (A → List HasherCall) → (B → List HasherCall) → A × B

@@ -3,12 +3,12 @@
 //! An entry is hashed and compared by its key and then its value. It is looked up by a pair
 //! of queries.
 
-ghost use Rattle.std.specs.Prelude.{◌≡◌, IsTrue, ◌↔◌, MatchResult};
+ghost use Rattle.std.specs.Prelude.{◌≡◌, IsTrue, ◌↔◌};
 ghost use Rattle.rkyv_base.specs.{AtView, IsValidView, PairRepresents, entry_spec};
 ghost use Rattle.rkyv_base.specs.Lemmas.Pairs.{pair_is_format};
 ghost use Rattle.rkyv_keys.specs.{BothRead, after_calls, at_view, at_views, entry_calls};
-ghost use Rattle.rkyv_keys.specs.{entry_deserialize_fails, entry_equals, entry_fits, entry_same};
-ghost use Rattle.rkyv_keys.specs.{pair_calls};
+ghost use Rattle.rkyv_keys.specs.{Deserializes, entry_deserialize_fails, entry_equals, entry_fits};
+ghost use Rattle.rkyv_keys.specs.{entry_same, pair_calls};
 ghost use Rattle.rkyv_keys.specs.Lemmas.Fixed.{entry_fixed};
 ghost use Rattle.rkyv_keys.specs.Lemmas.OfEntries.{entry_equals_once, entry_once};
 ghost use Rattle.rkyv_keys.specs.Lemmas.OfEntries.{entry_equivalence, entry_fits_its_equal};
@@ -119,16 +119,13 @@ impl<A, B, K: MatchesNative<A>, V: MatchesNative<B>> MatchesNative<(A, B)> for E
 }
 
 impl<A: Drop, B, K: Deserialize<A>, V: Deserialize<B>> Deserialize<(A, B)> for Entry<K, V> {
-    ghost deserialize_fails = { entry_deserialize_fails K.spec V.spec K.deserialize_fails
-        V.deserialize_fails };
+    ghost deserialize_fails = { entry_deserialize_fails K.Deserialize V.Deserialize };
 
     #[inline]
     fn deserialize(alloc: Global, view: View<'_, Entry<K, V>>) -> Result<(A, B), ReadError>
         requires { IsValidView (entry_spec K.spec V.spec) view }
-        ensures { MatchResult result
-            (AtView (PairRepresents K.spec V.spec K.represents V.represents) view.entry)
-            (AtView (entry_deserialize_fails K.spec V.spec K.deserialize_fails V.deserialize_fails)
-            view.entry) }
+        ensures { Deserializes (PairRepresents K.spec V.spec K.represents V.represents)
+            (entry_deserialize_fails K.Deserialize V.Deserialize) view.entry result }
     {
         let key = K::deserialize(alloc, view.key())?;
         let value = V::deserialize(alloc, view.value())?;

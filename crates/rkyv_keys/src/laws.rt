@@ -105,7 +105,7 @@ where
 /// States the errors with which scalars, the unit value, texts and pairs are deserialized.
 ///
 /// Scalars and `()` never fail. A text fails only to allocate. A pair fails with an error of its
-/// key or of its value.
+/// key or, if the key can be deserialized, with one of its value.
 pub fn errors_of_deserializing<N: ScalarKey, W: Width, A: Drop, B, K, V>()
 where
     K: Deserialize<A>,
@@ -114,5 +114,5 @@ where
     ensures unit { SameErrors ⟦<() as Deserialize<()>>⟧.deserialize_fails nothing_fails }
     ensures text { SameErrors ⟦<Text<W> as Deserialize<String>>⟧.deserialize_fails memory_fails }
     ensures pair { SameErrors ⟦<Entry<K, V> as Deserialize<(A, B)>>⟧.deserialize_fails
-        (entry_deserialize_fails K.spec V.spec K.deserialize_fails V.deserialize_fails) }
+        (entry_deserialize_fails K.Deserialize V.Deserialize) }
 {}

@@ -65,7 +65,7 @@ pub fn pairs_fail_as_their_parts<
     V: Deserialize<B>,
 >()
     ensures { SameErrors ⟦<Entry<K, V> as Deserialize<PairEntry<T>>>⟧.deserialize_fails
-        (entry_deserialize_fails K.spec V.spec K.deserialize_fails V.deserialize_fails) }
+        (entry_deserialize_fails K.Deserialize V.Deserialize) }
 {}
 
 /// States that a `TupleEntry` is archived and represented as the pair of its parts.
@@ -119,5 +119,5 @@ pub fn tuples_fail_as_their_parts<
     V: Deserialize<B>,
 >()
     ensures { SameErrors ⟦<Entry<K, V> as Deserialize<TupleEntry<T>>>⟧.deserialize_fails
-        (entry_deserialize_fails K.spec V.spec K.deserialize_fails V.deserialize_fails) }
+        (entry_deserialize_fails K.Deserialize V.Deserialize) }
 {}

@@ -153,15 +153,14 @@ impl<
     K: Deserialize<A>,
     V: Deserialize<B>,
 > Deserialize<TupleEntry<T>> for Entry<K, V> {
-    ghost deserialize_fails = { entry_deserialize_fails K.spec V.spec K.deserialize_fails
-        V.deserialize_fails };
+    ghost deserialize_fails = { entry_deserialize_fails K.Deserialize V.Deserialize };
 
     #[inline]
     fn deserialize(alloc: Global, view: View<'_, Entry<K, V>>) -> Result<TupleEntry<T>, ReadError>
         requires { IsValidView (entry_spec K.spec V.spec) view }
         ensures { Deserializes
             (RepresentsAsPair K.spec V.spec K.represents V.represents (λ x. T.tuple x.0))
-            (entry_deserialize_fails K.spec V.spec K.deserialize_fails V.deserialize_fails)
+            (entry_deserialize_fails K.Deserialize V.Deserialize)
             view.entry result }
     {
         let first = K::deserialize(alloc, view.key())?;

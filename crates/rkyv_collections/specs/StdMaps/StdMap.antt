@@ -67,7 +67,7 @@ abbrev pub std_map_fails : {A B : Type 0} → Width → DeserializeMembers A →
 std_map_fails w k v b p e =
     (e ≡ Memory)
     ⊎ ReadInOrderFails (PairRepresents k.spec v.spec k.represents v.represents)
-    (entry_deserialize_fails k.spec v.spec k.deserialize_fails v.deserialize_fails) b
+    (entry_deserialize_fails k v) b
     (item_positions w (entry_spec k.spec v.spec).size b p) e
 
 -- `result`: map of std that the view represents, with the hash state `state`, or an error
@@ -89,11 +89,10 @@ InsertsPair {A} {B} equal P m n =
     (pair : A × B) × P pair × Updates equal m n pair.0 (Some pair.1)
     × AddsKey equal (keys m) (keys n) pair.0 × IsUnique equal n × (hasher_of n ≡ hasher_of m)
 
--- `e`: error of inserting a pair. Memory could not be allocated, or the key or the value
--- has the error
-abbrev pub insert_pair_fails : ElementSpec → ElementSpec → DeserializeErrors → DeserializeErrors
+-- `e`: error of inserting a pair. Memory could not be allocated, or the pair has the error
+abbrev pub insert_pair_fails : {A B : Type 0} → DeserializeMembers A → DeserializeMembers B
     → DeserializeErrors
-insert_pair_fails k v key value b q e = (e ≡ Memory) ⊎ entry_deserialize_fails k v key value b q e
+insert_pair_fails k v b q e = (e ≡ Memory) ⊎ entry_deserialize_fails k v b q e
 
 -- `result`: the pair at the view was inserted into the first of the maps, which yields the second,
 -- or an error of inserting it

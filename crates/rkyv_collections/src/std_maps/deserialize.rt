@@ -32,7 +32,7 @@ fn insert_read<K: Deserialize<A>, V: Deserialize<B>, A: Eq + Hash + Drop, B: Dro
     requires value { IsValidView V.spec value }
     requires pair { IsAt value (archive_of key) (pos_of key + value_offset K.spec V.spec) }
     ensures { InsertsRead A.eq (PairRepresents K.spec V.spec K.represents V.represents)
-        (insert_pair_fails K.spec V.spec K.deserialize_fails V.deserialize_fails)
+        (insert_pair_fails K.Deserialize V.Deserialize)
         key.entry (map.old, map.new) result }
 {
     let read = K::deserialize(alloc, key)?;

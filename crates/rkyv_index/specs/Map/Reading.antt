@@ -49,12 +49,12 @@ module _ {K V H W A B : Type 0} {ks : Specs K} {vs : Specs V} {wt : Words W}
   ReadsPairs pairs =
       HasPairsAt wt.word ks.spec vs.spec key value (index_bytes m) (index_pos m) pairs
 
--- `e`: error of the key or the value at `index`
-abbrev pub pair_deserialize_fails : {K V H W : Type 0} {ks : Specs K} {vs : Specs V} {wt : Words W}
-    → DeserializeErrors → DeserializeErrors → ArchivedIndexMap K V H W ks vs wt → ℕ → ReadError
-    → Type 0
-pair_deserialize_fails {ks = ks} {vs} key value m index e =
-    entry_deserialize_fails ks.spec vs.spec key value (index_bytes m) (key_pos m index) e
+-- `e`: error of the pair at `index`
+abbrev pub pair_deserialize_fails : {K V H W A B : Type 0} {ks : Specs K} {vs : Specs V}
+    {wt : Words W} → DeserializeMembers A → DeserializeMembers B
+    → ArchivedIndexMap K V H W ks vs wt → ℕ → ReadError → Type 0
+pair_deserialize_fails k v m index e =
+    entry_deserialize_fails k v (index_bytes m) (key_pos m index) e
 
 module _ {A B : Type 0} (w : Width) (k : DeserializeMembers A) (v : DeserializeMembers B) where
   -- `e`: error of deserializing the pairs of the index map at `p` of `b`. It is `Memory`, unless
@@ -64,7 +64,7 @@ module _ {A B : Type 0} (w : Width) (k : DeserializeMembers A) (v : DeserializeM
       ((e ≡ Memory) × (0 < len_at w b p))
       ⊎ ((before : List (A × B)) × (length before < len_at w b p)
       × ArePairsAt w k.spec v.spec k.represents v.represents b p before
-      × entry_deserialize_fails k.spec v.spec k.deserialize_fails v.deserialize_fails b
+      × entry_deserialize_fails k v b
       (pair_at w k.spec v.spec b p (length before)) e)
 
 module _ {A : Type 0} (w : Width) (k : ElementSpec) (key : List ℕ → ℕ → A → Type 0) (b : List ℕ)

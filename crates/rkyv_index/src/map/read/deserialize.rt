@@ -21,7 +21,7 @@ impl<'a, K: Element, V: Element, H, W: IndexMapWidth> ArchivedIndexMap<'a, K, V,
         requires below { index < index_len self }
         ensures { MatchResult result
             (IsPairRead K.represents V.represents self.entry index)
-            (pair_deserialize_fails K.deserialize_fails V.deserialize_fails self.entry index) }
+            (pair_deserialize_fails K.Deserialize V.Deserialize self.entry index) }
     {
         Entry::<K, V>::deserialize(alloc, self.entry(index))
     }

@@ -4,7 +4,7 @@ use Rattle.std.specs.HashMap.{get, keys}
 use Rattle.std.specs.Map.{keys_of, lookup}
 use Rattle.std.proofs.lemmas.Result.{err_from_is_err_and}
 use Rattle.rkyv_base.specs.{PairRepresents}
-use Rattle.rkyv_keys.specs.{entry_deserialize_fails}
+use Rattle.rkyv_keys.specs.{DeserializeMembers, entry_deserialize_fails}
 use Rattle.rkyv_collections.specs.{map_archive, map_pos}
 use Rattle.rkyv_collections.proofs.StdReading.{walks_fail, walks_first, walks_last, walks_next}
 use Rattle.rkyv_collections.proofs.map.ArchivedHashMap.deserialize_std.Goals as goal
@@ -37,7 +37,9 @@ pub returns-in_err-insert_read : goal.returns-in_err-insert_read
 returns-in_err-insert_read g c =
     let on = c.loop-key.invariant in
     let step = c.in-Some.ensures.steps in
-    let fails = entry_deserialize_fails g.K.HasSpec.spec g.V.HasSpec.spec g.K.Deserialize.deserialize_fails g.V.Deserialize.deserialize_fails in
+    let k : DeserializeMembers g.row.A.Denot = record { spec = g.K.HasSpec.spec; laws = g.K.HasSpec.laws; represents = g.K.Represents.represents; deserialize_fails = g.K.Deserialize.deserialize_fails } in
+    let v : DeserializeMembers g.row.B.Denot = record { spec = g.V.HasSpec.spec; laws = g.V.HasSpec.laws; represents = g.V.Represents.represents; deserialize_fails = g.V.Deserialize.deserialize_fails } in
+    let fails = entry_deserialize_fails k v in
     let error = c.in_err-insert_read.field-0.0 in
     let p = err_from_is_err_and c.from_residual-in_err-insert_read.result c.from_residual-in_err-insert_read.ensures.1 in
     rw (p.1, p.2) (elim c.in_err-insert_read.ensures [
