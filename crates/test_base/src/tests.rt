@@ -17,7 +17,6 @@ macro_rules! expect_eq {
 
 mod access_failures;
 mod closure_writes;
-mod error_traits;
 mod errors;
 mod examples;
 mod memory;

@@ -1,21 +1,44 @@
-//! Tests of the text of each error, and of the conversions between errors.
+//! Tests of the texts of each error, and of the conversions between errors.
+
 use rkyv_base::errors::RoundTripError;
 use rkyv_base::{
-    DistanceTooLarge, IteratorLengthMismatch, NoMemory, ReadError, VerifyError, WriteError,
+    DistanceTooLarge, IteratorLengthMismatch, LimitFault, NoMemory, ReadError, VerifyError,
+    WriteError,
 };
 use std::alloc::{AllocError, Global};
-use std::fmt::Display;
+use std::error::Error;
+use std::fmt::Debug;
 
-// Returns `true` if an error is formatted as this text.
-fn shows<E: Display + Drop>(alloc: Global, error: E, text: &str) -> bool {
-    match error.to_string(alloc) {
+// Returns `true` if `Debug` formats a value as this text.
+fn is_debugged<T: Debug + Drop>(alloc: Global, value: T, text: &str) -> bool {
+    match format!(in alloc; "{value:?}") {
         Ok(shown) => shown.as_str() == text,
         Err(_) => false,
     }
 }
 
-fn write_shows(alloc: Global, error: WriteError<NoMemory>, text: &str) -> bool {
-    shows(alloc, error, text)
+// Returns `true` if an error has this message, through the trait `Error`.
+fn has_message<E: Error>(alloc: Global, error: E, text: &str) -> bool {
+    match format!(in alloc; "{error}") {
+        Ok(shown) => shown.as_str() == text,
+        Err(_) => false,
+    }
+}
+
+// Returns `true` if an error of writing has this text of `Debug` and this message.
+fn is_write_error(alloc: Global, error: WriteError<NoMemory>, debug: &str, message: &str) -> bool {
+    match format!(in alloc; "{error:?}") {
+        Ok(shown) => shown.as_str() == debug && has_message(alloc, error, message),
+        Err(_) => false,
+    }
+}
+
+// Returns `true` if an error of validation has this text of `Debug` and this message.
+fn is_verify_error(alloc: Global, error: VerifyError, debug: &str, message: &str) -> bool {
+    match format!(in alloc; "{error:?}") {
+        Ok(shown) => shown.as_str() == debug && has_message(alloc, error, message),
+        Err(_) => false,
+    }
 }
 
 fn mismatch(expected: usize, actual: usize) -> IteratorLengthMismatch {
@@ -23,118 +46,161 @@ fn mismatch(expected: usize, actual: usize) -> IteratorLengthMismatch {
 }
 
 #[test]
-fn write_errors_have_messages(rt: HostRuntime) {
+fn write_errors_have_texts(rt: HostRuntime) {
     let alloc = rt.alloc();
     let shown = [
-        write_shows(
+        is_write_error(
             alloc,
             WriteError::InvalidLoadFactor {
                 numerator: 8,
                 denominator: 7,
             },
+            "InvalidLoadFactor { numerator: 8, denominator: 7 }",
             "invalid load factor 8 / 7, load factor must be a fraction in the range (0, 1]",
         ),
-        write_shows(
+        is_write_error(
             alloc,
             WriteError::IteratorLengthMismatch(mismatch(3, 2)),
+            "IteratorLengthMismatch(IteratorLengthMismatch { expected: 3, actual: 2 })",
             "iterator claimed that it contained 3 elements, but yielded 2 items during iteration",
         ),
-        write_shows(
+        is_write_error(
             alloc,
             WriteError::CapacityTooLarge { len: 4_294_967_295 },
+            "CapacityTooLarge { len: 4294967295 }",
             "capacity too large for length 4294967295",
         ),
-        write_shows(alloc, WriteError::PositionTooLarge, "position too large"),
-        write_shows(alloc, WriteError::DistanceTooLarge, "distance too large"),
-        write_shows(alloc, WriteError::TextTooLong, "text too long"),
-        write_shows(alloc, WriteError::Writer(NoMemory), "writer fault"),
-        write_shows(alloc, WriteError::Memory, "no memory"),
-        write_shows(alloc, WriteError::Refused(5), "refused 5"),
+        is_write_error(
+            alloc,
+            WriteError::PositionTooLarge,
+            "PositionTooLarge",
+            "position too large",
+        ),
+        is_write_error(
+            alloc,
+            WriteError::DistanceTooLarge,
+            "DistanceTooLarge",
+            "distance too large",
+        ),
+        is_write_error(
+            alloc,
+            WriteError::TextTooLong,
+            "TextTooLong",
+            "text too long",
+        ),
+        is_write_error(
+            alloc,
+            WriteError::Writer(NoMemory),
+            "Writer(NoMemory)",
+            "writer fault",
+        ),
+        is_write_error(alloc, WriteError::Memory, "Memory", "no memory"),
+        is_write_error(alloc, WriteError::Refused(5), "Refused(5)", "refused 5"),
     ];
     expect_eq!(rt; shown, [true; 9]);
+}
+
+#[test]
+fn verify_errors_have_texts(rt: HostRuntime) {
+    let alloc = rt.alloc();
+    let shown = [
+        is_verify_error(
+            alloc,
+            VerifyError::OutOfRange { pos: -12, size: 9 },
+            "OutOfRange { pos: -12, size: 9 }",
+            "9 bytes at -12 are out of range",
+        ),
+        is_verify_error(
+            alloc,
+            VerifyError::Unaligned { pos: 1, align: 4 },
+            "Unaligned { pos: 1, align: 4 }",
+            "position 1 is no multiple of 4",
+        ),
+        is_verify_error(
+            alloc,
+            VerifyError::InvalidLength { len: 3, cap: 2 },
+            "InvalidLength { len: 3, cap: 2 }",
+            "hash table length must be strictly less than its capacity (length: 3, capacity: 2)",
+        ),
+        is_verify_error(
+            alloc,
+            VerifyError::WrongNumberOfElements {
+                expected: 0,
+                actual: 1,
+            },
+            "WrongNumberOfElements { expected: 0, actual: 1 }",
+            "hash table contained a different number of elements than indicated by its length (expected: 0, actual: 1)",
+        ),
+        is_verify_error(
+            alloc,
+            VerifyError::UnwrappedControlByte { index: 16 },
+            "UnwrappedControlByte { index: 16 }",
+            "unwrapped control byte at index 16",
+        ),
+        is_verify_error(
+            alloc,
+            VerifyError::PlaceOutOfRange { place: 4, len: 3 },
+            "PlaceOutOfRange { place: 4, len: 3 }",
+            "place 4 is not below 3",
+        ),
+        is_verify_error(
+            alloc,
+            VerifyError::InvalidValue { pos: 12 },
+            "InvalidValue { pos: 12 }",
+            "invalid value at 12",
+        ),
+        is_verify_error(alloc, VerifyError::Refused(0), "Refused(0)", "refused 0"),
+    ];
+    expect_eq!(rt; shown, [true; 8]);
+}
+
+#[test]
+fn other_errors_have_texts(rt: HostRuntime) {
+    let alloc = rt.alloc();
+    let text =
+        "iterator claimed that it contained 2 elements, but yielded 3 items during iteration";
+    let debugged = [
+        is_debugged(alloc, ReadError::Memory, "Memory"),
+        is_debugged(alloc, ReadError::Refused(7), "Refused(7)"),
+        is_debugged(
+            alloc,
+            mismatch(2, 3),
+            "IteratorLengthMismatch { expected: 2, actual: 3 }",
+        ),
+        is_debugged(alloc, DistanceTooLarge, "DistanceTooLarge"),
+        is_debugged(alloc, NoMemory, "NoMemory"),
+        is_debugged::<LimitFault<NoMemory>>(alloc, LimitFault::Full, "Full"),
+        is_debugged(alloc, LimitFault::Inner(NoMemory), "Inner(NoMemory)"),
+    ];
+    let messages = [
+        has_message(alloc, ReadError::Memory, "no memory"),
+        has_message(alloc, ReadError::Refused(7), "refused 7"),
+        has_message(alloc, mismatch(2, 3), text),
+        has_message(
+            alloc,
+            WriteError::Writer(LimitFault::Inner(NoMemory)),
+            "writer fault",
+        ),
+    ];
+    expect_eq!(rt; (debugged, messages), ([true; 7], [true; 4]));
 }
 
 #[test]
 fn errors_are_converted(rt: HostRuntime) {
     let alloc = rt.alloc();
     let too_long: WriteError<NoMemory> = WriteError::TextTooLong;
+    let from_memory: WriteError<NoMemory> = WriteError::from(AllocError);
+    let from_distance: WriteError<NoMemory> = WriteError::from(DistanceTooLarge);
     let shown = [
-        write_shows(alloc, WriteError::from(AllocError), "no memory"),
-        write_shows(
-            alloc,
-            WriteError::from(DistanceTooLarge),
-            "distance too large",
-        ),
-        shows(alloc, ReadError::from(AllocError), "no memory"),
-        shows(alloc, RoundTripError::from(too_long), "text too long"),
-        shows(
+        has_message(alloc, from_memory, "no memory"),
+        has_message(alloc, from_distance, "distance too large"),
+        has_message(alloc, ReadError::from(AllocError), "no memory"),
+        has_message(alloc, RoundTripError::from(too_long), "text too long"),
+        has_message(
             alloc,
             RoundTripError::from(ReadError::Refused(5)),
             "refused 5",
         ),
     ];
     expect_eq!(rt; shown, [true; 5]);
-}
-
-#[test]
-fn verify_errors_have_messages(rt: HostRuntime) {
-    let alloc = rt.alloc();
-    let shown = [
-        shows(
-            alloc,
-            VerifyError::OutOfRange { pos: -12, size: 9 },
-            "9 bytes at -12 are out of range",
-        ),
-        shows(
-            alloc,
-            VerifyError::Unaligned { pos: 1, align: 4 },
-            "position 1 is no multiple of 4",
-        ),
-        shows(
-            alloc,
-            VerifyError::InvalidLength { len: 3, cap: 2 },
-            "hash table length must be strictly less than its capacity (length: 3, capacity: 2)",
-        ),
-        shows(
-            alloc,
-            VerifyError::WrongNumberOfElements {
-                expected: 0,
-                actual: 1,
-            },
-            "hash table contained a different number of elements than indicated by its length (expected: 0, actual: 1)",
-        ),
-        shows(
-            alloc,
-            VerifyError::UnwrappedControlByte { index: 16 },
-            "unwrapped control byte at index 16",
-        ),
-        shows(
-            alloc,
-            VerifyError::PlaceOutOfRange { place: 4, len: 3 },
-            "place 4 is not below 3",
-        ),
-        shows(
-            alloc,
-            VerifyError::InvalidValue { pos: 12 },
-            "invalid value at 12",
-        ),
-        shows(alloc, VerifyError::Refused(0), "refused 0"),
-    ];
-    expect_eq!(rt; shown, [true; 8]);
-}
-
-#[test]
-fn read_errors_have_messages(rt: HostRuntime) {
-    let shown = [
-        shows(rt.alloc(), ReadError::Memory, "no memory"),
-        shows(rt.alloc(), ReadError::Refused(7), "refused 7"),
-    ];
-    expect_eq!(rt; shown, [true; 2]);
-}
-
-#[test]
-fn a_mismatch_has_a_message(rt: HostRuntime) {
-    let text =
-        "iterator claimed that it contained 2 elements, but yielded 3 items during iteration";
-    assert!(rt; shows(rt.alloc(), mismatch(2, 3), text));
 }
