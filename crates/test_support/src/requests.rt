@@ -77,6 +77,62 @@ pub fn max_requests(items: usize, len: usize) -> usize {
     }
 }
 
+/// A write of a number of items under a claimed length, with a load factor.
+///
+/// It returns the outcome, and the number of calls of the iterator.
+pub type CountedWrite = fn(Global, usize, usize, (usize, usize)) -> (Outcome, usize);
+
+/// Writes up to five items under claimed lengths of up to three: 24 writes.
+///
+/// Returns how many of them have the expected outcome and make no surplus call of the iterator.
+///
+/// # Requires
+///
+/// - `write` can be called with any arguments.
+pub fn right_writes(alloc: Global, write: CountedWrite) -> usize
+    requires { CountedWrite.IsAlwaysCallable write }
+{
+    let mut right = 0usize;
+    for len in 0..4 {
+        for items in 0..6 {
+            let (outcome, requests) = write(alloc, items, len, (7, 8));
+            if outcome == expected_outcome(items, len) && requests <= max_requests(items, len) {
+                right = right.wrapping_add(1);
+            }
+        }
+    }
+    right
+}
+
+/// Returns the outcomes of writes whose iterator ends early, in time, late or never, and of one
+/// whose load factor is invalid.
+///
+/// # Requires
+///
+/// - `write` can be called with any arguments.
+pub fn writes_at_the_end(alloc: Global, write: CountedWrite) -> [(Outcome, usize); 5]
+    requires { CountedWrite.IsAlwaysCallable write }
+{
+    [
+        write(alloc, 2, 3, (7, 8)),
+        write(alloc, 1, 0, (7, 8)),
+        write(alloc, usize::MAX, 2, (7, 8)),
+        write(alloc, 0, 0, (7, 8)),
+        write(alloc, 1, 1, (8, 7)),
+    ]
+}
+
+/// Returns the expected outcomes of `writes_at_the_end`.
+pub fn expected_at_the_end() -> [(Outcome, usize); 5] {
+    [
+        (Outcome::Mismatch(3, 2), 3),
+        (Outcome::Mismatch(0, 1), 1),
+        (Outcome::Mismatch(2, 3), 3),
+        (Outcome::Written, 1),
+        (Outcome::LoadFactor(8, 7), 0),
+    ]
+}
+
 /// Writes a table of items and hashes under the claimed length `len`.
 ///
 /// Returns the outcome, and the numbers of calls of the two iterators.

@@ -7,7 +7,9 @@ use rkyv_scan::hash::FxHasher64;
 use std::alloc::Global;
 use std::cell::Cell;
 use std::iter;
-use test_support::requests::{Outcome, expected_outcome, max_requests, outcome_of, yields_next};
+use test_support::requests::{
+    Outcome, expected_at_the_end, outcome_of, right_writes, writes_at_the_end, yields_next,
+};
 
 type Numbers = ArchivedIndexMap<'static, i8, i8, FxHasher64, Narrow>;
 
@@ -52,54 +54,22 @@ fn requests_of_set(
     (outcome_of(outcome, &writer), requests.get())
 }
 
-// Writes index maps and sets of up to five items under claimed lengths of up to three.
-// Returns the numbers of maps and of sets with the expected result and without a surplus call.
-fn right_of_both(alloc: Global) -> (usize, usize) {
-    let (mut maps, mut sets) = (0usize, 0usize);
-    for len in 0..4 {
-        for items in 0..6 {
-            let (expected_outcome, most) = (expected_outcome(items, len), max_requests(items, len));
-            let (map, map_requests) = requests_of_map(alloc, items, len, (7, 8));
-            if map == expected_outcome && map_requests <= most {
-                maps = maps.wrapping_add(1);
-            }
-            let (set, set_requests) = requests_of_set(alloc, items, len, (7, 8));
-            if set == expected_outcome && set_requests <= most {
-                sets = sets.wrapping_add(1);
-            }
-        }
-    }
-    (maps, sets)
-}
-
 #[test]
 fn iterators_are_called_at_most_len_plus_one_times(rt: HostRuntime) {
-    expect_eq!(rt; right_of_both(rt.alloc()), (4 * 6, 4 * 6));
+    let alloc = rt.alloc();
+    let right = (
+        right_writes(alloc, requests_of_map),
+        right_writes(alloc, requests_of_set),
+    );
+    expect_eq!(rt; right, (24, 24));
 }
 
 #[test]
 fn no_call_follows_the_end_or_an_extra_item(rt: HostRuntime) {
-    let (all, alloc, usual) = (usize::MAX, rt.alloc(), (7, 8));
-    let maps = [
-        requests_of_map(alloc, 2, 3, usual),
-        requests_of_map(alloc, 1, 0, usual),
-        requests_of_map(alloc, all, 2, usual),
-        requests_of_map(alloc, 0, 0, usual),
-        requests_of_map(alloc, 1, 1, (8, 7)),
-    ];
-    let sets = [
-        requests_of_set(alloc, 2, 3, usual),
-        requests_of_set(alloc, 1, 0, usual),
-        requests_of_set(alloc, all, 2, usual),
-        requests_of_set(alloc, 0, 0, usual),
-        requests_of_set(alloc, 1, 1, (8, 7)),
-    ];
-    let expected_outcome = [
-        (Outcome::Mismatch(3, 2), 3),
-        (Outcome::Mismatch(0, 1), 1),
-        (Outcome::Mismatch(2, 3), 3),
-        (Outcome::Written, 1),
-        (Outcome::LoadFactor(8, 7), 0),
-    ];
-    expect_eq!(rt; (maps, sets), (expected_outcome, expected_outcome));
+    let alloc = rt.alloc();
+    let outcomes = (
+        writes_at_the_end(alloc, requests_of_map),
+        writes_at_the_end(alloc, requests_of_set),
+    );
+    expect_eq!(rt; outcomes, (expected_at_the_end(), expected_at_the_end()));
 }
