@@ -14,7 +14,7 @@ use crate::building::Pairs;
 use rkyv_base::archive::{Archive, ResolveResult, Serialize, WriteResult};
 use rkyv_base::element::Represents;
 use rkyv_base::writer::Writer;
-use rkyv_index::width::IndexMapWidth;
+use rkyv_index::width::IndexWidth;
 use rkyv_index::{ArchivedIndexMap, IndexMapOf, IndexMapResolver};
 use rkyv_keys::keys::{KeyElement, NativeKey};
 use rkyv_scan::hash::KeyHasher;
@@ -26,7 +26,7 @@ pub(crate) struct IndexPairs<'a, A, B, H>(pub(crate) Pairs<'a, A, B, H>);
 
 impl<
     'a,
-    W: IndexMapWidth,
+    W: IndexWidth,
     H: KeyHasher,
     A,
     B,
@@ -41,7 +41,7 @@ impl<
         K.key K.local V.local (zip x.0.keys.now x.0.values.now) };
 }
 
-impl<'a, W: IndexMapWidth, H: KeyHasher, A: Archive<W>, B: Archive<W>> Archive<W>
+impl<'a, W: IndexWidth, H: KeyHasher, A: Archive<W>, B: Archive<W>> Archive<W>
     for IndexPairs<'a, A, B, H>
 where
     A::Archived: KeyElement,
@@ -76,7 +76,7 @@ where
 impl<
     'a,
     S: Writer,
-    W: IndexMapWidth,
+    W: IndexWidth,
     H: KeyHasher,
     A: Serialize<S, W> + Copy,
     B: Serialize<S, W> + Copy,

@@ -14,14 +14,14 @@ use crate::status::{DONE, NOT_FOUND};
 use rkyv_base::access::{access_in, access_unchecked};
 use rkyv_base::element::{Element, Represents};
 use rkyv_index::map::laws::lookups_find_listed;
-use rkyv_index::width::IndexMapWidth;
+use rkyv_index::width::IndexWidth;
 use rkyv_index::{ArchivedIndexMap, IndexMapOf};
 use rkyv_keys::keys::{KeyElement, NativeKey};
 use rkyv_scan::hash::FxHasher64;
 use rkyv_table::table::decoded::Decoded;
 
 /// Validates the archive of an index map, and returns the first error, if there is one.
-pub(crate) fn explain_index<K: Element, V: Element, W: IndexMapWidth>(archive: &[u8]) -> Explanation
+pub(crate) fn explain_index<K: Element, V: Element, W: IndexWidth>(archive: &[u8]) -> Explanation
     ensures { Explains W.LIMIT (index_map W.word K.spec V.spec) archive.now result }
 {
     match access_in::<W, IndexMapOf<K, V, FxHasher64, W>>(archive) {
@@ -31,7 +31,7 @@ pub(crate) fn explain_index<K: Element, V: Element, W: IndexMapWidth>(archive: &
 }
 
 /// Returns the decoded header of the index map in a valid archive.
-pub(crate) fn index_header_of<K: Element, V: Element, W: IndexMapWidth>(archive: &[u8]) -> Decoded
+pub(crate) fn index_header_of<K: Element, V: Element, W: IndexWidth>(archive: &[u8]) -> Decoded
     requires { IsIndexArchive W.word W.LIMIT K.spec V.spec archive.now }
     ensures { IsHeaderOf (index_in W.word K.spec V.spec archive.now) result }
 {
@@ -42,7 +42,7 @@ pub(crate) fn index_header_of<K: Element, V: Element, W: IndexMapWidth>(archive:
 ///
 /// Its clauses are the conditions of calls that read values. A caller then has them as facts.
 #[inline]
-pub(crate) fn typed_index_header<K: Element, V: Element, W: IndexMapWidth>(
+pub(crate) fn typed_index_header<K: Element, V: Element, W: IndexWidth>(
     archive: &[u8],
     header: &Decoded,
 ) -> Decoded
@@ -56,7 +56,7 @@ pub(crate) fn typed_index_header<K: Element, V: Element, W: IndexMapWidth>(
 
 /// Returns the index map in a valid archive, by its decoded header.
 #[inline]
-pub(crate) fn index_of<'a, K: Element, V: Element, W: IndexMapWidth>(
+pub(crate) fn index_of<'a, K: Element, V: Element, W: IndexWidth>(
     archive: &'a [u8],
     header: &Decoded,
 ) -> ArchivedIndexMap<'a, K, V, FxHasher64, W>
@@ -82,7 +82,7 @@ pub(crate) fn find_in<
     I: IndexedOf<Y>,
     K: KeyElement + Represents<A>,
     V: ReadAs<'a, Y> + StoresNative<Y, B>,
-    W: IndexMapWidth,
+    W: IndexWidth,
 >(archive: &'a [u8], header: &Decoded, key: &A, found: &mut I) -> u32
     requires archive { IsIndexArchive W.word W.LIMIT K.spec V.spec archive.now }
     requires header { IsHeaderOf (index_in W.word K.spec V.spec archive.now) header.now }
@@ -109,7 +109,7 @@ pub(crate) fn find_in<
 
 /// Returns the pair at an index of a map, or `None` if the index isn't below the length.
 #[inline]
-fn pair_of<'a, X, Y, K: ReadAs<'a, X>, V: ReadAs<'a, Y>, W: IndexMapWidth>(
+fn pair_of<'a, X, Y, K: ReadAs<'a, X>, V: ReadAs<'a, Y>, W: IndexWidth>(
     map: ArchivedIndexMap<'a, K, V, FxHasher64, W>,
     index: usize,
 ) -> Option<Pair<X, Y>>
@@ -133,7 +133,7 @@ pub(crate) fn pairs_in<
     P: PairOf<X, Y>,
     K: KeyElement + ReadAs<'a, X> + StoresNative<X, A>,
     V: ReadAs<'a, Y> + StoresNative<Y, B>,
-    W: IndexMapWidth,
+    W: IndexWidth,
 >(archive: &'a [u8], header: &Decoded, from: usize, pairs: &mut [P]) -> usize
     requires archive { IsIndexArchive W.word W.LIMIT K.spec V.spec archive.now }
     requires header { IsHeaderOf (index_in W.word K.spec V.spec archive.now) header.now }

@@ -13,7 +13,7 @@ use rkyv_base::element::Represents;
 use rkyv_index::IndexMapOf;
 use rkyv_index::map::in_place::set_value_at;
 use rkyv_index::map::laws::lookups_find_listed;
-use rkyv_index::width::IndexMapWidth;
+use rkyv_index::width::IndexWidth;
 use rkyv_keys::keys::{KeyElement, NativeKey};
 use rkyv_scan::hash::FxHasher64;
 
@@ -23,7 +23,7 @@ fn index_found_in<
     B,
     K: KeyElement + Represents<A>,
     V: Represents<B>,
-    W: IndexMapWidth,
+    W: IndexWidth,
 >(archive: &[u8], key: &A) -> Option<usize>
     requires archive { IsIndexArchive W.word W.LIMIT K.spec V.spec archive.now }
     requires query { A.can_read key.now }
@@ -51,7 +51,7 @@ pub(crate) fn set_indexed_in<
     A: NativeKey<K>,
     K: KeyElement + Represents<A>,
     V: Value,
-    W: IndexMapWidth,
+    W: IndexWidth,
 >(archive: &mut [u8], key: &A, value: u64) -> u32
     requires archive { IsIndexArchive W.word W.LIMIT K.spec V.spec archive.old }
     requires query { A.can_read key.now }

@@ -15,11 +15,11 @@ use crate::{number_items, text_items};
 use rkyv_base::root::to_bytes_in;
 use rkyv_base::width::{Narrow, Wide};
 use rkyv_index::OrderedPairs;
-use rkyv_index::width::IndexMapWidth;
+use rkyv_index::width::IndexWidth;
 use std::alloc::Global;
 
 /// Writes the archive of the items as an index map, in their order, under the load factor 7 / 8.
-fn numbers_in<K: NumberKey, V: Value, W: IndexMapWidth, P: PairOf<K, u64>>(
+fn numbers_in<K: NumberKey, V: Value, W: IndexWidth, P: PairOf<K, u64>>(
     alloc: Global,
     items: &[P],
 ) -> Result<Vec<u8>, u32>
@@ -72,7 +72,7 @@ pub fn build_index_numbers<K: NumberKey, P: PairOf<K, u64>>(
 }
 
 /// Writes the archive of the items as an index map, in their order, under the load factor 7 / 8.
-fn texts_in<'a, V: Value, W: IndexMapWidth, P: PairOf<&'a [u8], u64>>(
+fn texts_in<'a, V: Value, W: IndexWidth, P: PairOf<&'a [u8], u64>>(
     alloc: Global,
     items: &[P],
 ) -> Result<Vec<u8>, u32>

@@ -14,11 +14,11 @@ use crate::{numbers_to_texts_items, texts_to_texts_items};
 use rkyv_base::root::to_bytes_in;
 use rkyv_base::width::{Narrow, Wide};
 use rkyv_index::OrderedPairs;
-use rkyv_index::width::IndexMapWidth;
+use rkyv_index::width::IndexWidth;
 use std::alloc::Global;
 
 /// Writes the archive of the items as an index map, in their order, under the load factor 7 / 8.
-fn number_texts_in<'a, K: NumberKey, W: IndexMapWidth, P: PairOf<K, &'a [u8]>>(
+fn number_texts_in<'a, K: NumberKey, W: IndexWidth, P: PairOf<K, &'a [u8]>>(
     alloc: Global,
     items: &[P],
 ) -> Result<Vec<u8>, u32>
@@ -70,7 +70,7 @@ pub fn build_index_numbers_to_texts<'a, K: NumberKey, P: PairOf<K, &'a [u8]>>(
 }
 
 /// Writes the archive of the items as an index map, in their order, under the load factor 7 / 8.
-fn text_texts_in<'a, W: IndexMapWidth, P: PairOf<&'a [u8], &'a [u8]>>(
+fn text_texts_in<'a, W: IndexWidth, P: PairOf<&'a [u8], &'a [u8]>>(
     alloc: Global,
     items: &[P],
 ) -> Result<Vec<u8>, u32>

@@ -9,7 +9,7 @@ use rkyv_base::element::Represents;
 use rkyv_base::width::Width;
 use rkyv_collections::map::laws::walks_visit_each;
 use rkyv_collections::{FxHasher64, KeyElement, NativeKey};
-use rkyv_index::width::IndexMapWidth;
+use rkyv_index::width::IndexWidth;
 
 /// States that a walk over an archive of a list visits each pair's home bucket once, and no other.
 ///
@@ -44,7 +44,7 @@ where
 {}
 
 /// States that an index map that is written from a list of pairs is valid, and represents the list.
-pub fn indexes_represent_their_lists<A, B, K, V, W: IndexMapWidth>()
+pub fn indexes_represent_their_lists<A, B, K, V, W: IndexWidth>()
 where
     A: NativeKey<K> + Archive<W, Archived = K>,
     B: Archive<W, Archived = V>,

@@ -38,4 +38,4 @@ pub use rkyv_scan::hash::{FxHasher64, FxHasher64Wide, KeyHasher};
 pub use rkyv_table::Strides;
 pub use set::write::IndexSetResolver;
 pub use set::{ArchivedIndexSet, IndexSetOf};
-pub use width::IndexMapWidth;
+pub use width::IndexWidth;

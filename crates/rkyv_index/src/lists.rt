@@ -18,7 +18,7 @@ use crate::map::write::resolve::IndexMapResolver;
 use crate::map::{ArchivedIndexMap, IndexMapOf};
 use crate::set::write::IndexSetResolver;
 use crate::set::{ArchivedIndexSet, IndexSetOf};
-use crate::width::IndexMapWidth;
+use crate::width::IndexWidth;
 use rkyv_base::archive::{Archive, ResolveResult, Serialize, WriteResult};
 use rkyv_base::element::Represents;
 use rkyv_base::writer::Writer;
@@ -44,7 +44,7 @@ use std::alloc::Global;
 #[derive(Drop)]
 pub struct OrderedPairs<K, V>(pub Vec<(K, V)>);
 
-impl<W: IndexMapWidth, A, B, K: KeyElement + Represents<A>, V: Represents<B>> Represents<
+impl<W: IndexWidth, A, B, K: KeyElement + Represents<A>, V: Represents<B>> Represents<
     OrderedPairs<A, B>,
 > for IndexMapOf<K, V, FxHasher64, W> {
     ghost represents = { RepresentsAs (λ x. x.0.items)
@@ -57,7 +57,7 @@ impl<W: IndexMapWidth, A, B, K: KeyElement + Represents<A>, V: Represents<B>> Re
         K.key K.local V.local x.0.items };
 }
 
-impl<W: IndexMapWidth, A: Archive<W>, B: Archive<W>> Archive<W> for OrderedPairs<A, B>
+impl<W: IndexWidth, A: Archive<W>, B: Archive<W>> Archive<W> for OrderedPairs<A, B>
 where
     A::Archived: KeyElement,
     A: NativeKey<A::Archived>,
@@ -91,7 +91,7 @@ where
         A.Archive.laws B.laws)) };
 }
 
-impl<S: Writer, W: IndexMapWidth, A: Serialize<S, W>, B: Serialize<S, W>> Serialize<S, W>
+impl<S: Writer, W: IndexWidth, A: Serialize<S, W>, B: Serialize<S, W>> Serialize<S, W>
     for OrderedPairs<A, B>
 where
     A::Archived: KeyElement,
@@ -126,7 +126,7 @@ where
 #[derive(Drop)]
 pub struct OrderedItems<K>(pub Vec<K>);
 
-impl<W: IndexMapWidth, A, K: KeyElement + Represents<A>> Represents<OrderedItems<A>>
+impl<W: IndexWidth, A, K: KeyElement + Represents<A>> Represents<OrderedItems<A>>
     for IndexSetOf<K, FxHasher64, W> {
     ghost represents = { RepresentsAs (λ x. x.0.items)
         (IndexSetRepresents W.word K.spec K.represents
@@ -137,7 +137,7 @@ impl<W: IndexMapWidth, A, K: KeyElement + Represents<A>> Represents<OrderedItems
         K.key K.local x.0.items };
 }
 
-impl<W: IndexMapWidth, A: Archive<W>> Archive<W> for OrderedItems<A>
+impl<W: IndexWidth, A: Archive<W>> Archive<W> for OrderedItems<A>
 where
     A::Archived: KeyElement,
     A: NativeKey<A::Archived>,
@@ -168,7 +168,7 @@ where
         A.query A.native A.Eq.laws.refl A.reads A.Archive.laws)) };
 }
 
-impl<S: Writer, W: IndexMapWidth, A: Serialize<S, W>> Serialize<S, W> for OrderedItems<A>
+impl<S: Writer, W: IndexWidth, A: Serialize<S, W>> Serialize<S, W> for OrderedItems<A>
 where
     A::Archived: KeyElement,
     A: NativeKey<A::Archived>,

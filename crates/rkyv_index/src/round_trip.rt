@@ -9,7 +9,7 @@ use crate::map::laws::pairs_read_back_are_listed;
 use crate::map::{ArchivedIndexMap, IndexMapOf};
 use crate::set::laws::items_read_back_are_listed;
 use crate::set::{ArchivedIndexSet, IndexSetOf};
-use crate::width::IndexMapWidth;
+use crate::width::IndexWidth;
 use rkyv_base::access::access_in;
 use rkyv_base::archive::{Archive, Serialize};
 pub use rkyv_base::errors::RoundTripError;
@@ -31,7 +31,7 @@ use std::alloc::Global;
 /// - `RoundTripError::Write`: the error of `to_bytes_in`.
 /// - `RoundTripError::Read`: the error of `deserialize_pairs`.
 pub fn pairs_round_trip<
-    W: IndexMapWidth,
+    W: IndexWidth,
     A: Serialize<VecWriter, W> + Drop,
     B: Serialize<VecWriter, W> + PartialEq + Drop,
 >(alloc: Global, pairs: &OrderedPairs<A, B>) -> Result<bool, RoundTripError>
@@ -66,7 +66,7 @@ where
 ///
 /// - `RoundTripError::Write`: the error of `to_bytes_in`.
 /// - `RoundTripError::Read`: the error of `deserialize_items`.
-pub fn items_round_trip<W: IndexMapWidth, A: Serialize<VecWriter, W> + Drop>(
+pub fn items_round_trip<W: IndexWidth, A: Serialize<VecWriter, W> + Drop>(
     alloc: Global,
     items: &OrderedItems<A>,
 ) -> Result<bool, RoundTripError>

@@ -14,7 +14,7 @@ use rkyv_base::width::{Narrow, Wide, Width};
 /// A width whose numbers can be indices of entries.
 ///
 /// The code of an encoded number is that number.
-pub trait IndexMapWidth: Width {
+pub trait IndexWidth: Width {
     /// The element of an index in an index map: a number of one word.
     type Index: Scalar;
 
@@ -32,7 +32,7 @@ pub trait IndexMapWidth: Width {
     ghost reads_back: { CodesReadBack Self.Index.encoding };
 }
 
-impl IndexMapWidth for Narrow {
+impl IndexWidth for Narrow {
     type Index = u32;
 
     #[inline]
@@ -45,7 +45,7 @@ impl IndexMapWidth for Narrow {
     ghost reads_back = { λ n. refl };
 }
 
-impl IndexMapWidth for Wide {
+impl IndexWidth for Wide {
     type Index = u64;
 
     #[inline]

@@ -13,7 +13,7 @@ use crate::table_regions::{Buckets, IndexItem};
 use rkyv_base::element::Element;
 use rkyv_base::entry::Entry;
 use rkyv_base::view::View;
-use rkyv_index::width::IndexMapWidth;
+use rkyv_index::width::IndexWidth;
 use rkyv_index::{ArchivedIndexMap, IndexMapOf};
 use std::alloc::{AllocError, Global};
 
@@ -26,7 +26,7 @@ use std::alloc::{AllocError, Global};
 /// # Errors
 ///
 /// - A text or the list fails to allocate.
-fn add_parts<K: Field, V: Field, H, W: IndexMapWidth>(
+fn add_parts<K: Field, V: Field, H, W: IndexWidth>(
     alloc: Global,
     root: View<'_, IndexMapOf<K, V, H, W>>,
     list: &mut RegionList,
@@ -52,7 +52,7 @@ fn add_parts<K: Field, V: Field, H, W: IndexMapWidth>(
 }
 
 /// Returns the position of the entry at an index of the map.
-fn entry_pos<K: Field, V: Field, H, W: IndexMapWidth>(
+fn entry_pos<K: Field, V: Field, H, W: IndexWidth>(
     map: ArchivedIndexMap<'_, K, V, H, W>,
     index: usize,
 ) -> usize
@@ -75,7 +75,7 @@ fn entry_pos<K: Field, V: Field, H, W: IndexMapWidth>(
 /// # Errors
 ///
 /// - A text or the list fails to allocate.
-fn add_entries<K: Field, V: Field, H, W: IndexMapWidth>(
+fn add_entries<K: Field, V: Field, H, W: IndexWidth>(
     alloc: Global,
     root: View<'_, IndexMapOf<K, V, H, W>>,
     list: &mut RegionList,
@@ -113,7 +113,7 @@ fn add_entries<K: Field, V: Field, H, W: IndexMapWidth>(
 /// # Errors
 ///
 /// - A text or the list fails to allocate.
-pub fn index_regions<K: Field, V: Field, H, W: IndexMapWidth>(
+pub fn index_regions<K: Field, V: Field, H, W: IndexWidth>(
     alloc: Global,
     root: View<'_, IndexMapOf<K, V, H, W>>,
 ) -> Result<Vec<Region>, AllocError>

@@ -12,7 +12,7 @@ use crate::map_summary::{controls_of, most_strides};
 use crate::summary::{Lookups, Summary};
 use rkyv_base::element::Element;
 use rkyv_base::view::View;
-use rkyv_index::width::IndexMapWidth;
+use rkyv_index::width::IndexWidth;
 use rkyv_index::{ArchivedIndexMap, IndexMapOf};
 use rkyv_keys::keys::KeyElement;
 use rkyv_scan::hash::KeyHasher;
@@ -20,7 +20,7 @@ use rkyv_table::Strides;
 use std::alloc::{AllocError, Global};
 
 /// Returns the key at an index of the map.
-fn key_at<'a, K: KeyElement, V: Element, H: KeyHasher, W: IndexMapWidth>(
+fn key_at<'a, K: KeyElement, V: Element, H: KeyHasher, W: IndexWidth>(
     map: ArchivedIndexMap<'a, K, V, H, W>,
     index: usize,
 ) -> View<'a, K>
@@ -34,7 +34,7 @@ fn key_at<'a, K: KeyElement, V: Element, H: KeyHasher, W: IndexMapWidth>(
 }
 
 /// Returns the number of strides that a lookup of the key at an index of the map reads.
-fn strides_of<K: KeyElement, V: Element, H: KeyHasher, W: IndexMapWidth>(
+fn strides_of<K: KeyElement, V: Element, H: KeyHasher, W: IndexWidth>(
     map: ArchivedIndexMap<'_, K, V, H, W>,
     index: usize,
 ) -> usize
@@ -65,7 +65,7 @@ fn strides_of<K: KeyElement, V: Element, H: KeyHasher, W: IndexMapWidth>(
 /// # Requires
 ///
 /// - `capacity` is the number of buckets.
-fn strides_histogram<K: KeyElement, V: Element, H: KeyHasher, W: IndexMapWidth>(
+fn strides_histogram<K: KeyElement, V: Element, H: KeyHasher, W: IndexWidth>(
     alloc: Global,
     map: ArchivedIndexMap<'_, K, V, H, W>,
     capacity: usize,
@@ -88,7 +88,7 @@ fn strides_histogram<K: KeyElement, V: Element, H: KeyHasher, W: IndexMapWidth>(
 /// # Requires
 ///
 /// - `capacity` is the number of buckets.
-fn index_lookups<K: KeyElement, V: Element, H: KeyHasher, W: IndexMapWidth>(
+fn index_lookups<K: KeyElement, V: Element, H: KeyHasher, W: IndexWidth>(
     alloc: Global,
     map: ArchivedIndexMap<'_, K, V, H, W>,
     capacity: usize,
@@ -118,7 +118,7 @@ fn index_lookups<K: KeyElement, V: Element, H: KeyHasher, W: IndexMapWidth>(
 /// # Errors
 ///
 /// - The histogram fails to allocate.
-pub fn index_summary<K: KeyElement, V: Element, H: KeyHasher, W: IndexMapWidth>(
+pub fn index_summary<K: KeyElement, V: Element, H: KeyHasher, W: IndexWidth>(
     alloc: Global,
     root: View<'_, IndexMapOf<K, V, H, W>>,
     limit: u64,

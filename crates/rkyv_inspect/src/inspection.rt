@@ -16,7 +16,7 @@ use rkyv_base::width::{Narrow, Wide};
 use rkyv_collections::map::HashMapOf;
 use rkyv_container::contents::{Contents, ItemType, Kind, Width};
 use rkyv_index::IndexMapOf;
-use rkyv_index::width::IndexMapWidth;
+use rkyv_index::width::IndexWidth;
 use rkyv_keys::keys::KeyElement;
 use rkyv_scan::hash::FxHasher64;
 use std::alloc::Global;
@@ -33,7 +33,7 @@ pub struct Inspection {
 }
 
 /// Inspects the archive of a hash map.
-fn inspect_hash_map<K: KeyElement + Field, V: Field, W: IndexMapWidth>(
+fn inspect_hash_map<K: KeyElement + Field, V: Field, W: IndexWidth>(
     alloc: Global,
     archive: &[u8],
     contents: Contents,
@@ -54,7 +54,7 @@ fn inspect_hash_map<K: KeyElement + Field, V: Field, W: IndexMapWidth>(
 }
 
 /// Inspects the archive of an index map.
-fn inspect_index_map<K: KeyElement + Field, V: Field, W: IndexMapWidth>(
+fn inspect_index_map<K: KeyElement + Field, V: Field, W: IndexWidth>(
     alloc: Global,
     archive: &[u8],
     contents: Contents,
@@ -75,7 +75,7 @@ fn inspect_index_map<K: KeyElement + Field, V: Field, W: IndexMapWidth>(
 }
 
 /// Inspects the archive of a map with keys and values of these types. A set is such a map too.
-fn inspect_kind<K: KeyElement + Field, V: Field, W: IndexMapWidth>(
+fn inspect_kind<K: KeyElement + Field, V: Field, W: IndexWidth>(
     alloc: Global,
     archive: &[u8],
     contents: Contents,
@@ -94,7 +94,7 @@ fn inspect_kind<K: KeyElement + Field, V: Field, W: IndexMapWidth>(
 }
 
 /// Inspects the archive of a collection with keys of this type.
-fn inspect_keys<K: KeyElement + Field, W: IndexMapWidth>(
+fn inspect_keys<K: KeyElement + Field, W: IndexWidth>(
     alloc: Global,
     archive: &[u8],
     contents: Contents,
@@ -113,7 +113,7 @@ fn inspect_keys<K: KeyElement + Field, W: IndexMapWidth>(
 }
 
 /// Inspects the archive of a collection in this width.
-fn inspect_width<W: IndexMapWidth>(
+fn inspect_width<W: IndexWidth>(
     alloc: Global,
     archive: &[u8],
     contents: Contents,

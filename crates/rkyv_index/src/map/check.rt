@@ -12,17 +12,18 @@ ghost use Rattle.rkyv_table.specs.{AreValid, FirstFails, item_positions, len_at,
 ghost use Rattle.rkyv_index.specs.{AreBelow, EntriesFail, EntriesIn, FirstNotBelow, IndicesBelow};
 ghost use Rattle.rkyv_index.specs.{decode_entries, entry_at, indices_of, stored_index_spec};
 
-use crate::width::IndexMapWidth;
+use crate::width::IndexWidth;
 use rkyv_base::element::{Element, PartRange};
 use rkyv_base::errors::VerifyError;
 use rkyv_base::part::{distance_target, part_in};
 use rkyv_base::view::View;
+use rkyv_base::width::Width;
 use rkyv_table::table::ArchivedHashTable;
 use rkyv_table::table::decoded::Decoded;
 
 /// Returns the position of the last bucket, at which the buckets begin, or 0 without buckets.
 #[inline]
-fn buckets_begin<W: IndexMapWidth>(header: Decoded) -> usize
+fn buckets_begin<W: Width>(header: Decoded) -> usize
     requires { 0 < header.cap → header.cap * byte_len W.word ≤ header.controls_pos }
     ensures none { header.cap ≡ 0 → result ≡ 0 }
     ensures some { 0 < header.cap
@@ -45,7 +46,7 @@ fn and_below(below: bool, index: u64, len: usize) -> bool
 /// Returns `true` only if each of the `count` indices from `begin` on is below `len`.
 ///
 /// All of them are read, without a branch for each.
-fn all_below<W: IndexMapWidth>(bytes: &[u8], begin: usize, count: usize, len: usize) -> bool
+fn all_below<W: Width>(bytes: &[u8], begin: usize, count: usize, len: usize) -> bool
     requires { begin + count * byte_len W.word ≤ length bytes.now }
     ensures { result ≡ true → AreBelow W.word bytes.now begin count len }
 {
@@ -68,7 +69,7 @@ fn all_below<W: IndexMapWidth>(bytes: &[u8], begin: usize, count: usize, len: us
 /// # Errors
 ///
 /// - `PlaceOutOfRange`: the first index that isn't below the length.
-pub(crate) fn check_indices<W: IndexMapWidth>(bytes: &[u8], pos: u64) -> Result<usize, VerifyError>
+pub(crate) fn check_indices<W: IndexWidth>(bytes: &[u8], pos: u64) -> Result<usize, VerifyError>
     requires { Viewable (table_spec W.word (stored_index_spec W.word)) bytes.now pos }
     ensures below { IfOk result (λ _. IndicesBelow W.word bytes.now (len_at W.word bytes.now pos)
         (item_positions W.word (byte_len W.word) bytes.now pos)) }
@@ -127,7 +128,7 @@ fn check_entries<T: Element>(
 
 /// Returns the position at which the entries begin, by the distance in the header at `pos`.
 #[inline]
-pub(crate) fn decode_entries<W: IndexMapWidth>(bytes: &[u8], pos: u64) -> i128
+pub(crate) fn decode_entries<W: Width>(bytes: &[u8], pos: u64) -> i128
     requires inside { pos + 4 * byte_len W.word ≤ length bytes.now }
     ensures decoded { result ≡ decode_entries W.word bytes.now pos }
 {
@@ -159,7 +160,7 @@ fn entries_size(len: usize, size: usize) -> u128
 /// - `OutOfRange`: the part isn't inside the range.
 /// - `Unaligned`: the part isn't aligned for its entries.
 /// - The first fault of the first entry that isn't valid.
-pub(crate) fn check_part<W: IndexMapWidth, T: Element>(
+pub(crate) fn check_part<W: Width, T: Element>(
     bytes: &[u8],
     pos: u64,
     len: usize,

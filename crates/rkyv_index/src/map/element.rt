@@ -6,7 +6,7 @@ ghost use Rattle.rkyv_index.specs.Lemmas.IndexLaws.{index_element};
 
 use crate::map::IndexMapOf;
 use crate::map::check::{check_indices, check_part};
-use crate::width::IndexMapWidth;
+use crate::width::IndexWidth;
 use rkyv_base::element::{Element, HasSpec, PartRange};
 use rkyv_base::entry::Entry;
 use rkyv_base::errors::VerifyError;
@@ -20,7 +20,7 @@ impl<K: HasSpec, V: HasSpec, H, W: Word> HasSpec for IndexMapOf<K, V, H, W> {
         (entry_element K.spec V.spec K.laws V.laws) };
 }
 
-impl<K: Element, V: Element, H, W: IndexMapWidth> Element for IndexMapOf<K, V, H, W> {
+impl<K: Element, V: Element, H, W: IndexWidth> Element for IndexMapOf<K, V, H, W> {
     #[inline]
     fn size() -> usize {
         W::INDEX_SIZE

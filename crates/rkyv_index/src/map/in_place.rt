@@ -30,7 +30,7 @@ mod sealed;
 pub mod text;
 
 use crate::map::ArchivedIndexMap;
-use crate::width::IndexMapWidth;
+use crate::width::IndexWidth;
 use rkyv_base::element::{Element, Represents};
 use rkyv_base::scalars::Scalar;
 use rkyv_base::seal::set_at;
@@ -40,7 +40,7 @@ use rkyv_scan::hash::KeyHasher;
 
 /// Returns the position of the value at `index`, in the map at `root` of an archive.
 #[inline]
-fn value_pos_at<K: Element, V: Element, H, W: IndexMapWidth>(
+fn value_pos_at<K: Element, V: Element, H, W: IndexWidth>(
     archive: &[u8],
     root: u64,
     index: usize,
@@ -55,13 +55,7 @@ fn value_pos_at<K: Element, V: Element, H, W: IndexMapWidth>(
     map.entry(index).value().pos()
 }
 
-impl<'a, K: KeyElement, V: Element, H: KeyHasher, W: IndexMapWidth> ArchivedIndexMap<
-    'a,
-    K,
-    V,
-    H,
-    W,
-> {
+impl<'a, K: KeyElement, V: Element, H: KeyHasher, W: IndexWidth> ArchivedIndexMap<'a, K, V, H, W> {
     /// Returns the position of the value that a lookup finds, in the map at `root` of an archive.
     #[inline]
     fn value_pos_in<Q: Query<K>>(archive: &[u8], root: u64, key: &Q) -> Option<u64>
@@ -143,7 +137,7 @@ impl<'a, K: KeyElement, V: Element, H: KeyHasher, W: IndexMapWidth> ArchivedInde
 ///     None => Ok(None),
 /// }
 /// ```
-pub fn set_value_at<A, K: KeyElement + Represents<A>, N: Scalar, H: KeyHasher, W: IndexMapWidth>(
+pub fn set_value_at<A, K: KeyElement + Represents<A>, N: Scalar, H: KeyHasher, W: IndexWidth>(
     archive: &mut [u8],
     root: u64,
     index: usize,

@@ -24,7 +24,7 @@ pub mod written;
 use crate::lists::OrderedPairs;
 use crate::map::read::iter::{Iter, Keys, Values};
 use crate::map::{ArchivedIndexMap, IndexMapOf};
-use crate::width::IndexMapWidth;
+use crate::width::IndexWidth;
 use rkyv_base::element::{Element, HasSpec, Represents};
 use rkyv_base::width::Word;
 use rkyv_keys::equality::{ElementEq, ElementEquiv, RepresentsUniquely};
@@ -36,7 +36,7 @@ use rkyv_scan::hash::{FxHasher64, KeyHasher};
 /// - The length, the positions of the pairs, all keys and all other values are unchanged.
 /// - Each lookup whose comparison depends only on the key finds the same index.
 /// - A written index map is still one.
-pub fn value_writes_keep_index_maps<K: KeyElement, V: Element, H: KeyHasher, W: IndexMapWidth>()
+pub fn value_writes_keep_index_maps<K: KeyElement, V: Element, H: KeyHasher, W: IndexWidth>()
     ensures { ValueWritesKeepIndexMaps W.word K.spec V.spec
         (hash_at H.hasher K.key_calls) }
 {}
@@ -47,7 +47,7 @@ pub fn value_writes_keep_lookups<
     V: Element,
     Q: Query<K>,
     H: KeyHasher,
-    W: IndexMapWidth,
+    W: IndexWidth,
 >()
     ensures { let hash = hash_of H.hasher Q.calls in
         ValueWritesKeepLookups W.word K.spec V.spec Q.can_read hash Q.fits }
@@ -60,7 +60,7 @@ pub fn values_written_represent<
     K: KeyElement,
     V: Represents<B>,
     H: KeyHasher,
-    W: IndexMapWidth,
+    W: IndexWidth,
 >()
 where
     K: Represents<A>,
@@ -77,7 +77,7 @@ pub fn pairs_read_back_are_listed<
     K: KeyElement + RepresentsUniquely<A>,
     V: RepresentsUniquely<B>,
     H: KeyHasher,
-    W: IndexMapWidth,
+    W: IndexWidth,
 >()
     ensures { PairsReadBackAreListed W.word (reads_as K.spec K.represents A.eq)
         (reads_as V.spec V.represents B.eq) (hash_at H.hasher K.key_calls) }
@@ -92,7 +92,7 @@ pub fn pairs_read_back_are_listed<
 /// - `compared`: in any index map, a comparison finds the same index under both, if the query
 ///   makes none of these calls.
 /// - `queried`: in a written index map, a query finds the same index under both.
-pub fn both_hashers_look_up_alike<Q: Query<K>, K: FixedKey, V: Element, W: IndexMapWidth>()
+pub fn both_hashers_look_up_alike<Q: Query<K>, K: FixedKey, V: Element, W: IndexWidth>()
     ensures written { WrittenAlike W.word K.spec V.spec K.key_calls }
     ensures compared { ComparedAlike W.word }
     ensures queried { QueriedAlike W.word K.spec V.spec K.key_calls Q.KeyHash Q.fits }
@@ -104,7 +104,7 @@ pub fn both_hashers_look_up_alike<Q: Query<K>, K: FixedKey, V: Element, W: Index
 /// and a width, an index map is that of `FxHasher64` and of a narrow archive.
 pub fn index_maps_are_laid_out<W, H, A, B, K: KeyElement + Represents<A>, V: Represents<B>>()
 where
-    W: IndexMapWidth,
+    W: IndexWidth,
     ensures spec { SameSpec ⟦<IndexMapOf<K, V, H, W> as HasSpec>⟧.spec
         (index_spec W.word (entry_spec K.spec V.spec)) }
     ensures list { SameValues
@@ -118,13 +118,13 @@ where
 /// States that index maps that are values are compared by their pairs in order.
 ///
 /// `same` is `true` if and only if both have the same length and the same pairs in order.
-pub fn index_maps_are_compared<K: ElementEq, V: ElementEq, H, W: IndexMapWidth>()
+pub fn index_maps_are_compared<K: ElementEq, V: ElementEq, H, W: IndexWidth>()
     ensures { SameComparison ⟦<IndexMapOf<K, V, H, W> as ElementEq>⟧.same
         (index_map_equal W.word K.spec V.spec K.same V.same) }
 {}
 
 /// States that index maps that are read are `==` if and only if they have the same pairs in order.
-pub fn read_index_maps_are_compared<'a, K: ElementEquiv, V: ElementEquiv, H, W: IndexMapWidth>()
+pub fn read_index_maps_are_compared<'a, K: ElementEquiv, V: ElementEquiv, H, W: IndexWidth>()
     ensures { (m n : _) → ⟦<ArchivedIndexMap<'a, K, V, H, W> as PartialEq>⟧.eq m n
         ≡ index_maps_equal K.same V.same m n }
 {}
@@ -150,7 +150,7 @@ pub fn lookups_find_listed<
     K: KeyElement + Represents<A>,
     V: Represents<B>,
     H: KeyHasher,
-    W: IndexMapWidth,
+    W: IndexWidth,
 >()
     ensures { LookupsFindListed H W.Word K.HasSpec V.HasSpec
         (native_pairs K.represents V.represents H.hasher K.key_calls) }
@@ -159,13 +159,7 @@ pub fn lookups_find_listed<
 /// States that a query that matches a key of a written index map finds it, or the same key earlier.
 ///
 /// The found key is not after it. If no two keys of the index map are the same, it is that key.
-pub fn matched_keys_are_found<
-    Q: Query<K>,
-    K: KeyElement,
-    V: Element,
-    H: KeyHasher,
-    W: IndexMapWidth,
->()
+pub fn matched_keys_are_found<Q: Query<K>, K: KeyElement, V: Element, H: KeyHasher, W: IndexWidth>()
     ensures { FindsMatchedKeys H W.Word K.HasSpec V.HasSpec Q.can_read
         (λ q. query_of H.hasher K.key_calls K.same (Q.calls q) (Q.fits q)) }
 {}
@@ -180,7 +174,7 @@ pub fn pairs_at_are_listed<
     K: KeyElement + Represents<A>,
     V: Represents<B>,
     H: KeyHasher,
-    W: IndexMapWidth,
+    W: IndexWidth,
 >()
     ensures { PairsAtAreListed H W.Word K.HasSpec V.HasSpec
         (native_pairs K.represents V.represents H.hasher K.key_calls) }
@@ -195,7 +189,7 @@ pub fn walks_visit_in_order<
     K: KeyElement + Represents<A>,
     V: Represents<B>,
     H: KeyHasher,
-    W: IndexMapWidth,
+    W: IndexWidth,
 >()
     ensures { WalksVisitInOrder W.word K.spec V.spec
         (native_pairs K.represents V.represents H.hasher K.key_calls) }
@@ -220,7 +214,7 @@ pub fn items_are_yielded<'a, K: Element, V: Element>()
 /// States that a `for` over an index map, or over a reference to it, visits the pairs of `iter`.
 ///
 /// They are all pairs of the index map, in order.
-pub fn walks_by_for_are_iterations<'a, 'b, K: Element, V: Element, H, W: IndexMapWidth>()
+pub fn walks_by_for_are_iterations<'a, 'b, K: Element, V: Element, H, W: IndexWidth>()
 where
     'a: 'b,
     ensures owned { (map : _) (pairs : _)

@@ -18,7 +18,7 @@ mod source;
 use crate::map::write::hashed_indices::{HashedEntry, HashedIndices};
 use crate::map::write::resolve::IndexMapResolver;
 use crate::map::write::row::{serialize_row, write_row};
-use crate::width::IndexMapWidth;
+use crate::width::IndexWidth;
 use rkyv_base::archive::{Serialize, WriteResult};
 use rkyv_base::writer::{Writer, align_for_in};
 use rkyv_scan::simd::lanes;
@@ -28,7 +28,7 @@ use std::alloc::Global;
 
 // Writes the table of the indices of `entries`, each under the hash of its entry.
 #[inline]
-fn write_indices<W: IndexMapWidth, H, S: Writer, U: HashedEntry<H>>(
+fn write_indices<W: IndexWidth, H, S: Writer, U: HashedEntry<H>>(
     alloc: Global,
     entries: &[U],
     load_factor: (usize, usize),
@@ -53,7 +53,7 @@ fn write_indices<W: IndexMapWidth, H, S: Writer, U: HashedEntry<H>>(
 // Writes the table of indices, the parts of the entries, zeros and the entries.
 //
 // Returns the resolver of the index map.
-pub(crate) fn write_index<W: IndexMapWidth, H, S: Writer, U: HashedEntry<H> + Serialize<S, W>>(
+pub(crate) fn write_index<W: IndexWidth, H, S: Writer, U: HashedEntry<H> + Serialize<S, W>>(
     alloc: Global,
     entries: &[U],
     resolvers: Vec<U::Resolver>,

@@ -18,13 +18,13 @@ ghost use Rattle.rkyv_keys.specs.{IsFoundAt, query_of};
 use crate::map::read::iter::Keys;
 use crate::map::{ArchivedIndexMap, IndexMapOf};
 use crate::set::{ArchivedIndexSet, IndexSetOf};
-use crate::width::IndexMapWidth;
+use crate::width::IndexWidth;
 use rkyv_base::element::Element;
 use rkyv_base::view::View;
 use rkyv_keys::keys::{KeyElement, Query};
 use rkyv_scan::hash::KeyHasher;
 
-impl<'a, K: Element, H, W: IndexMapWidth> ArchivedIndexSet<'a, K, H, W> {
+impl<'a, K: Element, H, W: IndexWidth> ArchivedIndexSet<'a, K, H, W> {
     /// Returns the set at a view of its header, which is decoded here, once.
     ///
     /// # Requires
@@ -111,7 +111,7 @@ impl<'a, K: Element, H, W: IndexMapWidth> ArchivedIndexSet<'a, K, H, W> {
 }
 
 /// `for key in set` visits the keys, in order.
-impl<'a, K: Element, H, W: IndexMapWidth> IntoIterator for ArchivedIndexSet<'a, K, H, W> {
+impl<'a, K: Element, H, W: IndexWidth> IntoIterator for ArchivedIndexSet<'a, K, H, W> {
     type Item = View<'a, K>;
 
     type IntoIter = Keys<'a, K, ()>;
@@ -127,7 +127,7 @@ impl<'a, K: Element, H, W: IndexMapWidth> IntoIterator for ArchivedIndexSet<'a, 
 }
 
 /// `for key in &set` visits the keys, in order.
-impl<'a, K: Element, H, W: IndexMapWidth> IntoIterator for &ArchivedIndexSet<'a, K, H, W> {
+impl<'a, K: Element, H, W: IndexWidth> IntoIterator for &ArchivedIndexSet<'a, K, H, W> {
     type Item = View<'a, K>;
 
     type IntoIter = Keys<'a, K, ()>;
@@ -142,7 +142,7 @@ impl<'a, K: Element, H, W: IndexMapWidth> IntoIterator for &ArchivedIndexSet<'a,
     }
 }
 
-impl<'a, K: KeyElement, H: KeyHasher, W: IndexMapWidth> ArchivedIndexSet<'a, K, H, W> {
+impl<'a, K: KeyElement, H: KeyHasher, W: IndexWidth> ArchivedIndexSet<'a, K, H, W> {
     /// Returns the key that the query finds, with its index, or `None`.
     ///
     /// In a written set, it is the first key in insertion order that the query matches.

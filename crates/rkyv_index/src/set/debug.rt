@@ -3,12 +3,12 @@ ghost use Rattle.rkyv_base.specs.{IsValidView};
 ghost use Rattle.rkyv_index.specs.{index_set_spec};
 
 use crate::set::{ArchivedIndexSet, IndexSetOf};
-use crate::width::IndexMapWidth;
+use crate::width::IndexWidth;
 use rkyv_base::view::View;
 use rkyv_keys::debug::{ElementDebug, Shown};
 use std::fmt::{self, Debug, Formatter, Write};
 
-impl<K: ElementDebug, H, W: IndexMapWidth> ElementDebug for IndexSetOf<K, H, W> {
+impl<K: ElementDebug, H, W: IndexWidth> ElementDebug for IndexSetOf<K, H, W> {
     fn debug<U: Write>(view: View<'_, IndexSetOf<K, H, W>>, f: &mut Formatter<U>) -> fmt::Result
         requires { IsValidView (index_set_spec W.word K.spec) view }
     {
@@ -20,7 +20,7 @@ impl<K: ElementDebug, H, W: IndexMapWidth> ElementDebug for IndexSetOf<K, H, W> 
     }
 }
 
-impl<'a, K: ElementDebug, H, W: IndexMapWidth> Debug for ArchivedIndexSet<'a, K, H, W> {
+impl<'a, K: ElementDebug, H, W: IndexWidth> Debug for ArchivedIndexSet<'a, K, H, W> {
     fn fmt<U: Write>(&self, f: &mut Formatter<U>) -> fmt::Result {
         let map = self.map.view;
         IndexSetOf::debug(map.at::<IndexSetOf<K, H, W>>(map.pos()), f)

@@ -4,13 +4,13 @@ ghost use Rattle.rkyv_index.specs.{ReadsItems, index_len, items_deserialize_fail
 ghost use Rattle.rkyv_index.specs.{keys_of, set_bytes, set_pos};
 
 use crate::set::ArchivedIndexSet;
-use crate::width::IndexMapWidth;
+use crate::width::IndexWidth;
 use rkyv_base::element::Element;
 use rkyv_base::errors::ReadError;
 use rkyv_keys::deserialize::Deserialize;
 use std::alloc::Global;
 
-impl<'a, K: Element, H, W: IndexMapWidth> ArchivedIndexSet<'a, K, H, W> {
+impl<'a, K: Element, H, W: IndexWidth> ArchivedIndexSet<'a, K, H, W> {
     // Deserializes the key at `index`.
     #[inline]
     fn read_item<A>(self, alloc: Global, index: usize) -> Result<A, ReadError>

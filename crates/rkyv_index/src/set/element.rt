@@ -7,7 +7,7 @@ ghost use Rattle.rkyv_index.specs.{index_set_spec};
 
 use crate::map::IndexMapOf;
 use crate::set::IndexSetOf;
-use crate::width::IndexMapWidth;
+use crate::width::IndexWidth;
 use rkyv_base::element::{Element, HasSpec, PartRange};
 use rkyv_base::errors::VerifyError;
 use rkyv_base::width::Word;
@@ -19,7 +19,7 @@ impl<K: HasSpec, H, W: Word> HasSpec for IndexSetOf<K, H, W> {
         (entry_element K.spec unit_spec K.laws unit_element) };
 }
 
-impl<K: Element, H, W: IndexMapWidth> Element for IndexSetOf<K, H, W> {
+impl<K: Element, H, W: IndexWidth> Element for IndexSetOf<K, H, W> {
     #[inline]
     fn size() -> usize {
         IndexMapOf::<K, (), H, W>::size()

@@ -13,13 +13,13 @@ ghost use Rattle.rkyv_index.specs.{index_set_equal, index_set_spec, index_sets_e
 ghost use Rattle.rkyv_index.specs.Lemmas.HandlesEqual.{sets_equality};
 
 use crate::set::{ArchivedIndexSet, IndexSetOf};
-use crate::width::IndexMapWidth;
+use crate::width::IndexWidth;
 use rkyv_base::view::View;
 use rkyv_keys::equality::{ElementEq, ElementEquiv};
 use rkyv_keys::keys::KeyElement;
 use rkyv_scan::hash::KeyHasher;
 
-impl<'a, K: ElementEq, H, W: IndexMapWidth> ArchivedIndexSet<'a, K, H, W> {
+impl<'a, K: ElementEq, H, W: IndexWidth> ArchivedIndexSet<'a, K, H, W> {
     /// Returns `true` if and only if both sets have the same length and the same keys in order.
     pub fn eq_index(self, other: ArchivedIndexSet<'_, K, H, W>) -> bool
         ensures { result ≡ index_sets_equal K.same self.entry other.entry }
@@ -28,7 +28,7 @@ impl<'a, K: ElementEq, H, W: IndexMapWidth> ArchivedIndexSet<'a, K, H, W> {
     }
 }
 
-impl<'a, K: KeyElement, H: KeyHasher, W: IndexMapWidth> ArchivedIndexSet<'a, K, H, W> {
+impl<'a, K: KeyElement, H: KeyHasher, W: IndexWidth> ArchivedIndexSet<'a, K, H, W> {
     /// Returns the number of keys that a lookup of their own doesn't find.
     ///
     /// A key is found if the lookup returns its own index. Otherwise the lookup finds another key
@@ -68,7 +68,7 @@ impl<'a, K: KeyElement, H: KeyHasher, W: IndexMapWidth> ArchivedIndexSet<'a, K, 
 }
 
 /// Returns `true` if and only if both sets have the same length and the same keys in order.
-impl<'a, K: ElementEquiv, H, W: IndexMapWidth> PartialEq for ArchivedIndexSet<'a, K, H, W> {
+impl<'a, K: ElementEquiv, H, W: IndexWidth> PartialEq for ArchivedIndexSet<'a, K, H, W> {
     ghost eq = { index_sets_equal K.same };
 
     ghost laws = { partial_equiv_from_equiv (sets_equality K.equivalence) };
@@ -80,11 +80,11 @@ impl<'a, K: ElementEquiv, H, W: IndexMapWidth> PartialEq for ArchivedIndexSet<'a
     }
 }
 
-impl<'a, K: ElementEquiv, H, W: IndexMapWidth> Eq for ArchivedIndexSet<'a, K, H, W> {
+impl<'a, K: ElementEquiv, H, W: IndexWidth> Eq for ArchivedIndexSet<'a, K, H, W> {
     ghost laws = { sets_equality K.equivalence };
 }
 
-impl<K: ElementEq, H, W: IndexMapWidth> ElementEq for IndexSetOf<K, H, W> {
+impl<K: ElementEq, H, W: IndexWidth> ElementEq for IndexSetOf<K, H, W> {
     ghost same = { index_set_equal W.word K.spec K.same };
 
     #[inline]
@@ -97,7 +97,7 @@ impl<K: ElementEq, H, W: IndexMapWidth> ElementEq for IndexSetOf<K, H, W> {
     }
 }
 
-impl<K: ElementEquiv, H, W: IndexMapWidth> ElementEquiv for IndexSetOf<K, H, W> {
+impl<K: ElementEquiv, H, W: IndexWidth> ElementEquiv for IndexSetOf<K, H, W> {
     ghost equivalence = { index_equivalence W.word (entry_spec K.spec unit_spec)
         (entry_element K.spec unit_spec K.laws unit_element) (entry_equivalence K.laws
         unit_element K.equivalence unit_equivalence) };

@@ -21,7 +21,7 @@ use crate::lists::OrderedItems;
 use crate::map::laws::both_hashers_look_up_alike as maps_look_up_alike;
 use crate::map::write::serialize::ListFormat;
 use crate::set::{ArchivedIndexSet, IndexSetOf};
-use crate::width::IndexMapWidth;
+use crate::width::IndexWidth;
 use rkyv_base::archive::Archive;
 use rkyv_base::element::{Element, HasSpec, Represents};
 use rkyv_base::width::Word;
@@ -36,7 +36,7 @@ pub fn items_read_back_are_listed<
     A: PartialEq,
     K: KeyElement + RepresentsUniquely<A>,
     H: KeyHasher,
-    W: IndexMapWidth,
+    W: IndexWidth,
 >()
     ensures { ItemsReadBackAreListed W.word K.spec K.represents
         (hash_at H.hasher K.key_calls) A.eq }
@@ -53,7 +53,7 @@ pub fn members_found_are_listed<
     Q: NativeQuery<A, K>,
     K: KeyElement + Represents<A>,
     H: KeyHasher,
-    W: IndexMapWidth,
+    W: IndexWidth,
 >()
     ensures { MembersFoundAreListed H W.Word K.HasSpec
         (native_keys K.represents (hash_at H.hasher K.key_calls) Q.fits Q.equals) }
@@ -63,21 +63,21 @@ pub fn members_found_are_listed<
 ///
 /// It returns `None` if and only if the list has no key there. The header of the index set may be
 /// anywhere in the archive.
-pub fn items_at_are_listed<A, K: KeyElement + Represents<A>, H: KeyHasher, W: IndexMapWidth>()
+pub fn items_at_are_listed<A, K: KeyElement + Represents<A>, H: KeyHasher, W: IndexWidth>()
     ensures { ItemsAtAreListed H W.Word K.HasSpec K.represents (hash_at H.hasher K.key_calls) }
 {}
 
 /// States that `iter` returns the keys of the list that an index set represents, in order.
 ///
 /// The n-th position of a walk has the n-th key of the list, and there are no others.
-pub fn walks_visit_in_order<A, K: KeyElement + Represents<A>, H: KeyHasher, W: IndexMapWidth>()
+pub fn walks_visit_in_order<A, K: KeyElement + Represents<A>, H: KeyHasher, W: IndexWidth>()
     ensures { SetWalksVisitInOrder W.word K.spec K.represents (hash_at H.hasher K.key_calls) }
 {}
 
 /// States that both hashers look up alike in an index set whose keys hash no `usize` or `isize`.
 ///
 /// It is the law of index maps for the index map of the keys to the unit value.
-pub fn both_hashers_look_up_alike<Q: Query<K>, K: FixedKey, W: IndexMapWidth>()
+pub fn both_hashers_look_up_alike<Q: Query<K>, K: FixedKey, W: IndexWidth>()
     ensures written { WrittenAlike W.word K.spec unit_spec K.key_calls }
     ensures compared { ComparedAlike W.word }
     ensures queried { QueriedAlike W.word K.spec unit_spec K.key_calls Q.KeyHash Q.fits }
@@ -89,7 +89,7 @@ pub fn both_hashers_look_up_alike<Q: Query<K>, K: FixedKey, W: IndexMapWidth>()
 ///
 /// The layout is the same under every hasher. Lists are under `FxHasher64` alone. Without a hasher
 /// and a width, an index set is that of `FxHasher64` and of a narrow archive.
-pub fn index_sets_are_laid_out<W: IndexMapWidth, H, A, K: KeyElement + Represents<A>>()
+pub fn index_sets_are_laid_out<W: IndexWidth, H, A, K: KeyElement + Represents<A>>()
     ensures spec { SameSpec ⟦<IndexSetOf<K, H, W> as HasSpec>⟧.spec
         (index_set_spec W.word K.spec) }
     ensures list { SameValues
@@ -103,13 +103,13 @@ pub fn index_sets_are_laid_out<W: IndexMapWidth, H, A, K: KeyElement + Represent
 /// States that index sets that are values are compared by their keys in order.
 ///
 /// `same` is `true` if and only if both have the same length and the same keys in order.
-pub fn index_sets_are_compared<K: ElementEq, H, W: IndexMapWidth>()
+pub fn index_sets_are_compared<K: ElementEq, H, W: IndexWidth>()
     ensures { SameComparison ⟦<IndexSetOf<K, H, W> as ElementEq>⟧.same
         (index_set_equal W.word K.spec K.same) }
 {}
 
 /// States that index sets that are read are `==` if and only if they have the same keys in order.
-pub fn read_index_sets_are_compared<'a, K: ElementEquiv, H, W: IndexMapWidth>()
+pub fn read_index_sets_are_compared<'a, K: ElementEquiv, H, W: IndexWidth>()
     ensures { (s t : _) → ⟦<ArchivedIndexSet<'a, K, H, W> as PartialEq>⟧.eq s t
         ≡ index_sets_equal K.same s t }
 {}
@@ -125,7 +125,7 @@ pub fn clones_are_the_same<'a, K: HasSpec, H, W: Word>()
 /// States that a `for` over an index set, or over a reference to it, visits the keys of `iter`.
 ///
 /// They are all keys of the index set, in order.
-pub fn walks_by_for_are_iterations<'a, 'b, K: Element, H, W: IndexMapWidth>()
+pub fn walks_by_for_are_iterations<'a, 'b, K: Element, H, W: IndexWidth>()
 where
     'a: 'b,
     ensures owned { (set : _) (keys : _)
@@ -137,7 +137,7 @@ where
 {}
 
 /// States that `serialize_from_iter` writes a list of keys as the index set of these keys.
-pub fn listed_items_are_written<W: IndexMapWidth, H: KeyHasher, K, A>()
+pub fn listed_items_are_written<W: IndexWidth, H: KeyHasher, K, A>()
 where
     K: KeyElement + Represents<A>,
     A: NativeKey<K> + Archive<W, Archived = K>,
@@ -148,7 +148,7 @@ where
 
 /// States that a list of keys is written as the index set of these keys.
 pub fn ordered_items_are_written<
-    W: IndexMapWidth,
+    W: IndexWidth,
     K: KeyElement + Represents<A>,
     A: NativeKey<K> + Archive<W, Archived = K>,
 >()

@@ -12,7 +12,7 @@ use crate::map::ArchivedIndexMap;
 use crate::map::write::resolve::IndexMapResolver;
 use crate::map::write::serialize::ListFormat;
 use crate::set::{ArchivedIndexSet, IndexSetOf};
-use crate::width::IndexMapWidth;
+use crate::width::IndexWidth;
 use rkyv_base::archive::{Archive, ResolveResult, Serialize, WriteResult};
 use rkyv_base::element::{Element, Represents};
 use rkyv_base::lend::Lend;
@@ -27,13 +27,13 @@ use std::alloc::Global;
 /// The resolver of a written index set: that of the index map of its keys.
 pub type IndexSetResolver<W = Narrow> = IndexMapResolver<W>;
 
-impl<K: Element, H: KeyHasher, W: IndexMapWidth, A: KeyHash + Archive<W>> ListFormat<A>
+impl<K: Element, H: KeyHasher, W: IndexWidth, A: KeyHash + Archive<W>> ListFormat<A>
     for IndexSetOf<K, H, W> {
     ghost format = { index_keys_format W.word (indices W.Index.spec W.Index.encoding)
         (native_key_format K.spec A.format H.hasher A.calls) };
 }
 
-impl<'a, K: KeyElement, H: KeyHasher, W: IndexMapWidth> ArchivedIndexSet<'a, K, H, W> {
+impl<'a, K: KeyElement, H: KeyHasher, W: IndexWidth> ArchivedIndexSet<'a, K, H, W> {
     /// Writes an index set of `len` keys and returns its resolver.
     ///
     /// The keys are themselves or references. The bytes are those of the index map of the keys

@@ -11,7 +11,7 @@ use rkyv_index::map::laws::{
     index_maps_are_compared, matched_keys_are_found, read_index_maps_are_compared,
 };
 use rkyv_index::set::laws::{index_sets_are_compared, read_index_sets_are_compared};
-use rkyv_index::width::IndexMapWidth;
+use rkyv_index::width::IndexWidth;
 use rkyv_index::{ArchivedIndexMap, ArchivedIndexSet, IndexMapOf, IndexSetOf, OrderedPairs};
 use rkyv_keys::equality::ElementEq;
 use rkyv_scan::hash::FxHasher64;
@@ -20,7 +20,7 @@ use std::test::Fail;
 use test_support::archives::four_entries;
 
 // Whether the index maps in two archives are `==`.
-fn equal<'a, W: IndexMapWidth>(first: &'a [u8], second: &'a [u8]) -> Result<bool, VerifyError> {
+fn equal<'a, W: IndexWidth>(first: &'a [u8], second: &'a [u8]) -> Result<bool, VerifyError> {
     let own = access_in::<W, IndexMapOf<i8, i8, FxHasher64, W>>(first)?;
     let other = access_in::<W, IndexMapOf<i8, i8, FxHasher64, W>>(second)?;
     Ok(ArchivedIndexMap::of(own) == ArchivedIndexMap::of(other))

@@ -4,7 +4,7 @@ use crate::tests::archives::{no_pairs, one_key_twice, one_pair, wide_pair};
 use rkyv_base::access::access_in;
 use rkyv_base::errors::VerifyError;
 use rkyv_base::width::{Narrow, Wide};
-use rkyv_index::width::IndexMapWidth;
+use rkyv_index::width::IndexWidth;
 use rkyv_index::{ArchivedIndexMap, ArchivedIndexSet, IndexMapOf, IndexSetOf};
 use rkyv_scan::hash::FxHasher64;
 use test_support::archives::{four_entries, one_index_key};
@@ -19,7 +19,7 @@ type Found = (
     bool,
 );
 
-fn found<W: IndexMapWidth>(bytes: &[u8], key: i8) -> Result<Found, VerifyError> {
+fn found<W: IndexWidth>(bytes: &[u8], key: i8) -> Result<Found, VerifyError> {
     let root = access_in::<W, IndexMapOf<i8, i8, FxHasher64, W>>(bytes)?;
     let map = ArchivedIndexMap::of(root);
     let full = match map.get_full(&key) {

@@ -13,7 +13,7 @@ use rkyv_base::text::Text;
 use rkyv_base::view::View;
 use rkyv_base::width::{Narrow, Wide};
 use rkyv_index::map::in_place::text::make_ascii_uppercase_at;
-use rkyv_index::width::IndexMapWidth;
+use rkyv_index::width::IndexWidth;
 use rkyv_index::{ArchivedIndexMap, IndexMapOf};
 use rkyv_keys::keys::{KeyElement, Query};
 use rkyv_scan::hash::{FxHasher64, KeyHasher};
@@ -21,7 +21,7 @@ use test_support::archives::four_entries;
 use test_support::changes::change;
 
 // Writes a byte over the value of a key. Returns the position of the value, if the key is found.
-fn change_found<K: KeyElement, N: Scalar, H: KeyHasher, W: IndexMapWidth, Q: Query<K>>(
+fn change_found<K: KeyElement, N: Scalar, H: KeyHasher, W: IndexWidth, Q: Query<K>>(
     bytes: &mut [u8],
     key: &Q,
     byte: u8,
@@ -38,7 +38,7 @@ fn change_found<K: KeyElement, N: Scalar, H: KeyHasher, W: IndexMapWidth, Q: Que
 }
 
 // Does the same in a map of `i8` to `i8`.
-fn change_small<W: IndexMapWidth>(bytes: &mut [u8], key: i8, byte: u8) -> Option<Option<u64>> {
+fn change_small<W: IndexWidth>(bytes: &mut [u8], key: i8, byte: u8) -> Option<Option<u64>> {
     change_found::<i8, i8, FxHasher64, W, i8>(bytes, &key, byte).ok()
 }
 
@@ -71,7 +71,7 @@ fn lookup_of_a_missing_key_changes_nothing(rt: HostRuntime) {
 }
 
 // Returns the length of the map at `root`.
-fn len_of<K: Element, V: Element, H, W: IndexMapWidth>(bytes: &[u8], root: u64) -> usize
+fn len_of<K: Element, V: Element, H, W: IndexWidth>(bytes: &[u8], root: u64) -> usize
     requires { Viewable (index_spec W.word (entry_spec K.spec V.spec)) bytes.now root }
     ensures { result ≡ len_at W.word bytes.now root }
 {
@@ -80,7 +80,7 @@ fn len_of<K: Element, V: Element, H, W: IndexMapWidth>(bytes: &[u8], root: u64) 
 
 // Writes the text at an index in upper case. Returns the result of the call, or `None`
 // if the index is too large.
-fn uppercase<A, K: KeyElement + Represents<A>, H: KeyHasher, W: IndexMapWidth>(
+fn uppercase<A, K: KeyElement + Represents<A>, H: KeyHasher, W: IndexWidth>(
     bytes: &mut [u8],
     index: usize,
 ) -> Result<Option<bool>, VerifyError> {
@@ -94,12 +94,12 @@ fn uppercase<A, K: KeyElement + Represents<A>, H: KeyHasher, W: IndexMapWidth>(
 }
 
 // Does the same in a map of `i8` to texts.
-fn uppercase_small<W: IndexMapWidth>(bytes: &mut [u8], index: usize) -> Option<Option<bool>> {
+fn uppercase_small<W: IndexWidth>(bytes: &mut [u8], index: usize) -> Option<Option<bool>> {
     uppercase::<i8, i8, FxHasher64, W>(bytes, index).ok()
 }
 
 // Writes the texts at the first three indices in upper case. Returns the results.
-fn uppercase_three<W: IndexMapWidth>(bytes: &mut [u8]) -> [Option<Option<bool>>; 3] {
+fn uppercase_three<W: IndexWidth>(bytes: &mut [u8]) -> [Option<Option<bool>>; 3] {
     [
         uppercase_small::<W>(bytes, 0),
         uppercase_small::<W>(bytes, 1),

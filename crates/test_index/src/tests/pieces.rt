@@ -3,7 +3,7 @@
 use rkyv_base::archive::Serialize;
 use rkyv_base::root::write_root;
 use rkyv_base::width::{Narrow, Wide};
-use rkyv_index::width::IndexMapWidth;
+use rkyv_index::width::IndexWidth;
 use rkyv_index::{ArchivedIndexMap, ArchivedIndexSet, OrderedPairs};
 use rkyv_keys::keys::{KeyElement, NativeKey};
 use rkyv_scan::hash::FxHasher64;
@@ -25,7 +25,7 @@ fn has_pieces(writer: &PieceWriter, lengths: &[usize]) -> bool {
 
 // Returns `true` if the index map of these pairs, at position 0, is written in pieces of these
 // lengths, and has no other byte.
-fn is_written_in<W: IndexMapWidth, A, B: Serialize<PieceWriter, W>>(
+fn is_written_in<W: IndexWidth, A, B: Serialize<PieceWriter, W>>(
     alloc: Global,
     pairs: &[(A, B)],
     lengths: &[usize],

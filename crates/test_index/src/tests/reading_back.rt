@@ -7,7 +7,7 @@ use rkyv_base::width::{Narrow, Wide};
 use rkyv_index::map::laws::pairs_read_back_are_listed;
 use rkyv_index::round_trip::{items_round_trip, pairs_round_trip};
 use rkyv_index::set::laws::items_read_back_are_listed;
-use rkyv_index::width::IndexMapWidth;
+use rkyv_index::width::IndexWidth;
 use rkyv_index::{
     ArchivedIndexMap, ArchivedIndexSet, IndexMapOf, IndexSetOf, OrderedItems, OrderedPairs,
 };
@@ -17,7 +17,7 @@ use std::test::Fail;
 use test_support::archives::{four_entries, one_index_key};
 
 // Returns the pairs in the archive of an index map, if it is valid and no allocation fails.
-fn read<W: IndexMapWidth>(alloc: Global, bytes: &[u8]) -> Option<Vec<(i8, i8)>> {
+fn read<W: IndexWidth>(alloc: Global, bytes: &[u8]) -> Option<Vec<(i8, i8)>> {
     match access_in::<W, IndexMapOf<i8, i8, FxHasher64, W>>(bytes) {
         Ok(root) => ArchivedIndexMap::of(root).deserialize_pairs(alloc).ok(),
         Err(_) => None,
@@ -25,7 +25,7 @@ fn read<W: IndexMapWidth>(alloc: Global, bytes: &[u8]) -> Option<Vec<(i8, i8)>> 
 }
 
 // Returns whether these are exactly the pairs in the archive.
-fn is_read<W: IndexMapWidth>(alloc: Global, bytes: &[u8], pairs: &[(i8, i8)]) -> bool {
+fn is_read<W: IndexWidth>(alloc: Global, bytes: &[u8], pairs: &[(i8, i8)]) -> bool {
     match read::<W>(alloc, bytes) {
         Some(list) => list.as_slice() == pairs,
         None => false,

@@ -19,7 +19,7 @@ use rkyv_index::map::laws::nested::{
 use rkyv_index::map::laws::{
     value_writes_keep_index_maps, value_writes_keep_lookups, values_written_represent,
 };
-use rkyv_index::width::IndexMapWidth;
+use rkyv_index::width::IndexWidth;
 use rkyv_index::{ArchivedIndexMap, IndexMapOf, OrderedPairs};
 use rkyv_keys::keys::{KeyElement, Query};
 use rkyv_scan::hash::{FxHasher64, KeyHasher};
@@ -193,7 +193,7 @@ fn unsuccessful_lookup_returns_no_seal(rt: HostRuntime) {
 }
 
 // Returns the index of a key, by a plain lookup in the map at `root`.
-pub(crate) fn index_of<K: KeyElement, V: Element, H: KeyHasher, W: IndexMapWidth, Q: Query<K>>(
+pub(crate) fn index_of<K: KeyElement, V: Element, H: KeyHasher, W: IndexWidth, Q: Query<K>>(
     bytes: &[u8],
     root: u64,
     key: &Q,
@@ -206,14 +206,11 @@ pub(crate) fn index_of<K: KeyElement, V: Element, H: KeyHasher, W: IndexMapWidth
 }
 
 // Validates an archive, and writes a value over that of a key, by its index. Returns the index.
-fn write_at<
-    A,
-    K: KeyElement + Represents<A>,
-    N: Scalar,
-    H: KeyHasher,
-    W: IndexMapWidth,
-    Q: Query<K>,
->(bytes: &mut [u8], key: &Q, value: N) -> Result<Option<usize>, VerifyError>
+fn write_at<A, K: KeyElement + Represents<A>, N: Scalar, H: KeyHasher, W: IndexWidth, Q: Query<K>>(
+    bytes: &mut [u8],
+    key: &Q,
+    value: N,
+) -> Result<Option<usize>, VerifyError>
     requires { Q.can_read key.now }
 {
     let root = access_in::<W, IndexMapOf<K, N, H, W>>(&*bytes)?.pos();

@@ -15,7 +15,7 @@ use rkyv_index::map::laws::written::{
     listed_pairs_are_written, ordered_pairs_are_written, written_index_maps_represent,
 };
 use rkyv_index::set::laws::written::written_index_sets_represent;
-use rkyv_index::width::IndexMapWidth;
+use rkyv_index::width::IndexWidth;
 use rkyv_index::{ArchivedIndexMap, IndexMapOf, OrderedItems, OrderedPairs};
 use rkyv_keys::keys::{KeyElement, NativeKey};
 use rkyv_scan::hash::FxHasher64;
@@ -32,7 +32,7 @@ fn list_of(alloc: Global, pairs: &[(i8, i8)]) -> Result<OrderedPairs<i8, i8>, Al
 }
 
 // Returns the archive of a list of pairs as an index map.
-fn map_archive<W: IndexMapWidth, A: Serialize<VecWriter, W>, B: Serialize<VecWriter, W>>(
+fn map_archive<W: IndexWidth, A: Serialize<VecWriter, W>, B: Serialize<VecWriter, W>>(
     alloc: Global,
     list: &OrderedPairs<A, B>,
 ) -> Result<Vec<u8>, WriteError<NoMemory>>

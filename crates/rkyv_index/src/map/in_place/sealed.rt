@@ -19,7 +19,7 @@ ghost use Rattle.rkyv_index.specs.{IsStoredIn, IsValueSeal, SealsPair, SealsValu
 ghost use Rattle.rkyv_index.specs.{index_in, index_pos};
 
 use crate::map::{ArchivedIndexMap, IndexMapOf};
-use crate::width::IndexMapWidth;
+use crate::width::IndexWidth;
 use rkyv_base::element::Element;
 use rkyv_base::entry::value_offset;
 use rkyv_base::seal::{ArchiveSeal, Seal};
@@ -44,13 +44,7 @@ fn value_seal<'a, K: Element, V: Element, H, W>(
 }
 
 // Every sealed lookup finds an index, and then returns a seal of the pair or value at it.
-impl<'a, K: KeyElement, V: Element, H: KeyHasher, W: IndexMapWidth> ArchivedIndexMap<
-    'a,
-    K,
-    V,
-    H,
-    W,
-> {
+impl<'a, K: KeyElement, V: Element, H: KeyHasher, W: IndexWidth> ArchivedIndexMap<'a, K, V, H, W> {
     /// Returns the index map at the seal, to be read.
     #[inline]
     fn read<'s>(
@@ -191,13 +185,7 @@ impl<'a, K: KeyElement, V: Element, H: KeyHasher, W: IndexMapWidth> ArchivedInde
     }
 }
 
-impl<'a, K: KeyElement, V: Element, H: KeyHasher, W: IndexMapWidth> ArchivedIndexMap<
-    'a,
-    K,
-    V,
-    H,
-    W,
-> {
+impl<'a, K: KeyElement, V: Element, H: KeyHasher, W: IndexWidth> ArchivedIndexMap<'a, K, V, H, W> {
     /// Returns an index, its key, which the comparison accepts, and a seal of its value, or `None`.
     ///
     /// It looks up as `get_full_with` does.

@@ -9,7 +9,7 @@ ghost use Rattle.rkyv_index.specs.{IndexRepresents, KeepsIndexMap, UppercasesLis
 ghost use Rattle.rkyv_index.specs.{index_to_texts_spec, pair_at};
 
 use crate::map::in_place::value_pos_at;
-use crate::width::IndexMapWidth;
+use crate::width::IndexWidth;
 use rkyv_base::element::Represents;
 use rkyv_base::seal_text::uppercase_at;
 use rkyv_base::text::Text;
@@ -35,7 +35,7 @@ use rkyv_scan::hash::KeyHasher;
 /// let is_inline = make_ascii_uppercase_at::<A, K, H, W>(bytes, root, index);
 /// Ok(Some(is_inline))
 /// ```
-pub fn make_ascii_uppercase_at<A, K: KeyElement + Represents<A>, H: KeyHasher, W: IndexMapWidth>(
+pub fn make_ascii_uppercase_at<A, K: KeyElement + Represents<A>, H: KeyHasher, W: IndexWidth>(
     archive: &mut [u8],
     root: u64,
     index: usize,

@@ -8,7 +8,7 @@
 ghost use Rattle.rkyv_index.specs.{FoundAreListed};
 ghost use Rattle.rkyv_keys.specs.{found_scalars, found_texts, found_views, hash_at, native_keys};
 
-use crate::width::IndexMapWidth;
+use crate::width::IndexWidth;
 use rkyv_base::element::{HasSpec, Represents};
 use rkyv_base::scalars::Scalar;
 use rkyv_base::text::Text;
@@ -25,7 +25,7 @@ pub fn values_found_are_listed<
     K: KeyElement + Represents<A>,
     V: Represents<B>,
     H: KeyHasher,
-    W: IndexMapWidth,
+    W: IndexWidth,
 >()
     ensures { FoundAreListed H W.Word K.HasSpec V.HasSpec
         (native_keys K.represents (hash_at H.hasher K.key_calls) Q.fits Q.equals)
@@ -41,7 +41,7 @@ pub fn scalars_found_are_listed<
     N: Scalar,
     K: KeyElement + Represents<A>,
     H: KeyHasher,
-    W: IndexMapWidth,
+    W: IndexWidth,
 >()
     ensures { FoundAreListed H W.Word K.HasSpec N.HasSpec
         (native_keys K.represents (hash_at H.hasher K.key_calls) Q.fits Q.equals)
@@ -56,7 +56,7 @@ pub fn texts_found_are_listed<
     Q: NativeQuery<A, K>,
     K: KeyElement + Represents<A>,
     H: KeyHasher,
-    W: IndexMapWidth,
+    W: IndexWidth,
 >()
     ensures { FoundAreListed H W.Word K.HasSpec ⟦<Text<W> as HasSpec>⟧
         (native_keys K.represents (hash_at H.hasher K.key_calls) Q.fits Q.equals)

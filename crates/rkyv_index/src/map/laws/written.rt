@@ -8,7 +8,7 @@ ghost use Rattle.rkyv_index.specs.{indices, ordered_pairs_format};
 use crate::lists::OrderedPairs;
 use crate::map::IndexMapOf;
 use crate::map::write::serialize::ListFormat;
-use crate::width::IndexMapWidth;
+use crate::width::IndexWidth;
 use rkyv_base::archive::Archive;
 use rkyv_base::element::Represents;
 use rkyv_keys::keys::{KeyElement, NativeKey};
@@ -20,7 +20,7 @@ use rkyv_scan::hash::KeyHasher;
 /// of the map. The table has the indices in order, each under the hash of its key.
 /// The pairs are in a row, in insertion order.
 pub fn written_index_maps_represent<
-    W: IndexMapWidth,
+    W: IndexWidth,
     H: KeyHasher,
     K: KeyElement + Represents<A>,
     V: Represents<B>,
@@ -33,7 +33,7 @@ pub fn written_index_maps_represent<
 {}
 
 /// States that `serialize_from_iter` writes a list of pairs as the index map of these pairs.
-pub fn listed_pairs_are_written<W: IndexMapWidth, H: KeyHasher, K, V, A, B>()
+pub fn listed_pairs_are_written<W: IndexWidth, H: KeyHasher, K, V, A, B>()
 where
     K: KeyElement + Represents<A>,
     V: Represents<B>,
@@ -46,7 +46,7 @@ where
 
 /// States that a list of pairs is written as the index map of these pairs.
 pub fn ordered_pairs_are_written<
-    W: IndexMapWidth,
+    W: IndexWidth,
     K: KeyElement + Represents<A>,
     V: Represents<B>,
     A: NativeKey<K> + Archive<W, Archived = K>,

@@ -10,7 +10,7 @@ ghost use Rattle.rkyv_index.specs.{index_pos, index_spec};
 
 use crate::map::check::decode_entries;
 use crate::map::{ArchivedIndexMap, IndexMapOf};
-use crate::width::IndexMapWidth;
+use crate::width::IndexWidth;
 use rkyv_base::element::Element;
 use rkyv_base::view::{PairView, View};
 use rkyv_table::table::decoded::Decoded;
@@ -27,7 +27,7 @@ fn decode_pos(decoded: i128) -> u64
 
 // Decodes the header of the table of indices of a map.
 #[inline]
-fn decode<K: Element, V: Element, H, W: IndexMapWidth>(
+fn decode<K: Element, V: Element, H, W: IndexWidth>(
     view: View<'_, IndexMapOf<K, V, H, W>>,
 ) -> Decoded
     requires { IsValidView (index_spec W.word (entry_spec K.spec V.spec)) view }
@@ -38,14 +38,14 @@ fn decode<K: Element, V: Element, H, W: IndexMapWidth>(
 
 // Returns the position of the first entry of a map.
 #[inline]
-fn begin<K: Element, V: Element, H, W: IndexMapWidth>(view: View<'_, IndexMapOf<K, V, H, W>>) -> u64
+fn begin<K: Element, V: Element, H, W: IndexWidth>(view: View<'_, IndexMapOf<K, V, H, W>>) -> u64
     requires { IsValidView (index_spec W.word (entry_spec K.spec V.spec)) view }
     ensures { result ≡ entries_pos W.word (bytes_of view.entry) (pos_of view.entry) }
 {
     decode_pos(decode_entries::<W>(view.bytes(), view.pos()))
 }
 
-impl<'a, K: Element, V: Element, H, W: IndexMapWidth> ArchivedIndexMap<'a, K, V, H, W> {
+impl<'a, K: Element, V: Element, H, W: IndexWidth> ArchivedIndexMap<'a, K, V, H, W> {
     /// Returns the map at a view of its header, which is decoded here, once.
     ///
     /// # Requires

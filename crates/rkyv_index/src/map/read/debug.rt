@@ -3,13 +3,12 @@ ghost use Rattle.rkyv_base.specs.{IsValidView, entry_spec};
 ghost use Rattle.rkyv_index.specs.{index_spec};
 
 use crate::map::{ArchivedIndexMap, IndexMapOf};
-use crate::width::IndexMapWidth;
+use crate::width::IndexWidth;
 use rkyv_base::view::View;
 use rkyv_keys::debug::{ElementDebug, Shown};
 use std::fmt::{self, Debug, Formatter, Write};
 
-impl<K: ElementDebug, V: ElementDebug, H, W: IndexMapWidth> ElementDebug
-    for IndexMapOf<K, V, H, W> {
+impl<K: ElementDebug, V: ElementDebug, H, W: IndexWidth> ElementDebug for IndexMapOf<K, V, H, W> {
     fn debug<U: Write>(view: View<'_, IndexMapOf<K, V, H, W>>, f: &mut Formatter<U>) -> fmt::Result
         requires { IsValidView (index_spec W.word (entry_spec K.spec V.spec)) view }
     {
@@ -21,7 +20,7 @@ impl<K: ElementDebug, V: ElementDebug, H, W: IndexMapWidth> ElementDebug
     }
 }
 
-impl<'a, K: ElementDebug, V: ElementDebug, H, W: IndexMapWidth> Debug
+impl<'a, K: ElementDebug, V: ElementDebug, H, W: IndexWidth> Debug
     for ArchivedIndexMap<'a, K, V, H, W> {
     fn fmt<U: Write>(&self, f: &mut Formatter<U>) -> fmt::Result {
         IndexMapOf::debug(self.view, f)

@@ -4,14 +4,14 @@ ghost use Rattle.rkyv_index.specs.{IsPairRead, ReadsPairs, index_bytes, index_le
 ghost use Rattle.rkyv_index.specs.{pair_deserialize_fails, pairs_deserialize_fails};
 
 use crate::map::ArchivedIndexMap;
-use crate::width::IndexMapWidth;
+use crate::width::IndexWidth;
 use rkyv_base::element::Element;
 use rkyv_base::entry::Entry;
 use rkyv_base::errors::ReadError;
 use rkyv_keys::deserialize::Deserialize;
 use std::alloc::Global;
 
-impl<'a, K: Element, V: Element, H, W: IndexMapWidth> ArchivedIndexMap<'a, K, V, H, W> {
+impl<'a, K: Element, V: Element, H, W: IndexWidth> ArchivedIndexMap<'a, K, V, H, W> {
     // Deserializes the pair at `index`.
     #[inline]
     fn read_pair<A: Drop, B>(self, alloc: Global, index: usize) -> Result<(A, B), ReadError>
@@ -39,7 +39,7 @@ impl<'a, K: Element, V: Element, H, W: IndexMapWidth> ArchivedIndexMap<'a, K, V,
     ///
     /// ```rust
     /// // Returns the pairs in the archive of an index map, if it is valid and no allocation fails.
-    /// fn read<W: IndexMapWidth>(alloc: Global, bytes: &[u8]) -> Option<Vec<(i8, i8)>> {
+    /// fn read<W: IndexWidth>(alloc: Global, bytes: &[u8]) -> Option<Vec<(i8, i8)>> {
     ///     match access_in::<W, IndexMapOf<i8, i8, FxHasher64, W>>(bytes) {
     ///         Ok(root) => ArchivedIndexMap::of(root).deserialize_pairs(alloc).ok(),
     ///         Err(_) => None,

@@ -10,7 +10,7 @@ ghost use Rattle.rkyv_index.specs.{entry_at, index_archive, index_len, index_pos
 ghost use Rattle.rkyv_index.specs.{pair_at, stored_index};
 
 use crate::map::{ArchivedIndexMap, IndexMapOf};
-use crate::width::IndexMapWidth;
+use crate::width::IndexWidth;
 use rkyv_base::element::Element;
 use rkyv_base::entry::Entry;
 use rkyv_base::view::{PairView, View};
@@ -28,7 +28,7 @@ fn entry_pos(begin: u64, i: usize, size: usize) -> u64
 
 /// Returns a view of the entry at `index` of the map at `view`, with the entries from `begin` on.
 #[inline]
-fn entry_in<'a, K: Element, V: Element, H, W: IndexMapWidth>(
+fn entry_in<'a, K: Element, V: Element, H, W: IndexWidth>(
     view: View<'a, IndexMapOf<K, V, H, W>>,
     begin: u64,
     index: usize,
@@ -44,7 +44,7 @@ fn entry_in<'a, K: Element, V: Element, H, W: IndexMapWidth>(
     view.at::<Entry<K, V>>(at)
 }
 
-impl<'a, K: Element, V: Element, H, W: IndexMapWidth> ArchivedIndexMap<'a, K, V, H, W> {
+impl<'a, K: Element, V: Element, H, W: IndexWidth> ArchivedIndexMap<'a, K, V, H, W> {
     /// Returns the table of the indices.
     #[inline]
     pub(crate) fn table(self) -> ArchivedHashTable<'a, W::Index, W>
@@ -76,7 +76,7 @@ impl<'a, K: Element, V: Element, H, W: IndexMapWidth> ArchivedIndexMap<'a, K, V,
 
 /// Returns a view of the key at `index` of the map at `view`, with the entries from `begin` on.
 #[inline]
-pub(crate) fn key_in<'a, K: Element, V: Element, H, W: IndexMapWidth>(
+pub(crate) fn key_in<'a, K: Element, V: Element, H, W: IndexWidth>(
     view: View<'a, IndexMapOf<K, V, H, W>>,
     begin: u64,
     index: usize,
@@ -91,7 +91,7 @@ pub(crate) fn key_in<'a, K: Element, V: Element, H, W: IndexMapWidth>(
 
 /// Returns the index at an item of a table of indices.
 #[inline]
-fn read_index<W: IndexMapWidth>(item: View<'_, W::Index>) -> usize
+fn read_index<W: IndexWidth>(item: View<'_, W::Index>) -> usize
     requires { pos_of item + byte_len W.word ≤ length (bytes_of item) }
     ensures { result ≡ stored_index W.word item.entry }
 {
@@ -102,7 +102,7 @@ fn read_index<W: IndexMapWidth>(item: View<'_, W::Index>) -> usize
 ///
 /// The count is increased by the strides of sixteen control bytes that are read.
 #[inline]
-pub(crate) fn find_index<W: IndexMapWidth, F: Fn(usize) -> bool>(
+pub(crate) fn find_index<W: IndexWidth, F: Fn(usize) -> bool>(
     table: ArchivedHashTable<'_, W::Index, W>,
     hash: u64,
     accepts: F,

@@ -13,12 +13,12 @@ ghost use Rattle.rkyv_index.specs.Lemmas.HandlesEqual.{maps_equality};
 ghost use Rattle.rkyv_index.specs.{index_map_equal, index_maps_equal, index_spec};
 
 use crate::map::{ArchivedIndexMap, IndexMapOf};
-use crate::width::IndexMapWidth;
+use crate::width::IndexWidth;
 use rkyv_base::entry::Entry;
 use rkyv_base::view::View;
 use rkyv_keys::equality::{ElementEq, ElementEquiv};
 
-impl<'a, K: ElementEq, V: ElementEq, H, W: IndexMapWidth> ArchivedIndexMap<'a, K, V, H, W> {
+impl<'a, K: ElementEq, V: ElementEq, H, W: IndexWidth> ArchivedIndexMap<'a, K, V, H, W> {
     /// Returns `true` if and only if both maps have the same length and the same pairs in order.
     ///
     /// # Examples
@@ -49,7 +49,7 @@ impl<'a, K: ElementEq, V: ElementEq, H, W: IndexMapWidth> ArchivedIndexMap<'a, K
 }
 
 /// Returns `true` if and only if both maps have the same length and the same pairs in order.
-impl<'a, K: ElementEquiv, V: ElementEquiv, H, W: IndexMapWidth> PartialEq
+impl<'a, K: ElementEquiv, V: ElementEquiv, H, W: IndexWidth> PartialEq
     for ArchivedIndexMap<'a, K, V, H, W> {
     ghost eq = { index_maps_equal K.same V.same };
 
@@ -62,12 +62,12 @@ impl<'a, K: ElementEquiv, V: ElementEquiv, H, W: IndexMapWidth> PartialEq
     }
 }
 
-impl<'a, K: ElementEquiv, V: ElementEquiv, H, W: IndexMapWidth> Eq
+impl<'a, K: ElementEquiv, V: ElementEquiv, H, W: IndexWidth> Eq
     for ArchivedIndexMap<'a, K, V, H, W> {
     ghost laws = { maps_equality K.equivalence V.equivalence };
 }
 
-impl<K: ElementEq, V: ElementEq, H, W: IndexMapWidth> ElementEq for IndexMapOf<K, V, H, W> {
+impl<K: ElementEq, V: ElementEq, H, W: IndexWidth> ElementEq for IndexMapOf<K, V, H, W> {
     ghost same = { index_map_equal W.word K.spec V.spec K.same V.same };
 
     #[inline]
@@ -81,8 +81,7 @@ impl<K: ElementEq, V: ElementEq, H, W: IndexMapWidth> ElementEq for IndexMapOf<K
     }
 }
 
-impl<K: ElementEquiv, V: ElementEquiv, H, W: IndexMapWidth> ElementEquiv
-    for IndexMapOf<K, V, H, W> {
+impl<K: ElementEquiv, V: ElementEquiv, H, W: IndexWidth> ElementEquiv for IndexMapOf<K, V, H, W> {
     ghost equivalence = { index_equivalence W.word (entry_spec K.spec V.spec)
         (entry_element K.spec V.spec K.laws V.laws) (entry_equivalence K.laws V.laws K.equivalence
         V.equivalence) };

@@ -8,7 +8,7 @@ ghost use Rattle.rkyv_table.specs.{AllValid, HintsExactly, YieldsKey, YieldsPair
 ghost use Rattle.rkyv_index.specs.{WalksAll, index_archive, index_len, key_positions};
 
 use crate::map::ArchivedIndexMap;
-use crate::width::IndexMapWidth;
+use crate::width::IndexWidth;
 use rkyv_base::element::{Element, HasSpec};
 use rkyv_base::entry::Entry;
 use rkyv_base::view::{PairView, View};
@@ -164,7 +164,7 @@ impl<'a, K: Element, V: Element> ExactSizeIterator for Values<'a, K, V> {
     }
 }
 
-impl<'a, K: Element, V: Element, H, W: IndexMapWidth> ArchivedIndexMap<'a, K, V, H, W> {
+impl<'a, K: Element, V: Element, H, W: IndexWidth> ArchivedIndexMap<'a, K, V, H, W> {
     /// Returns an iterator over the pairs, in order.
     ///
     /// # Examples
@@ -223,7 +223,7 @@ impl<'a, K: Element, V: Element, H, W: IndexMapWidth> ArchivedIndexMap<'a, K, V,
 }
 
 /// `for (key, value) in map` visits the pairs, in order.
-impl<'a, K: Element, V: Element, H, W: IndexMapWidth> IntoIterator
+impl<'a, K: Element, V: Element, H, W: IndexWidth> IntoIterator
     for ArchivedIndexMap<'a, K, V, H, W> {
     type Item = PairView<'a, K, V>;
 
@@ -240,7 +240,7 @@ impl<'a, K: Element, V: Element, H, W: IndexMapWidth> IntoIterator
 }
 
 /// `for (key, value) in &map` visits the pairs, in order.
-impl<'a, K: Element, V: Element, H, W: IndexMapWidth> IntoIterator
+impl<'a, K: Element, V: Element, H, W: IndexWidth> IntoIterator
     for &ArchivedIndexMap<'a, K, V, H, W> {
     type Item = PairView<'a, K, V>;
 

@@ -22,7 +22,7 @@ ghost use Rattle.rkyv_index.specs.{index_part, index_spec, pair_part, value_part
 
 use crate::map::ArchivedIndexMap;
 use crate::map::read::entries::{find_index, key_in};
-use crate::width::IndexMapWidth;
+use crate::width::IndexWidth;
 use rkyv_base::element::Element;
 use rkyv_base::view::{PairView, View};
 use rkyv_keys::hash::{KeyHash, hash_value};
@@ -31,13 +31,7 @@ use rkyv_scan::hash::KeyHasher;
 use rkyv_table::Strides;
 
 // Every lookup is one call of `find`.
-impl<'a, K: KeyElement, V: Element, H: KeyHasher, W: IndexMapWidth> ArchivedIndexMap<
-    'a,
-    K,
-    V,
-    H,
-    W,
-> {
+impl<'a, K: KeyElement, V: Element, H: KeyHasher, W: IndexWidth> ArchivedIndexMap<'a, K, V, H, W> {
     /// Returns the index of a key under the hash of `key` that the comparison accepts, or `None`.
     ///
     /// The count is increased by the strides of sixteen control bytes that are read.

@@ -9,20 +9,14 @@ ghost use Rattle.rkyv_index.specs.{ReadsWithinBound, ReturnsRepeated, index_len,
 ghost use Rattle.rkyv_index.specs.{index_of, is_misplaced, own_strides};
 
 use crate::map::ArchivedIndexMap;
-use crate::width::IndexMapWidth;
+use crate::width::IndexWidth;
 use rkyv_base::element::Element;
 use rkyv_keys::keys::KeyElement;
 use rkyv_scan::hash::KeyHasher;
 use rkyv_table::Strides;
 use rkyv_table::table::misplaced::{finds_another_or_none, is_past};
 
-impl<'a, K: KeyElement, V: Element, H: KeyHasher, W: IndexMapWidth> ArchivedIndexMap<
-    'a,
-    K,
-    V,
-    H,
-    W,
-> {
+impl<'a, K: KeyElement, V: Element, H: KeyHasher, W: IndexWidth> ArchivedIndexMap<'a, K, V, H, W> {
     // Returns `true` if and only if a lookup of the key at `index` doesn't find `index`.
     // The count is increased by the strides that the lookup reads.
     #[inline]

@@ -6,7 +6,7 @@ ghost use Rattle.std.specs.Slice.Iter.{iter_rest};
 ghost use Rattle.rkyv_keys.specs.{hash_of};
 ghost use Rattle.rkyv_index.specs.{indices_from};
 
-use crate::width::IndexMapWidth;
+use crate::width::IndexWidth;
 use rkyv_base::adapter::EntryAdapter;
 use rkyv_base::lend::Lend;
 use rkyv_keys::hash::{KeyHash, hash_value};
@@ -65,7 +65,7 @@ impl<'a, U, H, W> HashedIndices<'a, U, H, W> {
     }
 }
 
-impl<'a, U: HashedEntry<H>, H, W: IndexMapWidth> Iterator for HashedIndices<'a, U, H, W> {
+impl<'a, U: HashedEntry<H>, H, W: IndexWidth> Iterator for HashedIndices<'a, U, H, W> {
     type Item = (u64, W::Index);
 
     ghost can_next = { λ s. (s.index + length (iter_rest s.values) ≤ W.LIMIT)

@@ -4,7 +4,7 @@ ghost use Rattle.std.specs.Prelude.{◌≡◌, ◌+◌, ◌<◌, ◌^◌, length
 ghost use Rattle.rkyv_index.specs.{IndexResolver, WritesIndexHeader};
 
 use crate::map::ArchivedIndexMap;
-use crate::width::IndexMapWidth;
+use crate::width::IndexWidth;
 use rkyv_base::archive::ResolveResult;
 use rkyv_base::element::HasSpec;
 use rkyv_base::errors::DistanceTooLarge;
@@ -15,18 +15,18 @@ use std::marker::Model;
 
 /// The resolver of a written index map: that of its table, and the position of its entries.
 #[derive(Drop)]
-pub struct IndexMapResolver<W: IndexMapWidth = Narrow> {
+pub struct IndexMapResolver<W: IndexWidth = Narrow> {
     pub(crate) table: HashTableResolver<W>,
     pub(crate) entries: u64,
 }
 
-impl<W: IndexMapWidth> Model for IndexMapResolver<W> {
+impl<W: IndexWidth> Model for IndexMapResolver<W> {
     ghost Value = { IndexResolver };
 
     ghost view = { λ r. record { table = r.table; entries = r.entries } };
 }
 
-impl<W: IndexMapWidth> IndexMapResolver<W> {
+impl<W: IndexWidth> IndexMapResolver<W> {
     /// Returns the number of pairs of the map.
     #[inline]
     pub fn len(&self) -> usize
@@ -67,7 +67,7 @@ impl<W: IndexMapWidth> IndexMapResolver<W> {
     }
 }
 
-impl<'a, K: HasSpec, V: HasSpec, H, W: IndexMapWidth> ArchivedIndexMap<'a, K, V, H, W> {
+impl<'a, K: HasSpec, V: HasSpec, H, W: IndexWidth> ArchivedIndexMap<'a, K, V, H, W> {
     /// Writes the header of a written map over the whole of `out`, for a header at `pos`.
     ///
     /// It is the header of the table of indices, and then the distance to the entries.

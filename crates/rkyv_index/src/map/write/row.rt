@@ -4,13 +4,13 @@ ghost use Rattle.std.specs.Prelude.{◌≡◌, ◌<◌, ◌≤◌, [], vec_capac
 ghost use Rattle.rkyv_base.specs.{end_of};
 ghost use Rattle.rkyv_index.specs.{SerializesRow, WritesRow, row_of};
 
-use crate::width::IndexMapWidth;
+use crate::width::IndexWidth;
 use rkyv_base::archive::{Archive, Serialize, WriteResult};
 use rkyv_base::writer::{Writer, append_in};
 use std::alloc::Global;
 
 // Serializes the values in order, and pushes the resolver of each.
-pub(crate) fn serialize_row<W: IndexMapWidth, S: Writer, U: Serialize<S, W>>(
+pub(crate) fn serialize_row<W: IndexWidth, S: Writer, U: Serialize<S, W>>(
     alloc: Global,
     values: &[U],
     resolvers: &mut Vec<U::Resolver>,
@@ -29,7 +29,7 @@ pub(crate) fn serialize_row<W: IndexMapWidth, S: Writer, U: Serialize<S, W>>(
 }
 
 // Writes the own bytes of the values in order, each as one piece.
-pub(crate) fn write_row<W: IndexMapWidth, S: Writer, U: Archive<W>>(
+pub(crate) fn write_row<W: IndexWidth, S: Writer, U: Archive<W>>(
     values: &[U],
     resolvers: Vec<U::Resolver>,
     scratch: &mut [u8],

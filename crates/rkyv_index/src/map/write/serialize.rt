@@ -13,7 +13,7 @@ use crate::map::write::resolve::IndexMapResolver;
 use crate::map::write::source::{Room, take_entries};
 use crate::map::write::write_index;
 use crate::map::{ArchivedIndexMap, IndexMapOf};
-use crate::width::IndexMapWidth;
+use crate::width::IndexWidth;
 use rkyv_base::adapter::EntryAdapter;
 use rkyv_base::archive::{Archive, Serialize, WriteResult};
 use rkyv_base::element::{Element, Represents};
@@ -36,7 +36,7 @@ impl<
     K: Element,
     V: Element,
     H: KeyHasher,
-    W: IndexMapWidth,
+    W: IndexWidth,
     A: KeyHash + Archive<W>,
     B: Archive<W>,
 > ListFormat<(A, B)> for IndexMapOf<K, V, H, W> {
@@ -44,13 +44,7 @@ impl<
         (native_format K.spec V.spec A.format B.format H.hasher A.calls) };
 }
 
-impl<'a, K: KeyElement, V: Element, H: KeyHasher, W: IndexMapWidth> ArchivedIndexMap<
-    'a,
-    K,
-    V,
-    H,
-    W,
-> {
+impl<'a, K: KeyElement, V: Element, H: KeyHasher, W: IndexWidth> ArchivedIndexMap<'a, K, V, H, W> {
     /// Writes an index map of `len` pairs and returns its resolver.
     ///
     /// The pairs have their keys and values as themselves or by reference.

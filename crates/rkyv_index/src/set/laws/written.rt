@@ -3,7 +3,7 @@
 ghost use Rattle.rkyv_keys.specs.{hash_at, hash_of};
 ghost use Rattle.rkyv_index.specs.{WrittenIndexSets, element, indices};
 
-use crate::width::IndexMapWidth;
+use crate::width::IndexWidth;
 use rkyv_base::archive::Archive;
 use rkyv_base::element::Represents;
 use rkyv_keys::keys::{KeyElement, NativeKey};
@@ -15,7 +15,7 @@ use rkyv_scan::hash::KeyHasher;
 /// of the set. The table has the indices in order, each under the hash of its key.
 /// The keys are in a row, in insertion order.
 pub fn written_index_sets_represent<
-    W: IndexMapWidth,
+    W: IndexWidth,
     H: KeyHasher,
     K: KeyElement + Represents<A>,
     A: NativeKey<K> + Archive<W, Archived = K>,

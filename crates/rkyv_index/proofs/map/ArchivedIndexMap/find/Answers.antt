@@ -11,7 +11,7 @@ find_index-requires g c κs =
     record {
       room = c.requires.room;
       callable = λ item is_item.
-          let there = item_index m g.W.Index.Scalar.encoding g.met.W.Index.Scalar.laws g.met.W.IndexMapWidth.index c.table-table.result c.table-table.ensures.at item is_item in (
+          let there = item_index m g.W.Index.Scalar.encoding g.met.W.Index.Scalar.laws g.met.W.IndexWidth.index c.table-table.result c.table-table.ensures.at item is_item in (
             there.0,
             λ i e. (
               (refl, tt),
@@ -33,21 +33,21 @@ pub returns-clause-found : goal.returns-clause-found
 returns-clause-found g c =
     let m = c.args.self in
     let f = c.find_index.ensures.found in
-    gets_index m g.W.Index.Scalar.encoding g.met.W.Index.Scalar.laws g.met.W.IndexMapWidth.index c.table-table.result c.table-table.ensures.at
+    gets_index m g.W.Index.Scalar.encoding g.met.W.Index.Scalar.laws g.met.W.IndexWidth.index c.table-table.result c.table-table.ensures.at
     (hash_at g.H.KeyHasher.hasher g.K.KeyElement.key_calls) _ (goal.F-post g c.args.cmp c.args.key)
     (λ h r x. (x.2.0, subst (λ n. IsKeyOf m n x.2.0) x.1 x.2.1, x.2.2))
     c.hash_value-hash.result _ c.hash_value-hash.ensures f.item f.found c.find_index.result
-    (f.is ∙ stored_index_found m g.W.Index.Scalar.encoding g.met.W.Index.Scalar.laws g.met.W.IndexMapWidth.index c.table-table.result c.table-table.ensures.at f.item f.found.walked)
+    (f.is ∙ stored_index_found m g.W.Index.Scalar.encoding g.met.W.Index.Scalar.laws g.met.W.IndexWidth.index c.table-table.result c.table-table.ensures.at f.item f.found.walked)
 
 pub returns-clause-bounded : goal.returns-clause-bounded
 returns-clause-bounded g c =
-    reads_few c.args.self g.W.Index.Scalar.encoding g.met.W.Index.Scalar.laws g.met.W.IndexMapWidth.index
+    reads_few c.args.self g.W.Index.Scalar.encoding g.met.W.Index.Scalar.laws g.met.W.IndexWidth.index
     c.table-table.result c.table-table.ensures.at _ _ c.find_index.ensures.counts.bounded
 
 pub returns-clause-counted : goal.returns-clause-counted
 returns-clause-counted g c = λ accept compares.
     let m = c.args.self in
-    counts_index m g.W.Index.Scalar.encoding g.met.W.Index.Scalar.laws g.met.W.IndexMapWidth.index c.table-table.result c.table-table.ensures.at
+    counts_index m g.W.Index.Scalar.encoding g.met.W.Index.Scalar.laws g.met.W.IndexWidth.index c.table-table.result c.table-table.ensures.at
     _ (goal.F-post g c.args.cmp c.args.key)
     (λ h r x. (x.2.0, subst (λ n. IsKeyOf m n x.2.0) x.1 x.2.1, x.2.2))
     None accept compares c.hash_value-hash.result _ _ _ c.hash_value-hash.ensures c.find_index.ensures.counts.counted

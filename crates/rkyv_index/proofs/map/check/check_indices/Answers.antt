@@ -12,13 +12,13 @@ use Rattle.rkyv_index.proofs.Checking.{buckets_below, decoded_before, decoded_be
 use Rattle.rkyv_index.proofs.map.check.check_indices.Goals as goal
 
 pub new-requires : goal.new-requires
-new-requires g c = number_table_viewable g.W.Word.word g.W.Index.HasSpec.spec g.W.Index.Scalar.encoding g.met.W.Index.Scalar.laws g.met.W.IndexMapWidth.index c.args.bytes.now c.args.pos c.requires
+new-requires g c = number_table_viewable g.W.Word.word g.W.Index.HasSpec.spec g.W.Index.Scalar.encoding g.met.W.Index.Scalar.laws g.met.W.IndexWidth.index c.args.bytes.now c.args.pos c.requires
 
 pub of-table-requires : goal.of-table-requires
 of-table-requires g c =
     let s = table_spec g.W.Word.word g.W.Index.HasSpec.spec in
     view_there s c.new.result c.args.bytes c.args.pos c.new.ensures
-    (number_table_viewable g.W.Word.word g.W.Index.HasSpec.spec g.W.Index.Scalar.encoding g.met.W.Index.Scalar.laws g.met.W.IndexMapWidth.index c.args.bytes.now c.args.pos c.requires)
+    (number_table_viewable g.W.Word.word g.W.Index.HasSpec.spec g.W.Index.Scalar.encoding g.met.W.Index.Scalar.laws g.met.W.IndexWidth.index c.args.bytes.now c.args.pos c.requires)
 
 pub buckets_begin-requires : goal.buckets_begin-requires
 buckets_begin-requires g c =
@@ -62,7 +62,7 @@ read_count-index-requires g c =
     let e = c.in-Some.ensures.steps in
     let here : Viewable s before.archive.now c.in-Some.at =
     All-head (Viewable s before.archive.now) c.in-Some.at after.positions (subst (All (Viewable s before.archive.now)) e.takes inv.all_valid) in
-    let size = g.met.W.Index.Scalar.laws.size ∙ ap byte_len g.met.W.IndexMapWidth.index.word in
+    let size = g.met.W.Index.Scalar.laws.size ∙ ap byte_len g.met.W.IndexWidth.index.word in
     subst (λ n. c.in-Some.at + n ≤ length c.args.bytes.now) size
     (subst (λ (b : List ℕ). c.in-Some.at + s.size ≤ length b) inv.archive here.inside)
 
@@ -99,7 +99,7 @@ loop-at-init g c =
     let into = c.into_iter-at-iterator.ensures.into_iter_gives in
     let archive : t.view.archive ≡ c.args.bytes = ap (λ v. v.archive) c.of-table.ensures.view ∙ c.new.ensures.0 in
     let pos : t.view.pos ≡ c.args.pos = ap (λ v. v.pos) c.of-table.ensures.view ∙ c.new.ensures.1 in
-    let size : s.size ≡ byte_len w = g.met.W.Index.Scalar.laws.size ∙ ap byte_len g.met.W.IndexMapWidth.index.word in
+    let size : s.size ≡ byte_len w = g.met.W.Index.Scalar.laws.size ∙ ap byte_len g.met.W.IndexWidth.index.word in
     let indices : c.into_iter-at-iterator.result.positions ≡ item_positions w (byte_len w) b c.args.pos =
     ap (λ (l : ItemsLeft). l.positions) into ∙ raw.positions ∙ ap (λ k. item_positions w k t.view.archive.now t.view.pos) size
     ∙ ap (λ (a : Bor (List ℕ)). item_positions w (byte_len w) a.now t.view.pos) archive ∙ ap (item_positions w (byte_len w) b) pos in
