@@ -1,10 +1,12 @@
 //! Laws of the elements of this crate: their layout, their bytes, and the values they represent.
 //!
 //! An implementation names these in its own ghost members. The laws say them of each type,
-//! by the definitions in `specs/`. One law is about the outputs of writers.
+//! by the definitions in `specs/`. Other laws are about the words and limits of both widths,
+//! the greatest size of an element, the outputs of writers, conversions between errors, and
+//! clones of views.
 
 ghost use Rattle.std.specs.Int.{w16, w32, w64, w8};
-ghost use Rattle.std.specs.Prelude.{string_bytes, ◌≡◌};
+ghost use Rattle.std.specs.Prelude.{string_bytes, ◌↔◌, ◌≡◌};
 ghost use Rattle.rkyv_base.specs.{CountsReadBack, DistancesReadBack, IsScalar, IsTextOf};
 ghost use Rattle.rkyv_base.specs.{PairRepresents, RepresentsAs, SameEncoding, SameFormat, SameSpec};
 ghost use Rattle.rkyv_base.specs.{SameValues, ScalarRepresents, WideDistancesFit};
@@ -12,17 +14,25 @@ ghost use Rattle.rkyv_base.specs.{bool_encoding, char_encoding, entry_spec, limi
 ghost use Rattle.rkyv_base.specs.{pair_format, pair_of, scalar_format, signed, text_format};
 ghost use Rattle.rkyv_base.specs.{text_spec, unit_format, unit_represents, unit_spec, unsigned};
 ghost use Rattle.rkyv_base.specs.{vec_output, wide_limit, written_as};
+ghost use Rattle.rkyv_base.specs.declared.errors.ReadError.TheVariants as read;
+ghost use Rattle.rkyv_base.specs.declared.errors.RoundTripError.TheVariants.{Read, Write};
+ghost use Rattle.rkyv_base.specs.declared.errors.WriteError.TheVariants as write;
 
 use crate::adapter::EntryAdapter;
 use crate::archive::Archive;
 use crate::element::{HasSpec, Represents};
 use crate::entry::{Entry, LARGEST};
+use crate::errors::{
+    DistanceTooLarge, IteratorLengthMismatch, ReadError, RoundTripError, WriteError,
+};
 use crate::lend::Lend;
 use crate::limit::LimitWriter;
 use crate::scalars::Scalar;
 use crate::text::Text;
+use crate::view::View;
 use crate::width::{Narrow, Wide, Width, Word};
-use crate::writer::{VecWriter, Writer};
+use crate::writer::{NoMemory, VecWriter, Writer};
+use std::alloc::{AllocError, AllocFailed};
 
 /// States by which numbers the integers are encoded: in as many bits as their types have.
 ///
@@ -137,4 +147,30 @@ pub fn largest_element()
 pub fn outputs_of_writers<S: Writer>()
     ensures memory { (w : _) → ⟦<VecWriter as Writer>⟧.output w ≡ vec_output w }
     ensures limit { (w : _) → ⟦<LimitWriter<S> as Writer>⟧.output w ≡ limited S.output w }
+{}
+
+/// States into which error `?` converts an error.
+pub fn errors_are_converted<F, T: Drop>()
+    ensures written { (a : _) (e : _) → ⟦<WriteError<F> as From<AllocError>>⟧.from_gives a e
+        ↔ (e ≡ write.Memory) }
+    ensures distances { (a : _) (e : _) → ⟦<WriteError<F> as From<DistanceTooLarge>>⟧.from_gives a e
+        ↔ (e ≡ write.DistanceTooLarge) }
+    ensures lengths { (a : _) (e : _) →
+        ⟦<WriteError<F> as From<IteratorLengthMismatch>>⟧.from_gives a e
+        ↔ (e ≡ write.IteratorLengthMismatch a) }
+    ensures read { (a : _) (e : _) → ⟦<ReadError as From<AllocError>>⟧.from_gives a e
+        ↔ (e ≡ read.Memory) }
+    ensures read_back { (a : _) (e : _) → ⟦<ReadError as From<AllocFailed<T>>>⟧.from_gives a e
+        ↔ (e ≡ read.Memory) }
+    ensures writes { (a : _) (e : _) →
+        ⟦<RoundTripError as From<WriteError<NoMemory>>>⟧.from_gives a e ↔ (e ≡ Write a) }
+    ensures reads { (a : _) (e : _) → ⟦<RoundTripError as From<ReadError>>⟧.from_gives a e
+        ↔ (e ≡ Read a) }
+{}
+
+/// States that the clone of a view is the view, and that cloning one can't fail.
+pub fn views_are_cloned<'a, T>()
+    ensures same { (view clone : _) → ⟦<View<'a, T> as Clone>⟧.is_clone view clone
+        ↔ (clone ≡ view) }
+    ensures infallible { (view : _) → ⟦<View<'a, T> as Clone>⟧.is_infallible view }
 {}

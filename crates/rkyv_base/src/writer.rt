@@ -124,7 +124,7 @@ impl Writer for VecWriter {
     ///
     /// # Errors
     ///
-    /// - `NoMemory`: memory could not be allocated. Nothing is appended.
+    /// - `NoMemory`: memory could not be allocated. Nothing is appended. An empty piece needs none.
     #[inline]
     fn write(&mut self, bytes: &[u8]) -> Result<(), NoMemory>
         requires { length self.old.0 + length bytes.now < 2 ^ 64 }
@@ -133,6 +133,7 @@ impl Writer for VecWriter {
         ensures faults { OnErr result (Faults (vec_output self.old)
             (vec_output self.new) bytes.now) }
         ensures kept { OnErr result (self.new.0 ≡ self.old.0) }
+        ensures some { OnErr result (0 < length bytes.now) }
     {
         if self.bytes.extend_from_slice(bytes).is_err() {
             self.failures = self.failures.saturating_add(1);
