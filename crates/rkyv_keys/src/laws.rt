@@ -2,7 +2,7 @@
 //!
 //! Those of native keys and of queries are proved from the laws of their traits. The others are
 //! about the types of this crate: by which calls their values are hashed, which native values they
-//! equal, and with which errors they are deserialized.
+//! equal, with which errors they are deserialized, and what a clone is.
 
 ghost use Rattle.std.specs.Prelude.{[], string_bytes, ◌++◌, ◌∷◌, ◌≡◌, ◌↔◌};
 ghost use Rattle.rkyv_scan.specs.{I16, I32, I64, I8, Isize, U16, U32, U64, U8, Usize};
@@ -12,6 +12,7 @@ ghost use Rattle.rkyv_keys.specs.{RestsOnKeys, SameErrors, at_view, bool_call};
 ghost use Rattle.rkyv_keys.specs.{entry_deserialize_fails, entry_equals, memory_fails};
 ghost use Rattle.rkyv_keys.specs.{nothing_fails, text_calls};
 
+use crate::debug::Shown;
 use crate::deserialize::Deserialize;
 use crate::equality::MatchesNative;
 use crate::hash::KeyHash;
@@ -115,4 +116,11 @@ where
     ensures text { SameErrors ⟦<Text<W> as Deserialize<String>>⟧.deserialize_fails memory_fails }
     ensures pair { SameErrors ⟦<Entry<K, V> as Deserialize<(A, B)>>⟧.deserialize_fails
         (entry_deserialize_fails K.Deserialize V.Deserialize) }
+{}
+
+/// States that the clone of a value to be formatted is that value, and that cloning can't fail.
+pub fn shown_values_are_cloned<'a, T>()
+    ensures same { (shown clone : _) → ⟦<Shown<'a, T> as Clone>⟧.is_clone shown clone
+        ↔ (clone ≡ shown) }
+    ensures infallible { (shown : _) → ⟦<Shown<'a, T> as Clone>⟧.is_infallible shown }
 {}

@@ -26,7 +26,6 @@ use rkyv_base::view::View;
 use rkyv_base::width::Width;
 use rkyv_scan::hash::KeyHasher;
 use std::alloc::Global;
-use std::fmt::Debug;
 
 /// A scalar that is hashed by one call, and is equal to itself alone.
 ///

@@ -1,8 +1,9 @@
 -- The first index of a mask, and the others.
-use Rattle.std.proofs.Common.{◌≡◌, ◌∙◌, ℕ, zero, suc, ◌+◌, ◌%◌, ◌<◌, ◌≤◌, inl, inr, refl, sym, ap, arith, List, [], ◌∷◌, Bool, true, false, map, filter, drop, take, length, get_or, get_or-take, get_or-drop, Some, None}
+use Rattle.std.proofs.Common.{◌≡◌, ◌∙◌, ℕ, zero, suc, ◌+◌, ◌%◌, ◌<◌, ◌≤◌, refl, sym, ap, arith, List, [], ◌∷◌, Bool, true, false, map, filter, drop, take, length, get_or, get_or-take, get_or-drop, Some, None}
 use Rattle.rkyv_scan.specs.{IsKind, Kind, indices_where}
-use Rattle.std.proofs.lemmas.Bool.{cases_Bool}
-use Rattle.std.specs.List.{find, range_with_len, slice_get}
+use Rattle.std.proofs.lemmas.List.Elements.{All-filter, All-from_get_or, All-get_or, filter_passes}
+use Rattle.std.proofs.lemmas.List.FromFn.{get_or-range_with_len, length-range_with_len}
+use Rattle.std.specs.List.{All, find, range_with_len, slice_get}
 use Rattle.rkyv_table.specs.{IsFullInStride, IsMarked}
 use Rattle.std.proofs.lemmas.Option.{none-some, same_Some}
 
@@ -27,24 +28,12 @@ head_at (x ∷ xs) (suc n) j e = let ih = head_at xs n j e in (omega (arith, ih.
 
 -- an index that passes the test
 pub in_filter : (P : ℕ → Bool) (a n k : ℕ) → k < length (filter P (range_with_len a n)) → (get_or (filter P (range_with_len a n)) k 0 < a + n) × (P (get_or (filter P (range_with_len a n)) k 0) ≡ true)
-in_filter P a zero k h = absurd (omega arith)
-in_filter P a (suc n) zero h = elim (cases_Bool (P a)) [
-  | inl t ↦ rw t (omega arith, t)
-  | inr f ↦
-      let h' : 0 < length (filter P (range_with_len (a + 1) n)) = rw f at h in
-      let r = in_filter P (a + 1) n 0 h' in
-      rw f (omega (arith, r.0), r.1)
-]
-in_filter P a (suc n) (suc k) h = elim (cases_Bool (P a)) [
-  | inl t ↦
-      let h' : suc k < suc (length (filter P (range_with_len (a + 1) n))) = rw t at h in
-      let r = in_filter P (a + 1) n k (omega arith) in
-      rw t (omega (arith, r.0), r.1)
-  | inr f ↦
-      let h' : suc k < length (filter P (range_with_len (a + 1) n)) = rw f at h in
-      let r = in_filter P (a + 1) n (suc k) h' in
-      rw f (omega (arith, r.0), r.1)
-]
+in_filter P a n k h =
+    let range = range_with_len a n in
+    let count = length-range_with_len a n in
+    let below : All (λ i. i < a + n) range = All-from_get_or (λ i. i < a + n) range 0 (λ i l. let e = get_or-range_with_len a n i 0 (omega (arith, l, count)) in omega (arith, e, l, count)) in
+    let passes = All-get_or (λ i. P i ≡ true) (filter P range) k 0 h (filter_passes P range) in
+    (All-get_or (λ i. i < a + n) (filter P range) k 0 h (All-filter P (λ i. i < a + n) range below), passes)
 
 -- a marked index of the group at `at` is full
 pub index_full : (kind : Kind) → IsKind kind → (t : ℕ) (stride group ps : List ℕ) (at k : ℕ) → t < 128 → group ≡ take kind.width (drop at stride)

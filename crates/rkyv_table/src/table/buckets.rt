@@ -9,7 +9,6 @@ ghost use Rattle.rkyv_table.specs.{slots_with};
 
 use rkyv_base::archive::{Archive, ResolveResult, WriteResult};
 use rkyv_base::element::Element;
-use rkyv_base::errors::DistanceTooLarge;
 use rkyv_base::lend::Lend;
 use rkyv_base::width::Width;
 use rkyv_base::writer::{Writer, append_in};

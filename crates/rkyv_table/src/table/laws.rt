@@ -3,17 +3,20 @@
 //! - `written` is about the bytes of written tables, `misplaced` about misplaced items.
 //! - `in_place` is about writes of one item in place.
 ghost use Rattle.std.specs.Int.{w32};
+ghost use Rattle.std.specs.Iterator.{YieldsFirstBy};
 ghost use Rattle.std.specs.Prelude.{List, [], ℕ, ◌↔◌, ◌≡◌};
+ghost use Rattle.std.specs.Slice.Iter.{iter_rest};
 ghost use Rattle.rkyv_base.specs.{RepresentsAs, SameSpec, pair_format, scalar_format, text_format};
 ghost use Rattle.rkyv_base.specs.{unit_format, written_as};
 ghost use Rattle.rkyv_table.specs.{CountsPositions, ItemsLeft, LookupFindsFirst, SameSteps};
-ghost use Rattle.rkyv_table.specs.{VisitsHomes, WalkVisitsHomes, WritesOneWay, YieldsPos};
+ghost use Rattle.rkyv_table.specs.{UnitStep, VisitsHomes, WalkVisitsHomes, WritesOneWay, YieldsPos};
 ghost use Rattle.rkyv_table.specs.{table_format, table_spec};
 
 pub mod in_place;
 pub mod misplaced;
 pub mod written;
 
+use crate::table::list_inputs::{PairRefs, Refs, WithUnits};
 use crate::table::raw_iter::RawIter;
 use crate::table::{ArchivedHashTable, TableOf};
 use rkyv_base::archive::Archive;
@@ -37,6 +40,18 @@ pub fn positions_are_yielded<'a, T: 'a>()
     ensures steps { SameSteps ⟦<RawIter<'a, T> as Iterator>⟧.next_gives YieldsPos }
     ensures remain { CountsPositions ⟦<RawIter<'a, T> as Iterator>⟧.remaining }
     ensures ready { (left : ItemsLeft) → ⟦<RawIter<'a, T> as Iterator>⟧.can_next left }
+{}
+
+/// States that the iterators over a list yield its pairs or items in turn.
+///
+/// Those with units yield the keys of another iterator, each with the unit value.
+pub fn lists_are_yielded<'a, A: 'a, B: 'a, BK, I: Iterator<Item = BK>>()
+    ensures pairs { SameSteps ⟦<PairRefs<'a, A, B> as Iterator>⟧.next_gives
+        (YieldsFirstBy (λ pair. (pair.0.now, pair.1.now)) (λ s. iter_rest s.pairs)) }
+    ensures items { SameSteps ⟦<Refs<'a, A> as Iterator>⟧.next_gives
+        (YieldsFirstBy (λ item. item.now) (λ s. iter_rest s.items)) }
+    ensures units { SameSteps ⟦<WithUnits<I> as Iterator>⟧.next_gives
+        (λ s r t. UnitStep I.next_gives s.keys r t.keys) }
 {}
 
 /// States that a lookup in a written table finds the first accepted item of its list.
