@@ -3,7 +3,7 @@
 use rkyv_base::errors::RoundTripError;
 use rkyv_base::{
     DistanceTooLarge, IteratorLengthMismatch, LimitFault, NoMemory, ReadError, VerifyError,
-    WriteError,
+    WriteError, laws,
 };
 use std::alloc::{AllocError, Global};
 use std::error::Error;
@@ -187,13 +187,18 @@ fn other_errors_have_texts(rt: HostRuntime) {
 
 #[test]
 fn errors_are_converted(rt: HostRuntime) {
+    laws::errors_are_converted::<NoMemory, u8>();
     let alloc = rt.alloc();
+    let length =
+        "iterator claimed that it contained 3 elements, but yielded 2 items during iteration";
     let too_long: WriteError<NoMemory> = WriteError::TextTooLong;
     let from_memory: WriteError<NoMemory> = WriteError::from(AllocError);
     let from_distance: WriteError<NoMemory> = WriteError::from(DistanceTooLarge);
+    let from_length: WriteError<NoMemory> = WriteError::from(mismatch(3, 2));
     let shown = [
         has_message(alloc, from_memory, "no memory"),
         has_message(alloc, from_distance, "distance too large"),
+        has_message(alloc, from_length, length),
         has_message(alloc, ReadError::from(AllocError), "no memory"),
         has_message(alloc, RoundTripError::from(too_long), "text too long"),
         has_message(
@@ -202,5 +207,5 @@ fn errors_are_converted(rt: HostRuntime) {
             "refused 5",
         ),
     ];
-    expect_eq!(rt; shown, [true; 5]);
+    expect_eq!(rt; shown, [true; 6]);
 }

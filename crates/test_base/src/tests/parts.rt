@@ -2,7 +2,7 @@
 
 use rkyv_base::{
     Archive, EntryResolver, LARGEST, Narrow, PartRange, access_in, access_unchecked,
-    distance_target, part_in, whole_size,
+    distance_target, laws, part_in, whole_size,
 };
 
 #[test]
@@ -67,6 +67,7 @@ fn cloned_number(bytes: &[u8]) -> Option<(u64, u32)> {
 
 #[test]
 fn clones_are_the_same(rt: HostRuntime) {
+    laws::views_are_cloned::<u32>();
     let range = PartRange { lo: 4, hi: 16 };
     let same = range.clone().ok();
     let number = cloned_number(&[0, 0, 0, 0, 7, 0, 0, 0]);

@@ -2,7 +2,7 @@
 use rkyv_base::access::access;
 use rkyv_base::{VerifyError, to_bytes};
 use rkyv_keys::{
-    Deserialize, ElementEq, KeyElement, MatchesNative, Query, ScalarKey, Shown, hash_value,
+    Deserialize, ElementEq, KeyElement, MatchesNative, Query, ScalarKey, Shown, hash_value, laws,
 };
 use rkyv_scan::{FxHasher64, KeyHasher};
 use std::alloc::Global;
@@ -99,4 +99,17 @@ fn scalars_represent_themselves(rt: HostRuntime) {
         represents(alloc, 'x', 'y', "'x'"),
     ];
     expect_eq!(rt; right, [Some(true); 10]);
+}
+
+// Returns `true` if a clone of the shown value of an archive is formatted as 7.
+fn is_cloned(alloc: Global, bytes: &[u8]) -> Option<bool> {
+    let shown = Shown::new(access::<u8>(bytes).ok()?);
+    let text = format!(in alloc; "{:?}", shown.clone().ok()?).ok()?;
+    Some(text.as_str() == "7")
+}
+
+#[test]
+fn a_clone_of_a_shown_value_is_formatted_alike(rt: HostRuntime) {
+    laws::shown_values_are_cloned::<u8>();
+    expect_eq!(rt; is_cloned(rt.alloc(), &[7]), Some(true));
 }

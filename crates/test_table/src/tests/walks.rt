@@ -7,6 +7,7 @@ use rkyv_base::element::Element;
 use rkyv_base::entry::Entry;
 use rkyv_base::errors::VerifyError;
 use rkyv_base::width::Narrow;
+use rkyv_table::table::list_inputs::{PairRefs, Refs, WithUnits};
 use rkyv_table::table::raw_iter::RawIter;
 use rkyv_table::table::{ArchivedHashTable, TableOf, laws};
 use test_support::archives::{four_pairs, no_items, one_key_twice, two_units};
@@ -101,4 +102,24 @@ fn two_views(bytes: &[u8]) -> Result<Option<(u8, u8, bool)>, VerifyError> {
 fn a_walk_yields_views(rt: HostRuntime) {
     let views = two_views(&two_archived()).ok();
     expect_eq!(rt; views, Some(Some((20, 10, true))));
+}
+
+#[test]
+fn lists_are_yielded_in_order(rt: HostRuntime) {
+    laws::lists_are_yielded::<u8, u8, &u8, Refs<'_, u8>>();
+    let list = [(1u8, 2u8), (3, 4)];
+    let mut pairs = PairRefs::of(&list);
+    let keys = [5u8, 6];
+    let mut units = WithUnits {
+        keys: Refs::of(&keys),
+    };
+    let yielded = [
+        matches!(pairs.next(), Some((&1, &2))),
+        matches!(pairs.next(), Some((&3, &4))),
+        pairs.next().is_none(),
+        matches!(units.next(), Some((&5, ()))),
+        matches!(units.next(), Some((&6, ()))),
+        units.next().is_none(),
+    ];
+    expect_eq!(rt; yielded, [true; 6]);
 }
