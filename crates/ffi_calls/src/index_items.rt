@@ -55,7 +55,7 @@ fn numbers_by<K: NumberKey, P: PairOf<K, u64>>(
 ///
 /// - `NO_MEMORY`: an allocation fails.
 /// - `VALUE_TOO_LARGE`: a value has more bits than the values of the map.
-/// - A status from 23 on: the write fails.
+/// - 23 to 29: the status of the write error.
 ///
 /// After an error `built` is unchanged.
 pub fn build_index_numbers<K: NumberKey, P: PairOf<K, u64>>(
@@ -109,7 +109,7 @@ fn texts_by<'a, P: PairOf<&'a [u8], u64>>(
 /// - `NO_MEMORY`: an allocation fails.
 /// - `NOT_TEXT`: a key isn't UTF-8.
 /// - `VALUE_TOO_LARGE`: a value has more bits than the values of the map.
-/// - A status from 23 on: the write fails.
+/// - 23 to 29: the status of the write error.
 ///
 /// After an error `built` is unchanged.
 pub fn build_index_texts<'a, P: PairOf<&'a [u8], u64>>(

@@ -112,8 +112,9 @@ pub fn get_index_number<K: NumberKey, I: IndexedOf<u64>>(
     }
 }
 
-/// Looks up a key, and overwrites its value in place. The archive stays valid, and its header as it
-/// is.
+/// Looks up a key, and overwrites its value in place.
+///
+/// The archive stays valid, and its header is unchanged.
 ///
 /// # Requires
 ///

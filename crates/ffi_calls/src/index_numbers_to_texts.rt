@@ -29,8 +29,9 @@ pub fn open_index_numbers_to_texts<K: NumberKey>(archive: &[u8], wide: bool) -> 
     explain_index_numbers_to_texts::<K>(archive, wide).status
 }
 
-/// Validates the archive of an index map of numbers to texts, and returns the first error with its
-/// numbers.
+/// Validates the archive of an index map of numbers to texts.
+///
+/// Returns the first error with its numbers.
 pub fn explain_index_numbers_to_texts<K: NumberKey>(archive: &[u8], wide: bool) -> Explanation
     ensures { Explains (limit_of wide) (number_text_index K.NumberKey wide) archive.now result }
 {

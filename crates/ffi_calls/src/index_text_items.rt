@@ -53,7 +53,7 @@ fn number_texts_by<'a, K: NumberKey, P: PairOf<K, &'a [u8]>>(
 ///
 /// - `NO_MEMORY`: an allocation fails.
 /// - `NOT_TEXT`: a value isn't UTF-8.
-/// - A status from 23 on: the write fails.
+/// - 23 to 29: the status of the write error.
 ///
 /// After an error `built` is unchanged.
 pub fn build_index_numbers_to_texts<'a, K: NumberKey, P: PairOf<K, &'a [u8]>>(
@@ -106,7 +106,7 @@ fn text_texts_by<'a, P: PairOf<&'a [u8], &'a [u8]>>(
 ///
 /// - `NO_MEMORY`: an allocation fails.
 /// - `NOT_TEXT`: a key or a value isn't UTF-8.
-/// - A status from 23 on: the write fails.
+/// - 23 to 29: the status of the write error.
 ///
 /// After an error `built` is unchanged.
 pub fn build_index_texts_to_texts<'a, P: PairOf<&'a [u8], &'a [u8]>>(

@@ -31,8 +31,9 @@ pub fn open_index_texts_to_texts(archive: &[u8], wide: bool) -> u32
     explain_index_texts_to_texts(archive, wide).status
 }
 
-/// Validates the archive of an index map of texts to texts, and returns the first error with its
-/// numbers.
+/// Validates the archive of an index map of texts to texts.
+///
+/// Returns the first error with its numbers.
 pub fn explain_index_texts_to_texts(archive: &[u8], wide: bool) -> Explanation
     ensures { Explains (limit_of wide) (text_text_index wide) archive.now result }
 {

@@ -12,7 +12,7 @@
 //! - `building` writes the archive of a list of pairs, and leaks its bytes to the caller.
 //! - `containers` writes the headers of containers, opens containers, and updates their checksums.
 //! - `pairs` has the pairs that calls take and store, and `reading` the form of keys and values.
-//! - `explanation` explains the first validation error of an archive, with its numbers.
+//! - `explanation` explains the first error of an archive or of a container, with its numbers.
 //! - `form` has the two flags of a map's form, and `status` the statuses that calls return.
 //! - `laws` states that archives represent their lists, and that walks visit each pair once.
 #![tactic(auto)]

@@ -67,7 +67,7 @@ fn archive_by<K: NumberKey, P: PairOf<K, u64>>(
 ///
 /// - `NO_MEMORY`: an allocation fails.
 /// - `VALUE_TOO_LARGE`: a value has more bits than the values of the map.
-/// - A status from 23 on: the write fails.
+/// - 23 to 29: the status of the write error.
 ///
 /// After an error `built` is unchanged.
 pub fn build_numbers<K: NumberKey, P: PairOf<K, u64>>(

@@ -150,7 +150,7 @@ fn archive_by<K: NumberKey>(alloc: Global, items: &[K], wide: bool) -> Result<Ve
 /// # Errors
 ///
 /// - `NO_MEMORY`: an allocation fails.
-/// - A status from 23 on: the write fails.
+/// - 23 to 29: the status of the write error.
 ///
 /// After an error `built` is unchanged.
 pub fn build_number_set<K: NumberKey>(

@@ -110,8 +110,9 @@ pub fn get_number<K: NumberKey>(
     }
 }
 
-/// Looks up a key, and overwrites its value in place. The archive stays valid, and its header as it
-/// is.
+/// Looks up a key, and overwrites its value in place.
+///
+/// The archive stays valid, and its header is unchanged.
 ///
 /// # Requires
 ///

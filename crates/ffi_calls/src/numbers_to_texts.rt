@@ -31,8 +31,9 @@ pub fn open_numbers_to_texts<K: NumberKey>(archive: &[u8], wide: bool) -> u32
     explain_numbers_to_texts::<K>(archive, wide).status
 }
 
-/// Validates the archive of a map of numbers to texts, and returns the first error with its
-/// numbers.
+/// Validates the archive of a map of numbers to texts.
+///
+/// Returns the first error with its numbers.
 pub fn explain_numbers_to_texts<K: NumberKey>(archive: &[u8], wide: bool) -> Explanation
     ensures { Explains (limit_of wide) (number_text_map K.NumberKey wide) archive.now result }
 {

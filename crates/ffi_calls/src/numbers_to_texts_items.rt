@@ -68,7 +68,7 @@ fn archive_by<'a, K: NumberKey, P: PairOf<K, &'a [u8]>>(
 ///
 /// - `NO_MEMORY`: an allocation fails.
 /// - `NOT_TEXT`: a value isn't UTF-8.
-/// - A status from 23 on: the write fails.
+/// - 23 to 29: the status of the write error.
 ///
 /// After an error `built` is unchanged.
 pub fn build_numbers_to_texts<'a, K: NumberKey, P: PairOf<K, &'a [u8]>>(

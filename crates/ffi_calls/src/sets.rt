@@ -19,8 +19,9 @@ use rkyv_collections::{KeyElement, NativeKey, SetItems};
 use rkyv_table::table::decoded::Decoded;
 use std::alloc::Global;
 
-/// Looks up an item of the set in a valid archive, by its decoded header, and returns `DONE` if it
-/// is found.
+/// Looks up an item of the set in a valid archive, by its decoded header.
+///
+/// Returns `DONE` if it is found.
 ///
 /// # Errors
 ///

@@ -16,7 +16,7 @@ pub const NOT_FOUND: u32 = 1;
 /// The value has more bits than the values of the map.
 pub const VALUE_TOO_LARGE: u32 = 3;
 
-/// The key isn't a text: its bytes aren't UTF-8.
+/// The bytes of a key, a value or an item aren't UTF-8.
 pub const NOT_TEXT: u32 = 4;
 
 /// No contents of a container have the codes.

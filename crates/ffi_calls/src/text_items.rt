@@ -70,7 +70,7 @@ fn archive_by<'a, P: PairOf<&'a [u8], u64>>(
 /// - `NO_MEMORY`: an allocation fails.
 /// - `NOT_TEXT`: a key isn't UTF-8.
 /// - `VALUE_TOO_LARGE`: a value has more bits than the values of the map.
-/// - A status from 23 on: the write fails.
+/// - 23 to 29: the status of the write error.
 ///
 /// After an error `built` is unchanged.
 pub fn build_texts<'a, P: PairOf<&'a [u8], u64>>(

@@ -61,7 +61,7 @@ fn archive_by(alloc: Global, items: &[SetText<'_>], wide: bool) -> Result<Vec<u8
 ///
 /// - `NO_MEMORY`: an allocation fails.
 /// - `NOT_TEXT`: an item isn't UTF-8.
-/// - A status from 23 on: the write fails.
+/// - 23 to 29: the status of the write error.
 ///
 /// After an error `built` is unchanged.
 pub fn build_text_set(

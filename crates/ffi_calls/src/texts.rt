@@ -152,8 +152,9 @@ fn set_of(archive: &mut [u8], form: Form, key: &str, value: u64) -> u32
     }
 }
 
-/// Looks up a key, and overwrites its value in place. The archive stays valid, and its header as it
-/// is.
+/// Looks up a key, and overwrites its value in place.
+///
+/// The archive stays valid, and its header is unchanged.
 ///
 /// # Requires
 ///

@@ -33,8 +33,9 @@ pub fn open_texts_to_texts(archive: &[u8], wide: bool) -> u32
     explain_texts_to_texts(archive, wide).status
 }
 
-/// Validates the archive of a map of texts to texts, and returns the first error with its
-/// numbers.
+/// Validates the archive of a map of texts to texts.
+///
+/// Returns the first error with its numbers.
 pub fn explain_texts_to_texts(archive: &[u8], wide: bool) -> Explanation
     ensures { Explains (limit_of wide) (text_text_map wide) archive.now result }
 {

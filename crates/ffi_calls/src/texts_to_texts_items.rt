@@ -67,7 +67,7 @@ fn archive_by<'a, P: PairOf<&'a [u8], &'a [u8]>>(
 ///
 /// - `NO_MEMORY`: an allocation fails.
 /// - `NOT_TEXT`: a key or a value isn't UTF-8.
-/// - A status from 23 on: the write fails.
+/// - 23 to 29: the status of the write error.
 ///
 /// After an error `built` is unchanged.
 pub fn build_texts_to_texts<'a, P: PairOf<&'a [u8], &'a [u8]>>(

@@ -45,8 +45,9 @@ fn pos_before(controls_pos: usize, bucket: usize, size: usize) -> u64
     (controls_pos - (bucket + 1) * size) as u64
 }
 
-/// Returns the first full bucket from `from` on, in the map in a valid archive, with the position
-/// of its pair.
+/// Returns the first full bucket from `from` on, with the position of its pair.
+///
+/// The buckets are those of the map in a valid archive.
 #[inline]
 fn next_bucket<K: Element, V: Element, W: Width>(
     archive: &[u8],
