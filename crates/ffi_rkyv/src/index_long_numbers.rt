@@ -38,8 +38,9 @@ pub extern "C" fn rkyv_c_index_open_long_numbers(
     open_index_numbers::<u64>(archive, Form { long_values, wide })
 }
 
-/// Validates the archive of an index map of numbers of 64 bits, and stores the first error with its
-/// numbers.
+/// Validates the archive of an index map of numbers of 64 bits.
+///
+/// Stores the first error with its numbers.
 #[unsafe(no_mangle)]
 pub extern "C" fn rkyv_c_index_explain_long_numbers(
     archive: &[u8],
@@ -72,8 +73,9 @@ pub extern "C" fn rkyv_c_index_decode_long_numbers(
     *header = decode_index_numbers::<u64>(archive, Form { long_values, wide });
 }
 
-/// Looks up a key, and overwrites its value in place. The archive stays valid, and its header as it
-/// is.
+/// Looks up a key, and overwrites its value in place.
+///
+/// The archive stays valid, and its header is unchanged.
 ///
 /// # Requires
 ///

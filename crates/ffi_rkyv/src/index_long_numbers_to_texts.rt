@@ -31,8 +31,9 @@ pub extern "C" fn rkyv_c_index_open_long_numbers_to_texts(archive: &[u8], wide: 
     open_index_numbers_to_texts::<u64>(archive, wide)
 }
 
-/// Validates the archive of an index map of numbers of 64 bits to texts, and stores the first error
-/// with its numbers.
+/// Validates the archive of an index map of numbers of 64 bits to texts.
+///
+/// Stores the first error with its numbers.
 #[unsafe(no_mangle)]
 pub extern "C" fn rkyv_c_index_explain_long_numbers_to_texts(
     archive: &[u8],

@@ -14,8 +14,9 @@ use ffi_calls::form::Form;
 use ffi_calls::index_numbers::get_index_number;
 use rkyv_table::table::decoded::Decoded;
 
-/// Looks up a key of a narrow index map of numbers to `u32`, and stores the index and the value of
-/// its pair in `found`.
+/// Looks up a key of a narrow index map of numbers to `u32`.
+///
+/// Stores the index and the value of its pair in `found`.
 ///
 /// # Requires
 ///
@@ -47,8 +48,9 @@ pub extern "C" fn rkyv_c_index_get_number_u32_narrow(
     get_index_number::<u32, _>(archive, form, header, key, found)
 }
 
-/// Looks up a key of a narrow index map of numbers to `u64`, and stores the index and the value of
-/// its pair in `found`.
+/// Looks up a key of a narrow index map of numbers to `u64`.
+///
+/// Stores the index and the value of its pair in `found`.
 ///
 /// # Requires
 ///
@@ -80,8 +82,9 @@ pub extern "C" fn rkyv_c_index_get_number_u64_narrow(
     get_index_number::<u32, _>(archive, form, header, key, found)
 }
 
-/// Looks up a key of a wide index map of numbers to `u32`, and stores the index and the value of
-/// its pair in `found`.
+/// Looks up a key of a wide index map of numbers to `u32`.
+///
+/// Stores the index and the value of its pair in `found`.
 ///
 /// # Requires
 ///
@@ -113,8 +116,9 @@ pub extern "C" fn rkyv_c_index_get_number_u32_wide(
     get_index_number::<u32, _>(archive, form, header, key, found)
 }
 
-/// Looks up a key of a wide index map of numbers to `u64`, and stores the index and the value of
-/// its pair in `found`.
+/// Looks up a key of a wide index map of numbers to `u64`.
+///
+/// Stores the index and the value of its pair in `found`.
 ///
 /// # Requires
 ///

@@ -67,8 +67,9 @@ pub extern "C" fn rkyv_c_index_decode_numbers(
     *header = decode_index_numbers::<u32>(archive, Form { long_values, wide });
 }
 
-/// Looks up a key, and overwrites its value in place. The archive stays valid, and its header as it
-/// is.
+/// Looks up a key, and overwrites its value in place.
+///
+/// The archive stays valid, and its header is unchanged.
 ///
 /// # Requires
 ///

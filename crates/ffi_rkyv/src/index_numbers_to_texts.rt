@@ -32,8 +32,9 @@ pub extern "C" fn rkyv_c_index_open_numbers_to_texts(archive: &[u8], wide: bool)
     open_index_numbers_to_texts::<u32>(archive, wide)
 }
 
-/// Validates the archive of an index map of numbers to texts, and stores the first error with its
-/// numbers.
+/// Validates the archive of an index map of numbers to texts.
+///
+/// Stores the first error with its numbers.
 #[unsafe(no_mangle)]
 pub extern "C" fn rkyv_c_index_explain_numbers_to_texts(
     archive: &[u8],

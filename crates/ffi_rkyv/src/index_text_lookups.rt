@@ -13,8 +13,9 @@ use ffi_calls::form::Form;
 use ffi_calls::index_texts::get_index_text;
 use rkyv_table::table::decoded::Decoded;
 
-/// Looks up a key of a narrow index map of texts to `u32`, and stores the index and the value of
-/// its pair in `found`.
+/// Looks up a key of a narrow index map of texts to `u32`.
+///
+/// Stores the index and the value of its pair in `found`.
 ///
 /// # Requires
 ///
@@ -50,8 +51,9 @@ pub extern "C" fn rkyv_c_index_get_text_u32_narrow(
     get_index_text(archive, form, header, key, found)
 }
 
-/// Looks up a key of a narrow index map of texts to `u64`, and stores the index and the value of
-/// its pair in `found`.
+/// Looks up a key of a narrow index map of texts to `u64`.
+///
+/// Stores the index and the value of its pair in `found`.
 ///
 /// # Requires
 ///
@@ -87,8 +89,9 @@ pub extern "C" fn rkyv_c_index_get_text_u64_narrow(
     get_index_text(archive, form, header, key, found)
 }
 
-/// Looks up a key of a wide index map of texts to `u32`, and stores the index and the value of its
-/// pair in `found`.
+/// Looks up a key of a wide index map of texts to `u32`.
+///
+/// Stores the index and the value of its pair in `found`.
 ///
 /// # Requires
 ///
@@ -124,8 +127,9 @@ pub extern "C" fn rkyv_c_index_get_text_u32_wide(
     get_index_text(archive, form, header, key, found)
 }
 
-/// Looks up a key of a wide index map of texts to `u64`, and stores the index and the value of its
-/// pair in `found`.
+/// Looks up a key of a wide index map of texts to `u64`.
+///
+/// Stores the index and the value of its pair in `found`.
 ///
 /// # Requires
 ///

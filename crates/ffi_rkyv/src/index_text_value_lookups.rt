@@ -16,8 +16,9 @@ use ffi_calls::index_numbers_to_texts::get_index_text_of_number;
 use ffi_calls::index_texts_to_texts::get_index_text_of_text;
 use rkyv_table::table::decoded::Decoded;
 
-/// Looks up a key of a narrow index map of numbers to texts, and stores the index and the text of
-/// its pair in `found`.
+/// Looks up a key of a narrow index map of numbers to texts.
+///
+/// Stores the index and the text of its pair in `found`.
 ///
 /// # Requires
 ///
@@ -44,8 +45,9 @@ pub extern "C" fn rkyv_c_index_get_text_of_number_narrow<'a>(
     get_index_text_of_number::<u32, _>(archive, false, header, key, found)
 }
 
-/// Looks up a key of a wide index map of numbers to texts, and stores the index and the text of its
-/// pair in `found`.
+/// Looks up a key of a wide index map of numbers to texts.
+///
+/// Stores the index and the text of its pair in `found`.
 ///
 /// # Requires
 ///
@@ -72,8 +74,9 @@ pub extern "C" fn rkyv_c_index_get_text_of_number_wide<'a>(
     get_index_text_of_number::<u32, _>(archive, true, header, key, found)
 }
 
-/// Looks up a key of a narrow index map of numbers of 64 bits to texts, and stores the index and
-/// the text of its pair in `found`.
+/// Looks up a key of a narrow index map of numbers of 64 bits to texts.
+///
+/// Stores the index and the text of its pair in `found`.
 ///
 /// # Requires
 ///
@@ -100,8 +103,9 @@ pub extern "C" fn rkyv_c_index_get_text_of_long_number_narrow<'a>(
     get_index_text_of_number::<u64, _>(archive, false, header, key, found)
 }
 
-/// Looks up a key of a wide index map of numbers of 64 bits to texts, and stores the index and the
-/// text of its pair in `found`.
+/// Looks up a key of a wide index map of numbers of 64 bits to texts.
+///
+/// Stores the index and the text of its pair in `found`.
 ///
 /// # Requires
 ///
@@ -128,8 +132,9 @@ pub extern "C" fn rkyv_c_index_get_text_of_long_number_wide<'a>(
     get_index_text_of_number::<u64, _>(archive, true, header, key, found)
 }
 
-/// Looks up a key of a narrow index map of texts to texts, and stores the index and the text of its
-/// pair in `found`.
+/// Looks up a key of a narrow index map of texts to texts.
+///
+/// Stores the index and the text of its pair in `found`.
 ///
 /// # Requires
 ///
@@ -160,8 +165,9 @@ pub extern "C" fn rkyv_c_index_get_text_of_text_narrow<'a>(
     get_index_text_of_text(archive, false, header, key, found)
 }
 
-/// Looks up a key of a wide index map of texts to texts, and stores the index and the text of its
-/// pair in `found`.
+/// Looks up a key of a wide index map of texts to texts.
+///
+/// Stores the index and the text of its pair in `found`.
 ///
 /// # Requires
 ///

@@ -30,8 +30,9 @@ pub extern "C" fn rkyv_c_index_open_texts_to_texts(archive: &[u8], wide: bool) -
     open_index_texts_to_texts(archive, wide)
 }
 
-/// Validates the archive of an index map of texts to texts, and stores the first error with its
-/// numbers.
+/// Validates the archive of an index map of texts to texts.
+///
+/// Stores the first error with its numbers.
 #[unsafe(no_mangle)]
 pub extern "C" fn rkyv_c_index_explain_texts_to_texts(
     archive: &[u8],

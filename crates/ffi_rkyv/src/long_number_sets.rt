@@ -28,8 +28,9 @@ pub extern "C" fn rkyv_c_open_long_number_set(archive: &[u8], wide: bool) -> u32
     open_number_set::<u64>(archive, wide)
 }
 
-/// Validates the archive of a set of numbers of 64 bits, and stores the first error with its
-/// numbers.
+/// Validates the archive of a set of numbers of 64 bits.
+///
+/// Stores the first error with its numbers.
 #[unsafe(no_mangle)]
 pub extern "C" fn rkyv_c_explain_long_number_set(
     archive: &[u8],

@@ -30,8 +30,9 @@ pub extern "C" fn rkyv_c_open_long_numbers(archive: &[u8], long_values: bool, wi
     open_numbers::<u64>(archive, Form { long_values, wide })
 }
 
-/// Validates the archive of a map of numbers of 64 bits, and stores the first error with its
-/// numbers.
+/// Validates the archive of a map of numbers of 64 bits.
+///
+/// Stores the first error with its numbers.
 #[unsafe(no_mangle)]
 pub extern "C" fn rkyv_c_explain_long_numbers(
     archive: &[u8],
@@ -63,8 +64,9 @@ pub extern "C" fn rkyv_c_decode_long_numbers(
     *header = decode_numbers::<u64>(archive, Form { long_values, wide });
 }
 
-/// Looks up a key, and overwrites its value in place. The archive stays valid, and its header as it
-/// is.
+/// Looks up a key, and overwrites its value in place.
+///
+/// The archive stays valid, and its header is unchanged.
 ///
 /// # Requires
 ///

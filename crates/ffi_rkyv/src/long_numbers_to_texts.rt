@@ -30,8 +30,9 @@ pub extern "C" fn rkyv_c_open_long_numbers_to_texts(archive: &[u8], wide: bool) 
     open_numbers_to_texts::<u64>(archive, wide)
 }
 
-/// Validates the archive of a map of numbers of 64 bits to texts, and stores the first error with
-/// its numbers.
+/// Validates the archive of a map of numbers of 64 bits to texts.
+///
+/// Stores the first error with its numbers.
 #[unsafe(no_mangle)]
 pub extern "C" fn rkyv_c_explain_long_numbers_to_texts(
     archive: &[u8],

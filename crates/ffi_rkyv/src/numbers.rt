@@ -63,8 +63,9 @@ pub extern "C" fn rkyv_c_decode_numbers(
     *header = decode_numbers::<u32>(archive, Form { long_values, wide });
 }
 
-/// Looks up a key, and overwrites its value in place. The archive stays valid, and its header as it
-/// is.
+/// Looks up a key, and overwrites its value in place.
+///
+/// The archive stays valid, and its header is unchanged.
 ///
 /// # Requires
 ///

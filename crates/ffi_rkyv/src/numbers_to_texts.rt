@@ -30,8 +30,9 @@ pub extern "C" fn rkyv_c_open_numbers_to_texts(archive: &[u8], wide: bool) -> u3
     open_numbers_to_texts::<u32>(archive, wide)
 }
 
-/// Validates the archive of a map of numbers to texts, and stores the first error with its
-/// numbers.
+/// Validates the archive of a map of numbers to texts.
+///
+/// Stores the first error with its numbers.
 #[unsafe(no_mangle)]
 pub extern "C" fn rkyv_c_explain_numbers_to_texts(
     archive: &[u8],

@@ -62,8 +62,9 @@ pub extern "C" fn rkyv_c_decode_texts(
     *header = decode_texts(archive, Form { long_values, wide });
 }
 
-/// Looks up a key, and overwrites its value in place. The archive stays valid, and its header as it
-/// is.
+/// Looks up a key, and overwrites its value in place.
+///
+/// The archive stays valid, and its header is unchanged.
 ///
 /// # Requires
 ///

@@ -29,8 +29,9 @@ pub extern "C" fn rkyv_c_open_texts_to_texts(archive: &[u8], wide: bool) -> u32
     open_texts_to_texts(archive, wide)
 }
 
-/// Validates the archive of a map of texts to texts, and stores the first error with its
-/// numbers.
+/// Validates the archive of a map of texts to texts.
+///
+/// Stores the first error with its numbers.
 #[unsafe(no_mangle)]
 pub extern "C" fn rkyv_c_explain_texts_to_texts(
     archive: &[u8],
