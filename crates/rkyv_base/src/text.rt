@@ -33,6 +33,8 @@ use std::marker::PhantomData;
 ///
 /// A longer text is out of line, before the fixed bytes. These then have its length,
 /// in a form with which no text begins, and the distance to it.
+///
+/// A text of 1,073,741,824 bytes or more (2^62 in a wide archive) can't be archived.
 pub struct Text<W = Narrow> {
     width: PhantomData<W>,
 }

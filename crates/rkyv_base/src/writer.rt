@@ -27,7 +27,7 @@ pub trait Writer {
     fn pos(&self) -> u64
         ensures { result ≡ end_of (output self.now) };
 
-    /// Returns the number of failed writes. The count stays at 2^64 - 1.
+    /// Returns the number of failed writes, or 2^64 - 1 if there are more.
     fn failures(&self) -> u64
         ensures { result ≡ (output self.now).failures };
 
