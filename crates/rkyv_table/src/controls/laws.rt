@@ -1,4 +1,4 @@
-//! Laws of the probe sequence and of written control bytes, over their definitions alone.
+//! Laws of probe sequences, walks and searches, and of written control bytes.
 ghost use Rattle.std.specs.Iterator.{YieldsFirst, item_count};
 ghost use Rattle.std.specs.Prelude.{List, ℕ, ◌≡◌};
 ghost use Rattle.rkyv_table.specs.{BucketsAreProbed, FirstEmptyIsNextHome, FoundOnWritten};

@@ -1,6 +1,6 @@
 //! The probe sequence of a hash, which is rkyv's.
 //!
-//! The steps of the sequence grow by 16 each, modulo a power of two. Positions
+//! The steps of the sequence grow by 16 each, modulo a power of two. Indices
 //! from the probe capacity on are skipped.
 ghost use Rattle.std.specs.Prelude.{List, ℕ, ◌%◌, ◌<◌, ◌^◌, ◌≡◌, ◌≤◌};
 ghost use Rattle.std.specs.Iterator.{YieldsFirst, item_count};

@@ -15,7 +15,7 @@ use rkyv_base::view::View;
 use rkyv_base::width::Width;
 use rkyv_scan::simd::paired;
 
-/// Returns `true` if a lookup found another bucket, or none.
+/// Returns `true` if a lookup found another bucket or returned `None`.
 #[inline]
 pub fn finds_another_or_none(bucket: usize, found: Option<usize>) -> bool
     ensures { result ≡ not (is_found_at bucket found) }
@@ -38,8 +38,8 @@ pub fn is_past(before: u64, count: u64, limit: u64) -> bool
 }
 
 impl<'a, T: Element, W: Width> ArchivedHashTable<'a, T, W> {
-    // Returns `true` if a lookup of the item in `bucket` finds another bucket or none, and counts
-    // its strides.
+    // Returns `true` if a lookup of the item in `bucket` finds another bucket or returns `None`.
+    // Counts its strides.
     #[inline]
     fn is_misplaced<H: Fn(View<'a, T>) -> u64, S: Fn(View<'a, T>, View<'a, T>) -> bool>(
         self,
@@ -86,8 +86,8 @@ impl<'a, T: Element, W: Width> ArchivedHashTable<'a, T, W> {
     /// on the positions of their arguments.
     /// `repeated_are_misplaced` relates it to repeated items of a written table.
     ///
-    /// Each item is looked up once. Items that share one hash cost a number of comparisons
-    /// that grows with the square of their number.
+    /// By its code alone, each item is looked up once. Items that share one hash cost a number of
+    /// comparisons that grows with the square of their number.
     ///
     /// # Requires
     ///

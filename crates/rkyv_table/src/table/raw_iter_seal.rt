@@ -39,8 +39,7 @@ fn part(bytes: &[u8], pos: usize, count: usize) -> Option<&[u8]>
     Some(&bytes[pos..pos + count])
 }
 
-/// Returns the position of a bucket before the position `buckets_end`, or `None` if there is no
-/// room.
+/// Returns the position of a bucket before `buckets_end`, or `None` if there is no room.
 #[inline]
 fn pos_before(buckets_end: usize, bucket: usize, size: usize) -> Option<usize>
     requires { size ≤ 1073741824 }
