@@ -131,8 +131,8 @@ fn inspect_width<W: IndexWidth>(
 
 /// Validates an archive, and returns its numbers, the lookups of all keys, and its regions.
 ///
-/// The lookups are left out if they read more than `limit` strides of sixteen control bytes. So the
-/// cost on an untrusted archive is bounded.
+/// The lookups are left out if they read more than `limit` strides of sixteen control bytes. By its
+/// code alone, the cost on an untrusted archive is bounded.
 ///
 /// # Errors
 ///
