@@ -41,7 +41,7 @@ IsFileError cause (File _ error) = cause ≡ error
 IsFileError _ (Memory _) = Unit {0}
 IsFileError _ _ = ⊥
 
--- the error of the program for a file that isn't a container, or a failed allocation
+-- the error of the program for a file that can't be opened as a container, or a failed allocation
 abbrev pub IsContainerError : ContainerError → ProgramError → Type 0
 IsContainerError cause (Container _ error) = cause ≡ error
 IsContainerError _ (Memory _) = Unit {0}

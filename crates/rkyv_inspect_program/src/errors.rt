@@ -23,7 +23,7 @@ pub enum ProgramError {
     /// The file can't be read.
     #[error("{file}: {error}")]
     File { file: String, error: io::Error },
-    /// The file isn't a container.
+    /// The file can't be opened as a container.
     #[error("{file}: {error}")]
     Container { file: String, error: ContainerError },
     /// The file isn't a valid archive.
@@ -44,7 +44,7 @@ pub fn file_error(alloc: Global, file: &str, error: io::Error) -> ProgramError
     }
 }
 
-/// Returns the error of a file that isn't a container.
+/// Returns the error of a file that can't be opened as a container.
 pub fn container_error(alloc: Global, file: &str, error: ContainerError) -> ProgramError
     ensures { IsContainerError error result }
 {

@@ -18,7 +18,7 @@ pub enum Outcome {
 /// | Status | Outcome |
 /// |---|---|
 /// | 0 | the archive is valid, or the usage is printed |
-/// | 1 | the file isn't a container, or the archive is invalid |
+/// | 1 | the file can't be opened as a container, or the archive is invalid |
 /// | 2 | the command line isn't one of the usage |
 /// | 3 | another error |
 pub fn exit_status(outcome: &Result<Outcome, ProgramError>) -> u8
