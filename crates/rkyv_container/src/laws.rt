@@ -1,6 +1,6 @@
-//! Laws of containers.
+//! The law of the texts that `Display` writes for kinds, types and widths.
 //!
-//! They say which texts `Display` writes, which each impl also has as its `ghost output`.
+//! Each impl has its text as `ghost output`, and the law states it by a definition.
 
 ghost use Rattle.std.specs.Prelude.{Some, ◌≡◌};
 ghost use Rattle.rkyv_container.specs.{kind_text, type_text, width_text};
