@@ -80,7 +80,7 @@ fn pos_of_part(message: &[u8], part: &str) -> Result<Option<u64>, VerifyError>
 ///
 /// The part and the field are those that lookups find.
 /// In the message of a list, they are the first part and the first field with these names.
-/// It is `None` if a lookup finds none.
+/// It is `None` if a lookup returns `None`.
 ///
 /// # Errors
 ///
@@ -103,7 +103,7 @@ pub fn number_of(message: &[u8], part: &str, field: &str) -> Result<Option<u32>,
 /// Validates a message, and overwrites the number of a field of a part in place.
 ///
 /// The part and the field are those that `number_of` finds.
-/// Returns `false`, and changes no byte, if a lookup finds none.
+/// Returns `false`, and changes no byte, if a lookup returns `None`.
 /// Otherwise it returns `true`, and changes only the bytes of the number. The message stays valid.
 ///
 /// # Errors

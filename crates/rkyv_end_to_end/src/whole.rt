@@ -57,8 +57,8 @@ impl From<LookError> for ListError {
 /// - The appended bytes are the table, zeros up to the header's alignment, and the header.
 /// - They are valid.
 /// - The walk visits each item once, and nothing else.
-/// - The lookup finds the first inserted item that the comparison accepts, and none if there is
-///   no such item. This is under two conditions: the comparison depends on the item alone,
+/// - The lookup finds the first inserted item that the comparison accepts, and returns `None` if
+///   there is no such item. This is under two conditions: the comparison depends on the item alone,
 ///   and accepts only items with the hash `hash`.
 /// - The lookup reads at most ceil(buckets / 16) strides of sixteen control bytes.
 ///
