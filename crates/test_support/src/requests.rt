@@ -104,8 +104,9 @@ pub fn right_writes(alloc: Global, write: CountedWrite) -> usize
     right
 }
 
-/// Returns the outcomes of writes whose iterator ends early, in time, late or never, and of one
-/// whose load factor is invalid.
+/// Returns the outcomes of writes whose iterator ends early, in time, late or never.
+///
+/// The last outcome is that of a write whose load factor is invalid.
 ///
 /// # Requires
 ///

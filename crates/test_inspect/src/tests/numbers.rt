@@ -10,8 +10,10 @@ use rkyv_inspect::{Lookups, Summary, inspect};
 use std::alloc::Global;
 use std::test::Fail;
 
-/// The numbers of an archive: the length, the capacity, the position of the header, the position of
-/// the control bytes, and the number of misplaced keys.
+/// The numbers of an archive.
+///
+/// They are the length, the capacity, the positions of the header and of the control bytes, and the
+/// number of misplaced keys.
 type Numbers = (usize, usize, u64, Option<usize>, Option<usize>);
 
 /// Returns the numbers of an archive.
