@@ -577,19 +577,19 @@ static rkyv_status open_map(const void *bytes, void *writable, size_t length, ui
     return status;
 }
 
-/* Finds the archive in a container of such a map. */
-static rkyv_status find_archive(const uint8_t *container, size_t length, uint32_t kind, bool wide,
-                                opened *found) {
+/* Checks the container of such a map. Its archive is the bytes behind the header. */
+static rkyv_status check_container(const uint8_t *container, size_t length, uint32_t kind,
+                                   bool wide) {
+    opened archive = {nothing, 0};
     const contents *of = &kinds[kind];
     return (rkyv_status)rkyv_c_open_container(container, length, of->collection, of->key, of->value,
-                                              width_code(wide), found);
+                                              width_code(wide), &archive);
 }
 
 /* Opens the map in a container, as `open_map` does. `writable` is the address of the container, or
  * null. */
 static rkyv_status open_container(const void *bytes, void *writable, size_t length, uint32_t kind,
                                   uint32_t width, bool index, rkyv_map *map) {
-    opened found = {nothing, 0};
     bool wide = width == 64;
     if (map == NULL) {
         return RKYV_NULL;
@@ -602,13 +602,14 @@ static rkyv_status open_container(const void *bytes, void *writable, size_t leng
         status = (rkyv_status)rkyv_c_container_width(container, length, &wide);
     }
     if (status == RKYV_OK) {
-        status = find_archive(container, length, kind, wide, &found);
+        status = check_container(container, length, kind, wide);
     }
     if (status != RKYV_OK) {
         return status;
     }
-    uint8_t *archive = writable != NULL ? (uint8_t *)writable + (found.bytes - container) : NULL;
-    return open_map(found.bytes, archive, found.length, kind, wide ? 64 : 32, index, map);
+    uint8_t *archive = writable != NULL ? (uint8_t *)writable + RKYV_CONTAINER_HEADER : NULL;
+    return open_map(container + RKYV_CONTAINER_HEADER, archive, length - RKYV_CONTAINER_HEADER,
+                    kind, wide ? 64 : 32, index, map);
 }
 
 rkyv_status rkyv_map_open(const void *bytes, size_t length, uint32_t kind, uint32_t width,
@@ -665,7 +666,6 @@ rkyv_status rkyv_map_explain(const void *bytes, size_t length, uint32_t kind, ui
 
 rkyv_status rkyv_container_explain(const void *bytes, size_t length, uint32_t kind, uint32_t width,
                                    rkyv_error *error) {
-    opened found = {nothing, 0};
     bool wide = width == 64;
     if (error == NULL) {
         return RKYV_NULL;
@@ -683,9 +683,9 @@ rkyv_status rkyv_container_explain(const void *bytes, size_t length, uint32_t ki
     const contents *of = &kinds[kind];
     rkyv_c_explain_container(container, length, of->collection, of->key, of->value,
                              width_code(wide), error);
-    if (error->status == RKYV_OK
-        && find_archive(container, length, kind, wide, &found) == RKYV_OK) {
-        explain(found.bytes, found.length, kind, wide, error);
+    if (error->status == RKYV_OK) {
+        explain(container + RKYV_CONTAINER_HEADER, length - RKYV_CONTAINER_HEADER, kind, wide,
+                error);
     }
     return RKYV_OK;
 }
