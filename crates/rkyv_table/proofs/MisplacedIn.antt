@@ -1,13 +1,13 @@
 -- The steps of counting misplaced items.
 use Rattle.rkyv_base.specs.declared.element.HasSpec.{Ghosts as Specs}
 use Rattle.rkyv_base.specs.declared.width.Word.{Ghosts as Words}
-use Rattle.std.proofs.Common.{◌≡◌, ℕ, zero, suc, ◌+◌, ◌<◌, ◌≤◌, ◌^◌, ◌⊎◌, inl, inr, refl, sym, ap, subst, ◌∙◌, arith, List, ◌∷◌, Bool, true, false, length, filter}
+use Rattle.std.proofs.Common.{◌≡◌, ℕ, zero, suc, ◌+◌, ◌<◌, ◌≤◌, ◌^◌, ◌⊎◌, inl, inr, refl, sym, ap, subst, ◌∙◌, arith, List, ◌∷◌, Bool, true, false, None, Some, length, filter}
 use Rattle.std.specs.List.{All, sum_by}
 use Rattle.std.proofs.lemmas.List.Elements.{All-head, All-rest}
 use Rattle.std.proofs.lemmas.List.Sums.{sum_by-cons}
 use Rattle.rkyv_base.specs.declared.view.View.{View}
 use Rattle.rkyv_scan.specs.{generic_kind}
-use Rattle.rkyv_table.specs.{ComparesAs, ComparesItems, CountsOwn, HashesAs, IsItemIn, IsWalked, ReadsWithin, ReturnsMisplaced, bucket_misplaced, bucket_strides, item_pos, table_bytes, table_misplaced, table_pos, table_strides}
+use Rattle.rkyv_table.specs.{ComparesAs, ComparesItems, CountsOwn, HashesAs, IsCutAt, IsItemIn, IsWalked, ReadsWithin, ReturnsMisplaced, bucket_misplaced, bucket_strides, item_pos, table_bytes, table_misplaced, table_pos, table_strides}
 use Rattle.rkyv_table.specs.declared.table.ArchivedHashTable.{ArchivedHashTable}
 
 pub count_taken : (P : ℕ → Bool) (x : ℕ) (xs rest : List ℕ) → xs ≡ x ∷ rest → P x ≡ true → length (filter P xs) ≡ suc (length (filter P rest))
@@ -76,3 +76,14 @@ reads_on (suc len) bound before after reads = let more = reads.some (omega arith
 pub past_all : (before now limit all rest : ℕ) → before + all ≡ now + rest → (before + limit < now) ⊎ (2 ^ 63 < now) → (limit < all) ⊎ (2 ^ 63 < before + all)
 past_all before now limit all rest e (inl past) = inl (omega (arith, e, past))
 past_all before now limit all rest e (inr past) = inr (omega (arith, e, past))
+
+-- the count of strides is within the limit, or past it after one more lookup
+pub within_cut : {limit bound start old now n : ℕ} → start ≡ old → (start ≤ now) × (now ≤ start + limit) × (now ≤ 2 ^ 63) → IsCutAt limit bound old now (Some n)
+within_cut e within = record { grows = omega (arith, within.0, e); bounded = omega (arith, within.1, e); cut = (omega (arith, within.1, e), within.2) }
+
+pub past_cut : {len limit bound start old before now : ℕ} → start ≡ old → ReadsWithin len bound before now → (start ≤ before) × (before ≤ start + limit) × (before ≤ 2 ^ 63) → (start + limit < now) ⊎ (2 ^ 63 < now)
+    → IsCutAt limit bound old now None
+past_cut {limit = limit} {now = now} e reads within past =
+    let on = reads_on _ _ _ _ reads in
+    let most = reads.most in
+    record { grows = omega (arith, on, within.0, e); bounded = omega (arith, most, within.1, e); cut = subst (λ n. (n + limit < now) ⊎ (2 ^ 63 < now)) e past }

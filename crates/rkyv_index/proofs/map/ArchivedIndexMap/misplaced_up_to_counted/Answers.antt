@@ -1,7 +1,7 @@
 use Rattle.std.proofs.Common.{subst, ◌≡◌, ◌+◌, ◌-◌, ◌<◌, ◌≤◌, ◌^◌, ◌⊎◌, ◌∙◌, arith, sym, Bool, ℕ}
 use Rattle.std.specs.List.{range_with_len, sum_by}
 use Rattle.rkyv_keys.specs.{hash_at}
-use Rattle.rkyv_table.proofs.MisplacedIn.{past_all, reads_on}
+use Rattle.rkyv_table.proofs.MisplacedIn.{past_all, past_cut, reads_on, within_cut}
 use Rattle.rkyv_index.specs.{index_len, index_of, is_misplaced, keys_strides, own_strides}
 use Rattle.rkyv_index.proofs.Counted.{count_is_all, left_first, none_more, one_more, sum_end, sum_first, sum_step}
 use Rattle.rkyv_index.proofs.map.ArchivedIndexMap.misplaced_up_to_counted.Goals.{After-is_misplaced-is_misplaced, else-is_misplaced, then-is_misplaced}
@@ -55,16 +55,7 @@ returns-then-is_past-clause-counted g c =
 
 pub returns-then-is_past-clause-bounded : goal.returns-then-is_past-clause-bounded
 returns-then-is_past-clause-bounded g c =
-    let now = c.is_misplaced-is_misplaced.new.strides in
-    let more = on g (goal.at.returns-then-is_past-clause-bounded g c).After-is_misplaced-is_misplaced in
-    let most = c.is_misplaced-is_misplaced.ensures.bounded.most in
-    let within = c.loop-index.invariant.within in
-    let before = c.count-before.ensures in
-    record {
-      grows = omega (arith, more, within.0, before);
-      bounded = omega (arith, most, within.1, before);
-      cut = subst (λ n. (n + c.args.limit < now) ⊎ (2 ^ 63 < now)) before (rw c.count.ensures at c.is_past.ensures.past c.if-is_past.true);
-    }
+    past_cut c.count-before.ensures c.is_misplaced-is_misplaced.ensures.bounded c.loop-index.invariant.within (rw c.count.ensures at c.is_past.ensures.past c.if-is_past.true)
 
 pub loop-index-preserved : goal.loop-index-preserved
 loop-index-preserved g c =
@@ -114,11 +105,4 @@ returns-clause-counted g c =
     omega (arith, rest, c.loop-index.invariant.spent, c.count-before.ensures)
 
 pub returns-clause-bounded : goal.returns-clause-bounded
-returns-clause-bounded g c =
-    let within = c.loop-index.invariant.within in
-    let before = c.count-before.ensures in
-    record {
-      grows = omega (arith, within.0, before);
-      bounded = omega (arith, within.1, before);
-      cut = (omega (arith, within.1, before), within.2);
-    }
+returns-clause-bounded g c = within_cut c.count-before.ensures c.loop-index.invariant.within

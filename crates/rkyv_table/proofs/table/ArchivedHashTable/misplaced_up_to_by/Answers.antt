@@ -2,7 +2,7 @@ use Rattle.std.proofs.Common.{◌≡◌, ◌∙◌, ◌+◌, ◌<◌, ◌^◌, �
 use Rattle.std.specs.List.{All, sum_by}
 use Rattle.rkyv_scan.specs.{generic_kind}
 use Rattle.rkyv_table.specs.{IsWalked, bucket_misplaced, bucket_strides, cap_at, table_bytes, table_controls, table_pos, table_strides, walk}
-use Rattle.rkyv_table.proofs.MisplacedIn.{Spending, counted_none, counted_one, left_walked, next_walked, past_all, reads_on, spent_one}
+use Rattle.rkyv_table.proofs.MisplacedIn.{Spending, counted_none, counted_one, left_walked, next_walked, past_all, past_cut, reads_on, spent_one, within_cut}
 use Rattle.rkyv_table.proofs.RawWalks.{walk_count, walked_all}
 use Rattle.rkyv_table.proofs.Walks.{walk_small}
 use Rattle.rkyv_table.proofs.table.ArchivedHashTable.misplaced_up_to_by.Goals as goal
@@ -57,17 +57,7 @@ returns-then-is_past-clause-counted g c = λ hash_of same hash_as same_as.
 
 pub returns-then-is_past-clause-bounded : goal.returns-then-is_past-clause-bounded
 returns-then-is_past-clause-bounded g c =
-    let now = c.is_misplaced-is_misplaced.new.strides in
-    let reads = c.is_misplaced-is_misplaced.ensures.counts.bounded in
-    let on = reads_on _ _ _ _ reads in
-    let most = reads.most in
-    let within = c.loop-bucket.invariant.within in
-    let before = c.count-before.ensures in
-    record {
-      grows = omega (arith, on, within.0, before);
-      bounded = omega (arith, most, within.1, before);
-      cut = subst (λ n. (n + c.args.limit < now) ⊎ (2 ^ 63 < now)) before (rw c.count.ensures at c.is_past.ensures.past c.if-is_past.true);
-    }
+    past_cut c.count-before.ensures c.is_misplaced-is_misplaced.ensures.counts.bounded c.loop-bucket.invariant.within (rw c.count.ensures at c.is_past.ensures.past c.if-is_past.true)
 
 pub loop-bucket-preserved-then-is_misplaced : goal.loop-bucket-preserved-then-is_misplaced
 loop-bucket-preserved-then-is_misplaced g c =
@@ -117,14 +107,7 @@ returns-clause-counted g c = λ hash_of same hash_as same_as.
     omega (arith, rest, c.loop-bucket.invariant.spent hash_of same hash_as same_as, c.count-before.ensures)
 
 pub returns-clause-bounded : goal.returns-clause-bounded
-returns-clause-bounded g c =
-    let within = c.loop-bucket.invariant.within in
-    let before = c.count-before.ensures in
-    record {
-      grows = omega (arith, within.0, before);
-      bounded = omega (arith, within.1, before);
-      cut = (omega (arith, within.1, before), within.2);
-    }
+returns-clause-bounded g c = within_cut c.count-before.ensures c.loop-bucket.invariant.within
 
 pub returns-clause-within : goal.returns-clause-within
 returns-clause-within g c = omega (arith, c.loop-bucket.invariant.few)
