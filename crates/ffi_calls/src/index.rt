@@ -1,6 +1,6 @@
 //! Index maps: their validation, the map in a valid archive, and lookups of keys.
 
-ghost use Rattle.std.specs.Prelude.{map, ◌≡◌};
+ghost use Rattle.std.specs.Prelude.{drop, map, ◌≡◌};
 ghost use Rattle.rkyv_index.specs.{index_bytes, index_pos};
 ghost use Rattle.ffi_calls.specs.{Explains, IsHeaderOf, IsIndexArchive, IsIndexPair, IsPairAtIndex};
 ghost use Rattle.ffi_calls.specs.{ReturnsFirstIndexed, ReturnsIndexed, StoresListed};
@@ -142,6 +142,7 @@ pub(crate) fn pairs_in<
     ensures listed { StoresListed (index_in W.word K.spec V.spec archive.now)
         (fx_pairs K.represents V.represents K.key_calls) K.is_of V.is_of from
         (map P.pair_of pairs.old) result (map P.pair_of pairs.new) }
+    ensures rest { drop result pairs.new ≡ drop result pairs.old }
 {
     let map = index_of::<K, V, W>(archive, header);
     let number = pairs.len().min(map.len().saturating_sub(from));

@@ -3,7 +3,7 @@
 //! `open_index_numbers` and `explain_index_numbers` validate an archive; the other calls require a
 //! valid one.
 
-ghost use Rattle.std.specs.Prelude.{map, ◌≡◌};
+ghost use Rattle.std.specs.Prelude.{drop, map, ◌≡◌};
 ghost use Rattle.ffi_calls.specs.{Explains, IsHeaderOf, IsNumberIndex, KeepsHeader, Opens};
 ghost use Rattle.ffi_calls.specs.{ReturnsFirstIndexedNumber, ReturnsIndexedNumber};
 ghost use Rattle.ffi_calls.specs.{SetsFirstIndexedNumber, SetsIndexedNumber, StoresListedNumbers};
@@ -165,6 +165,7 @@ pub fn index_numbers_from<K: NumberKey, P: PairOf<K, u64>>(
         pairs.old) result (map P.pair_of pairs.new) }
     ensures listed { StoresListedNumbers (numbers_at K.NumberKey form archive.now) from (map
         P.pair_of pairs.old) result (map P.pair_of pairs.new) }
+    ensures rest { drop result pairs.new ≡ drop result pairs.old }
 {
     match (form.long_values, form.wide) {
         (false, false) => {

@@ -3,7 +3,7 @@
 //! `open_index_numbers_to_texts` and `explain_index_numbers_to_texts` validate an archive; the
 //! other calls require a valid one.
 
-ghost use Rattle.std.specs.Prelude.{map, ◌≡◌};
+ghost use Rattle.std.specs.Prelude.{drop, map, ◌≡◌};
 ghost use Rattle.ffi_calls.specs.{Explains, IsHeaderOf, IsNumberTextIndex, Opens};
 ghost use Rattle.ffi_calls.specs.{ReturnsFirstIndexedTextOfNumber, ReturnsIndexedTextOfNumber};
 ghost use Rattle.ffi_calls.specs.{StoresListedNumberTexts, StoresNumberTexts, limit_of};
@@ -120,6 +120,7 @@ pub fn index_number_texts_from<'a, K: NumberKey, P: PairOf<K, &'a [u8]>>(
         P.pair_of pairs.old) result (map P.pair_of pairs.new) }
     ensures listed { StoresListedNumberTexts (number_keys_at K.NumberKey wide archive.now) from (map
         P.pair_of pairs.old) result (map P.pair_of pairs.new) }
+    ensures rest { drop result pairs.new ≡ drop result pairs.old }
 {
     if wide {
         pairs_in::<K, K, &[u8], &str, P, K, Text<Wide>, Wide>(

@@ -3,7 +3,7 @@
 //! `open_index_texts` and `explain_index_texts` validate an archive; the other calls require a
 //! valid one.
 
-ghost use Rattle.std.specs.Prelude.{map, ◌≡◌};
+ghost use Rattle.std.specs.Prelude.{drop, map, ◌≡◌};
 ghost use Rattle.std.specs.Str.{IsUtf8};
 ghost use Rattle.ffi_calls.specs.{Explains, IsHeaderOf, IsTextIndex, KeepsHeader, Opens};
 ghost use Rattle.ffi_calls.specs.{OverwritesIndexedText, ReturnsFirstIndexedText};
@@ -202,6 +202,7 @@ pub fn index_texts_from<'a, P: PairOf<&'a [u8], u64>>(
         P.pair_of pairs.new) }
     ensures listed { StoresListedTexts form archive.now from (map P.pair_of pairs.old) result (map
         P.pair_of pairs.new) }
+    ensures rest { drop result pairs.new ≡ drop result pairs.old }
 {
     match (form.long_values, form.wide) {
         (false, false) => {

@@ -3,7 +3,7 @@
 //! `open_index_texts_to_texts` and `explain_index_texts_to_texts` validate an archive; the other
 //! calls require a valid one.
 
-ghost use Rattle.std.specs.Prelude.{map, ◌≡◌};
+ghost use Rattle.std.specs.Prelude.{drop, map, ◌≡◌};
 ghost use Rattle.std.specs.Str.{IsUtf8};
 ghost use Rattle.ffi_calls.specs.{Explains, IsHeaderOf, IsTextTextIndex, Opens};
 ghost use Rattle.ffi_calls.specs.{ReturnsFirstIndexedTextOfText, ReturnsIndexedTextOfBytes};
@@ -148,6 +148,7 @@ pub fn index_text_texts_from<'a, P: PairOf<&'a [u8], &'a [u8]>>(
         P.pair_of pairs.new) }
     ensures listed { StoresListedTextTexts wide archive.now from (map P.pair_of pairs.old) result
         (map P.pair_of pairs.new) }
+    ensures rest { drop result pairs.new ≡ drop result pairs.old }
 {
     if wide {
         pairs_in::<&[u8], &str, &[u8], &str, P, Text<Wide>, Text<Wide>, Wide>(
