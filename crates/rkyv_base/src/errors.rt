@@ -6,9 +6,10 @@
 //! - `RoundTripError` is the error of writing a value and deserializing it.
 //! - `DistanceTooLarge` is the error of `resolve` alone.
 //!
-//! `?` converts an `AllocError` into the `Memory` of a `WriteError` or a `ReadError`, and
-//! `DistanceTooLarge` into `WriteError::DistanceTooLarge`. It wraps an `IteratorLengthMismatch`
-//! into a `WriteError`, and a `WriteError<NoMemory>` and a `ReadError` into a `RoundTripError`.
+//! `?` converts an `AllocError` or an `AllocFailed` into the `Memory` of a `WriteError` or a
+//! `ReadError`, and `DistanceTooLarge` into `WriteError::DistanceTooLarge`. It wraps an
+//! `IteratorLengthMismatch` into a `WriteError`, and a `WriteError<NoMemory>` and a `ReadError`
+//! into a `RoundTripError`.
 
 ghost use Rattle.std.specs.Prelude.{◌≡◌};
 ghost use Rattle.rkyv_base.specs.declared.errors.ReadError.TheVariants as read;
@@ -79,6 +80,15 @@ impl<F> From<AllocError> for WriteError<F> {
 
     #[inline]
     fn from(_error: AllocError) -> WriteError<F> {
+        WriteError::Memory
+    }
+}
+
+impl<F, T: Drop> From<AllocFailed<T>> for WriteError<F> {
+    ghost from_gives = { λ _ e. e ≡ write.Memory };
+
+    #[inline]
+    fn from(_error: AllocFailed<T>) -> WriteError<F> {
         WriteError::Memory
     }
 }

@@ -153,6 +153,8 @@ pub fn outputs_of_writers<S: Writer>()
 pub fn errors_are_converted<F, T: Drop>()
     ensures written { (a : _) (e : _) → ⟦<WriteError<F> as From<AllocError>>⟧.from_gives a e
         ↔ (e ≡ write.Memory) }
+    ensures pushed { (a : _) (e : _) → ⟦<WriteError<F> as From<AllocFailed<T>>>⟧.from_gives a e
+        ↔ (e ≡ write.Memory) }
     ensures distances { (a : _) (e : _) → ⟦<WriteError<F> as From<DistanceTooLarge>>⟧.from_gives a e
         ↔ (e ≡ write.DistanceTooLarge) }
     ensures lengths { (a : _) (e : _) →

@@ -185,6 +185,13 @@ fn other_errors_have_texts(rt: HostRuntime) {
     expect_eq!(rt; (debugged, messages), ([true; 7], [true; 4]));
 }
 
+// Returns the number of items in a list to which one is pushed.
+fn pushed(alloc: Global) -> Result<usize, WriteError<NoMemory>> {
+    let mut list = Vec::new(alloc);
+    list.push(7u8)?;
+    Ok(list.len())
+}
+
 #[test]
 fn errors_are_converted(rt: HostRuntime) {
     laws::errors_are_converted::<NoMemory, u8>();
@@ -207,5 +214,5 @@ fn errors_are_converted(rt: HostRuntime) {
             "refused 5",
         ),
     ];
-    expect_eq!(rt; shown, [true; 6]);
+    expect_eq!(rt; (shown, pushed(alloc).ok()), ([true; 6], Some(1)));
 }
