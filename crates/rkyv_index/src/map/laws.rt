@@ -139,7 +139,7 @@ pub fn clones_are_the_same<'a, K: HasSpec, V: HasSpec, H, W: Word>()
 
 /// States that a lookup finds the index of the first pair of the list with an accepted key.
 ///
-/// The index map must represent the list. The lookup finds none if the list has no such pair.
+/// The index map must represent the list. The lookup returns `None` if the list has no such pair.
 /// The clause `first` of a lookup is about this index.
 ///
 /// The comparison must decide by the values that the keys represent. That of a native key accepts
