@@ -47,7 +47,7 @@ unfoldable pub use Map.BothHashers.{ComparedAlike, QueriedAlike, WrittenAlike, f
 unfoldable pub use Map.SealedIndex.{IsFullSeal, IsFullSealAt, IsIndexSeal, IsPairPosIn, IsPairSeal}
 unfoldable pub use Map.SealedIndex.{IsStoredIn, IsValueSeal, SealsPair, SealsValue, full_seal_index}
 unfoldable pub use Map.SealedIndex.{index_at, index_in}
-pub use Map.SealedIndex.{IsKeyAt, IsPairPos}
+pub use Map.SealedIndex.{IsKeyAt, IsPairPos, SealsValueAt}
 unfoldable pub use Map.Walking.{EndsBelow, WalksAll}
 pub use Map.Walking.{IsWalk}
 unfoldable pub use Map.Equality.{CountsAllStrides, CountsRepeated, CountsUpTo, ReturnsRepeated}

@@ -2,12 +2,12 @@
 use Rattle.std.specs.Prelude.{◌≡◌, ℕ, ◌<◌, List, Option}
 use Rattle.std.specs.Int.{Width}
 use Rattle.std.specs.Option.{option_map}
-use Rattle.rkyv_base.specs.{ElementSpec, IsValidView, Viewable, archive_in, bytes_of, entry_spec}
-use Rattle.rkyv_base.specs.{pos_in, pos_of, value_pos}
+use Rattle.rkyv_base.specs.{ElementSpec, IsValidView, SealAt, Viewable, archive_in, bytes_of}
+use Rattle.rkyv_base.specs.{entry_spec, pos_in, pos_of, value_pos}
 use Rattle.rkyv_base.specs.declared.seal.ArchiveSeal.{ArchiveSeal}
 use Rattle.rkyv_base.specs.declared.seal.Seal.{Seal}
 use Rattle.rkyv_base.specs.declared.view.View.{View}
-use Rattle.rkyv_table.specs.{LendsPair, LendsValue, len_at}
+use Rattle.rkyv_table.specs.{LendsPair, len_at}
 use Rattle.rkyv_index.specs.Map.{Index, IsStoredAt, IsStoredBelow, MatchesAt}
 use Rattle.rkyv_index.specs.Map.IndexLayout.{index_spec}
 use Rattle.rkyv_index.specs.Map.ValueWrites.{KeptByWrites, pair_at}
@@ -72,10 +72,15 @@ module _ {K V H W : Type 0} (w : Width) (k v : ElementSpec) (a : ArchiveSeal
   IsPairSeal pair = (i : ℕ) × IsStoredAt w (archive_in a) (pos_in a) i
       × LendsPair k v (archive_in a) (IsPairPosIn i) pair
 
+  -- `value`: seal of the value at index `i`, which borrows the archive of the seal `a`
+  pub record SealsValueAt (i : ℕ) (value : Seal V) : Type 0 where
+    pub key : ℕ
+    pub at : IsPairPosIn i key
+    pub seal : SealAt value a.archive (value_pos k v key)
+
   -- `value`: seal of the value at an index in a full bucket
   abbrev pub IsValueSeal : Seal V → Type 0
-  IsValueSeal value = (i : ℕ) × IsStoredAt w (archive_in a) (pos_in a) i
-      × LendsValue k v (archive_in a) (IsPairPosIn i) value
+  IsValueSeal value = (i : ℕ) × IsStoredAt w (archive_in a) (pos_in a) i × SealsValueAt i value
 
   -- `result`: the pair at `index`, or `None` if `index` is `None`
   abbrev pub SealsPair : Option (View K × Seal V) → Option ℕ → Type 0
@@ -84,8 +89,7 @@ module _ {K V H W : Type 0} (w : Width) (k v : ElementSpec) (a : ArchiveSeal
 
   -- `result`: the value at `index`, or `None` if `index` is `None`
   abbrev pub SealsValue : Option (Seal V) → Option ℕ → Type 0
-  SealsValue result index =
-      MatchesAt (λ i. LendsValue k v (archive_in a) (IsPairPosIn i)) result index
+  SealsValue result index = MatchesAt SealsValueAt result index
 
 -- the index in `result`
 abbrev pub full_seal_index : {K V : Type 0} → Option (ℕ × View K × Seal V) → Option ℕ

@@ -12,11 +12,11 @@ ghost use Rattle.std.specs.Prelude.{IfSome, length, ◌+◌, ◌<◌, ◌≡◌,
 ghost use Rattle.rkyv_base.specs.{IsValidView, LiesIn, SealAt, Viewable, archive_in, bytes_in};
 ghost use Rattle.rkyv_base.specs.{entry_spec, pos_in, seal_pos, value_pos};
 ghost use Rattle.rkyv_keys.specs.{hash_at, hash_of, query_of};
-ghost use Rattle.rkyv_table.specs.{LendsPair, LendsValue, len_at};
+ghost use Rattle.rkyv_table.specs.{LendsPair, len_at};
 ghost use Rattle.rkyv_index.specs.{CanCompareKeysOf, FoundByHas, FoundKeyHas, IsFullSeal};
 ghost use Rattle.rkyv_index.specs.{IsFullSealAt, IsIndex, IsIndexSeal, IsPairPosIn, IsPairSeal};
-ghost use Rattle.rkyv_index.specs.{IsStoredIn, IsValueSeal, SealsPair, SealsValue, index_bytes};
-ghost use Rattle.rkyv_index.specs.{index_in, index_pos};
+ghost use Rattle.rkyv_index.specs.{IsStoredIn, IsValueSeal, SealsPair, SealsValue, SealsValueAt};
+ghost use Rattle.rkyv_index.specs.{index_bytes, index_in, index_pos};
 
 use crate::map::{ArchivedIndexMap, IndexMapOf};
 use crate::width::IndexWidth;
@@ -126,8 +126,7 @@ impl<'a, K: KeyElement, V: Element, H: KeyHasher, W: IndexWidth> ArchivedIndexMa
         requires below { index < len_at W.word (archive_in this) (pos_in this) }
         ensures inside { LiesIn V.spec result }
         ensures viewable { Viewable V.spec (bytes_in result) (seal_pos result) }
-        ensures lent { LendsValue K.spec V.spec (archive_in this.entry)
-            (IsPairPosIn W.word K.spec V.spec this.entry index) result }
+        ensures lent { SealsValueAt W.word K.spec V.spec this.entry index result }
     {
         let pos = Self::pair_pos_in(&this, index);
         value_seal(this, pos)

@@ -7,6 +7,4 @@ pub returns-clause-viewable : goal.returns-clause-viewable
 returns-clause-viewable g c = rw (c.value_seal.ensures.at.bytes, c.value_seal.ensures.at.pos) c.pair_pos_in-pos.ensures.at.value
 
 pub returns-clause-lent : goal.returns-clause-lent
-returns-clause-lent g c =
-    let e = c.value_seal.ensures.at in
-    record { key = c.pair_pos_in-pos.result; at = c.pair_pos_in-pos.ensures.at; bytes = e.bytes; pos = e.pos }
+returns-clause-lent g c = record { key = c.pair_pos_in-pos.result; at = c.pair_pos_in-pos.ensures.at; seal = c.value_seal.ensures.at }
