@@ -33,6 +33,10 @@ module _ {K : Type 0} {m : Index K} where
       first = λ accept compares under homes written. subst P (t.first accept compares under homes written) at;
     }
 
+-- the bytes of a view are those of the reference that it was made from
+pub bytes_read : {X : Type 0} {v w : View X} {a : Bor (List ℕ)} → v ≡ w → w.archive ≡ a → v.archive.now ≡ a.now
+bytes_read e at = ap (λ v. v.archive.now) e ∙ ap (λ a. a.now) at
+
 -- the index map that is read has the bytes `b` and the position `p`
 module _ {K V H W : Type 0} {ks : Specs K} {vs : Specs V} {wt : Words W} (m : ArchivedIndexMap K V H W ks vs wt) (b : List ℕ) (p : ℕ) (bytes : index_bytes m ≡ b) (pos : index_pos m ≡ p) where
   -- the position of a found value
