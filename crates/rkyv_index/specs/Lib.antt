@@ -37,11 +37,9 @@ unfoldable pub use Map.IndexFormat.{indices, indices_from, row_format}
 pub use Map.IndexFormat.{ArchivedAs, BeforeRow, BeforeZeros, IndexParts, IndexWrittenAt, IndicesAs}
 pub use Map.IndexFormat.{RowRepresents}
 unfoldable pub use Map.ValueWrites.{KeptByWrites, SetsValue, ValueWritesKeepIndexMaps}
-unfoldable pub use Map.ValueWrites.{ValueWritesKeepLookups, ValuesWrittenRepresent, index_kind}
-unfoldable pub use Map.ValueWrites.{pair_at}
+unfoldable pub use Map.ValueWrites.{WritesKeepLookups, WritesRepresent, index_kind, pair_at}
 pub use Map.ValueWrites.{IndexKind, KeepsEntries, KeepsIndexMap}
-unfoldable pub use Map.NestedWrites.{NestedWritesKeepIndexMaps, NestedWritesKeepLookups}
-unfoldable pub use Map.NestedWrites.{NestedWritesRepresent, ValueWritesAreNested}
+unfoldable pub use Map.NestedWrites.{NestedWritesKeepIndexMaps, ValueWritesAreNested}
 pub use Map.NestedWrites.{KeepsOuterIndexMap}
 unfoldable pub use Map.BothHashers.{ComparedAlike, QueriedAlike, WrittenAlike, fx_index_found}
 unfoldable pub use Map.SealedIndex.{IsFullSeal, IsFullSealAt, IsIndexSeal, IsPairPosIn, IsPairSeal}

@@ -1,12 +1,11 @@
 -- Index maps with a value that is written among its parts, as a map that is a value.
-use Rattle.std.specs.Prelude.{◌≡◌, ◌≢◌, ℕ, ◌+◌, ◌*◌, ◌<◌, ◌^◌, Bool, List, Some, slice_get}
-use Rattle.std.specs.Prelude.{slice_set}
+use Rattle.std.specs.Prelude.{◌≡◌, ◌≢◌, ℕ, ◌+◌, ◌*◌, ◌<◌, ◌^◌, Bool, List}
 use Rattle.std.specs.Int.{Width, byte_len}
 use Rattle.rkyv_base.specs.{AgreeOn, ElementSpec, Viewable, entry_spec, number_at, value_pos}
 use Rattle.rkyv_table.specs.{IsWalked, RestsOnParts, StaysAt, WritesAmongParts, WritesValue}
 use Rattle.rkyv_table.specs.{item_at, len_at, table_controls}
 use Rattle.rkyv_index.specs.Map.{fits_in, index_found}
-use Rattle.rkyv_index.specs.Map.IndexFormat.{IndexRepresents, IndexWrittenAt}
+use Rattle.rkyv_index.specs.Map.IndexFormat.{IndexWrittenAt}
 use Rattle.rkyv_index.specs.Map.IndexLayout.{index_spec}
 use Rattle.rkyv_index.specs.Map.ValueWrites.{pair_at}
 
@@ -50,25 +49,3 @@ module _ (w : Width) (k v : ElementSpec) where
       → Viewable (index_spec w (entry_spec k v)) b p → i < len_at w b p
       → WritesAmongParts v b c (value_pos k v (pair_at w k v b p i))
       → KeepsOuterIndexMap key_hash b c p i
-
-  -- after a write among the parts of the value at an index, each query `q` finds the same index.
-  -- `hash q`: its hash
-  abbrev pub NestedWritesKeepLookups : {Q : Type 0} → (Q → Type 0) → (Q → ℕ)
-      → (Q → List ℕ → ℕ → Bool) → Type 0
-  NestedWritesKeepLookups {Q} can_read hash fits = (b c : List ℕ) (p i : ℕ)
-      → Viewable (index_spec w (entry_spec k v)) b p → i < len_at w b p
-      → WritesAmongParts v b c (value_pos k v (pair_at w k v b p i)) → (q : Q) → can_read q
-      → index_found w c p (hash q) (fits_in w k v c p (fits q))
-      ≡ index_found w b p (hash q) (fits_in w k v b p (fits q))
-
-  -- after a write among the parts of the value at index `n`, the index map represents the list
-  -- with the new value
-  abbrev pub NestedWritesRepresent : {A B : Type 0} → (List ℕ → ℕ → A → Type 0)
-      → (List ℕ → ℕ → B → Type 0) → (List ℕ → ℕ → ℕ) → Type 0
-  NestedWritesRepresent {A} {B} key value key_hash = (b c : List ℕ) (p n : ℕ) (factor : ℕ × ℕ)
-      (pairs : List (A × B)) (pair : A × B) (new : B)
-      → Viewable (index_spec w (entry_spec k v)) b p
-      → IndexRepresents w k v key value key_hash factor b p pairs → slice_get pairs n ≡ Some pair
-      → WritesAmongParts v b c (value_pos k v (pair_at w k v b p n))
-      → value c (value_pos k v (pair_at w k v b p n)) new
-      → IndexRepresents w k v key value key_hash factor c p (slice_set pairs n (pair.0, new))

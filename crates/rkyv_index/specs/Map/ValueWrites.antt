@@ -3,6 +3,7 @@ use Rattle.std.specs.Prelude.{◌≡◌, ◌≢◌, ℕ, ◌+◌, ◌*◌, ◌<�
 use Rattle.std.specs.Prelude.{slice_set}
 use Rattle.std.specs.Int.{Width, byte_len}
 use Rattle.rkyv_base.specs.{AgreeOn, ElementSpec, StaysValid, Viewable, entry_spec, value_pos}
+use Rattle.rkyv_keys.specs.{NativePairs}
 use Rattle.rkyv_table.specs.{RestsOnKey, SameValue, WritesValue, len_at}
 use Rattle.rkyv_index.specs.Map.{fits_in, index_found}
 use Rattle.rkyv_index.specs.Map.IndexFormat.{IndexRepresents, IndexWrittenAt}
@@ -65,25 +66,26 @@ module _ (w : Width) (k v : ElementSpec) where
       → WritesValue k v b c (pair_at w k v b p i)
       → KeepsIndexMap (index_kind w k v key_hash) b c p i
 
-  -- after a write of one value in place, each query `q` finds the same index. `hash q`: its hash
-  abbrev pub ValueWritesKeepLookups : {Q : Type 0} → (Q → Type 0) → (Q → ℕ)
-      → (Q → List ℕ → ℕ → Bool) → Type 0
-  ValueWritesKeepLookups {Q} can_read hash fits = (b c : List ℕ) (p i : ℕ)
+-- `writes b c q`: the bytes `c` are `b` after a write of the value of the pair at `q`
+module _ (w : Width) (k v : ElementSpec) (writes : List ℕ → List ℕ → ℕ → Type 0) where
+  -- after a write of one value, a query with this hash finds the same index. `fits`: its test
+  abbrev pub WritesKeepLookups : ℕ → (List ℕ → ℕ → Bool) → Type 0
+  WritesKeepLookups hash fits = (b c : List ℕ) (p i : ℕ)
       → Viewable (index_spec w (entry_spec k v)) b p → i < len_at w b p
-      → WritesValue k v b c (pair_at w k v b p i) → (q : Q) → can_read q
-      → index_found w c p (hash q) (fits_in w k v c p (fits q))
-      ≡ index_found w b p (hash q) (fits_in w k v b p (fits q))
+      → writes b c (pair_at w k v b p i)
+      → index_found w c p hash (fits_in w k v c p fits)
+      ≡ index_found w b p hash (fits_in w k v b p fits)
 
   -- after a write of the value at index `n`, the index map represents the list with the new value
-  abbrev pub ValuesWrittenRepresent : {A B : Type 0} → (List ℕ → ℕ → A → Type 0)
-      → (List ℕ → ℕ → B → Type 0) → (List ℕ → ℕ → ℕ) → Type 0
-  ValuesWrittenRepresent {A} {B} key value key_hash = (b c : List ℕ) (p n : ℕ) (factor : ℕ × ℕ)
+  abbrev pub WritesRepresent : {A B : Type 0} → NativePairs A B → Type 0
+  WritesRepresent {A} {B} native = (b c : List ℕ) (p n : ℕ) (factor : ℕ × ℕ)
       (pairs : List (A × B)) (pair : A × B) (new : B)
       → Viewable (index_spec w (entry_spec k v)) b p
-      → IndexRepresents w k v key value key_hash factor b p pairs → slice_get pairs n ≡ Some pair
-      → WritesValue k v b c (pair_at w k v b p n)
-      → value c (value_pos k v (pair_at w k v b p n)) new
-      → IndexRepresents w k v key value key_hash factor c p (slice_set pairs n (pair.0, new))
+      → IndexRepresents w k v native.key native.value native.key_hash factor b p pairs
+      → slice_get pairs n ≡ Some pair → writes b c (pair_at w k v b p n)
+      → native.value c (value_pos k v (pair_at w k v b p n)) new
+      → IndexRepresents w k v native.key native.value native.key_hash factor c p
+      (slice_set pairs n (pair.0, new))
 
 -- After a write of the value at index `i` of the index map at `p` of `b`, it represents the list
 -- with the new value in `c`. `represents`: lists that index maps represent, by the load factor

@@ -9,13 +9,13 @@ ghost use Rattle.std.specs.Prelude.{◌↔◌, ◌≡◌};
 ghost use Rattle.rkyv_base.specs.{SameSpec, SameValues, entry_spec};
 ghost use Rattle.rkyv_keys.specs.{SameComparison, hash_at, hash_of, native_pairs, query_of};
 ghost use Rattle.rkyv_table.specs.{CountsPositions, ItemsLeft, SameSteps, YieldsKey, YieldsPair};
-ghost use Rattle.rkyv_table.specs.{YieldsValue};
+ghost use Rattle.rkyv_table.specs.{WritesValue, YieldsValue};
 ghost use Rattle.rkyv_index.specs.{ComparedAlike, FindsMatchedKeys, LookupsFindListed};
 ghost use Rattle.rkyv_index.specs.{PairsAtAreListed, PairsReadBackAreListed, QueriedAlike};
-ghost use Rattle.rkyv_index.specs.{ValueWritesKeepIndexMaps, ValueWritesKeepLookups};
-ghost use Rattle.rkyv_index.specs.{ValuesWrittenRepresent, WalksAll, WalksVisitInOrder};
-ghost use Rattle.rkyv_index.specs.{WrittenAlike, index_map_equal, index_maps_equal, index_spec};
-ghost use Rattle.rkyv_index.specs.{ordered_pairs, reads_as};
+ghost use Rattle.rkyv_index.specs.{ValueWritesKeepIndexMaps, WalksAll, WalksVisitInOrder};
+ghost use Rattle.rkyv_index.specs.{WritesKeepLookups, WritesRepresent, WrittenAlike};
+ghost use Rattle.rkyv_index.specs.{index_map_equal, index_maps_equal, index_spec, ordered_pairs};
+ghost use Rattle.rkyv_index.specs.{reads_as};
 
 pub mod list_archives;
 pub mod nested;
@@ -49,8 +49,8 @@ pub fn value_writes_keep_lookups<
     H: KeyHasher,
     W: IndexWidth,
 >()
-    ensures { let hash = hash_of H.hasher Q.calls in
-        ValueWritesKeepLookups W.word K.spec V.spec Q.can_read hash Q.fits }
+    ensures { (q : _) → Q.can_read q → WritesKeepLookups W.word K.spec V.spec
+        (WritesValue K.spec V.spec) (hash_of H.hasher Q.calls q) (Q.fits q) }
 {}
 
 /// States that a write of one value in place replaces it in the represented list of pairs.
@@ -64,8 +64,8 @@ pub fn values_written_represent<
 >()
 where
     K: Represents<A>,
-    ensures { ValuesWrittenRepresent W.word K.spec V.spec K.represents V.represents
-        (hash_at H.hasher K.key_calls) }
+    ensures { WritesRepresent W.word K.spec V.spec (WritesValue K.spec V.spec)
+        (native_pairs K.represents V.represents H.hasher K.key_calls) }
 {}
 
 /// States that a list deserialized from an index map is `==` to the list that it represents.

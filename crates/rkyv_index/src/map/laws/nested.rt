@@ -1,7 +1,9 @@
 //! Laws of writes among the parts of a value, as to a map that is the value of an index map.
-ghost use Rattle.rkyv_keys.specs.{hash_at, hash_of};
-ghost use Rattle.rkyv_index.specs.{NestedWritesKeepIndexMaps, NestedWritesKeepLookups};
-ghost use Rattle.rkyv_index.specs.{NestedWritesRepresent, ValueWritesAreNested};
+ghost use Rattle.rkyv_base.specs.{value_pos};
+ghost use Rattle.rkyv_keys.specs.{hash_at, hash_of, native_pairs};
+ghost use Rattle.rkyv_table.specs.{WritesAmongParts};
+ghost use Rattle.rkyv_index.specs.{NestedWritesKeepIndexMaps, ValueWritesAreNested};
+ghost use Rattle.rkyv_index.specs.{WritesKeepLookups, WritesRepresent};
 
 use crate::width::IndexWidth;
 use rkyv_base::element::{Element, Represents};
@@ -33,8 +35,9 @@ pub fn nested_writes_keep_lookups<
     H: KeyHasher,
     W: IndexWidth,
 >()
-    ensures { let hash = hash_of H.hasher Q.calls in
-        NestedWritesKeepLookups W.word K.spec V.spec Q.can_read hash Q.fits }
+    ensures { (q : _) → Q.can_read q → WritesKeepLookups W.word K.spec V.spec
+        (λ b c at. WritesAmongParts V.spec b c (value_pos K.spec V.spec at))
+        (hash_of H.hasher Q.calls q) (Q.fits q) }
 {}
 
 /// States that a write among the parts of the value at an index replaces it in the list.
@@ -43,6 +46,7 @@ pub fn nested_writes_keep_lookups<
 pub fn nested_writes_represent<A, B, K: KeyElement, V: Represents<B>, H: KeyHasher, W: IndexWidth>()
 where
     K: Represents<A>,
-    ensures { NestedWritesRepresent W.word K.spec V.spec K.represents V.represents
-        (hash_at H.hasher K.key_calls) }
+    ensures { WritesRepresent W.word K.spec V.spec
+        (λ b c at. WritesAmongParts V.spec b c (value_pos K.spec V.spec at))
+        (native_pairs K.represents V.represents H.hasher K.key_calls) }
 {}
