@@ -101,7 +101,8 @@ pub fn matched_keys_are_found<Q: Query<K>, K: KeyElement, V: Element, H: KeyHash
 
 /// States that a lookup finds the first pair of the represented list with an accepted key.
 ///
-/// It finds none if the list has no such pair. The clause `first` of a lookup is about this pair.
+/// It returns `None` if the list has no such pair. The clause `first` of a lookup is about
+/// this pair.
 ///
 /// The comparison must decide by the values that the keys represent. That of a native key accepts
 /// the keys that equal it.

@@ -33,12 +33,12 @@ impl<'a, K: KeyElement, H: KeyHasher, W: Width> ArchivedHashSet<'a, K, H, W> {
     /// Returns the number of keys that a lookup of their own doesn't find.
     ///
     /// A key is found if the lookup returns its own bucket. Otherwise the lookup finds another key
-    /// that is the same, or none.
+    /// that is the same, or returns `None`.
     ///
     /// In a written set, it is the number of keys that are the same as an earlier key
     /// in insertion order. An untrusted set may have other misplaced keys.
     ///
-    /// Each key is looked up once, and each lookup may read all control bytes.
+    /// By its code alone, each key is looked up once. Each lookup may read all control bytes.
     /// Keys that share a hash cost a number of comparisons that is quadratic in their number.
     /// `FxHasher64` takes no secret key, so chosen keys can share one.
     #[inline]

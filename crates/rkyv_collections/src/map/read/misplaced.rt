@@ -3,7 +3,8 @@
 //! - `misplaced` looks up each key. Its cost on an untrusted map may be quadratic.
 //! - `misplaced_up_to` ends at a limit on the strides that are read.
 //!
-//! If the number is 0, each lookup is exact: it finds the one key that the query matches, or none.
+//! If the number is 0, each lookup is exact: it finds the one key that the query matches,
+//! or returns `None`.
 ghost use Rattle.std.specs.Prelude.{◌≡◌};
 ghost use Rattle.rkyv_base.specs.{IsValidView, bytes_of, entry_spec, pos_of};
 ghost use Rattle.rkyv_keys.specs.{hash_at};
@@ -22,12 +23,12 @@ impl<'a, K: KeyElement, V: Element, H: KeyHasher, W: Width> ArchivedHashMap<'a, 
     /// Returns the number of keys that a lookup of their own doesn't find.
     ///
     /// A key is found if the lookup returns its own bucket. Otherwise the lookup finds another key
-    /// that is the same, or none.
+    /// that is the same, or returns `None`.
     ///
     /// In a written map, it is the number of keys that are the same as an earlier key
     /// in insertion order. An untrusted map may have other misplaced keys.
     ///
-    /// Each key is looked up once, and each lookup may read all control bytes.
+    /// By its code alone, each key is looked up once. Each lookup may read all control bytes.
     /// Keys that share a hash cost a number of comparisons that is quadratic in their number.
     /// `FxHasher64` takes no secret key, so chosen keys can share one.
     ///
