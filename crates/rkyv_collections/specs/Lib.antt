@@ -50,7 +50,8 @@ pub use Map.SealedMap.{FoundByHasAt, IsKeyAt, IsPairPos}
 unfoldable pub use Map.SealedPairs.{IsPairIter, KeepsPairs, KeepsValues, LendsFirstPair}
 unfoldable pub use Map.SealedPairs.{LendsFirstValue, MayWritePair, MayWriteValue, YieldsKeyPos}
 unfoldable pub use Map.SealedPairs.{YieldsValuePos, entries_in, entries_of}
-pub use Map.SealedPairs.{HasAllPairs, IsDone, StepsAndWritesPair, StepsAndWritesValue, YieldsPairAt}
+pub use Map.SealedPairs.{HasAllPairs, IsDone, IsSplitPair, StepsAndWritesPair, StepsAndWritesValue}
+pub use Map.SealedPairs.{YieldsPairAt}
 unfoldable pub use Map.ValueWrites.{ValueWritesKeepLookups, ValueWritesKeepMaps}
 unfoldable pub use Map.ValueWrites.{ValuesWrittenRepresent, entry_at}
 pub use Map.ValueWrites.{KeepsMap}

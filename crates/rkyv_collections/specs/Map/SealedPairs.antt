@@ -1,8 +1,10 @@
 -- Cursors over the pairs of a map, for writing its values.
-use Rattle.std.specs.Prelude.{◌≡◌, ℕ, ◌+◌, ◌≤◌, List, [], ◌∷◌, Option, MatchOption, length}
+use Rattle.std.specs.Prelude.{◌≡◌, ℕ, ◌+◌, ◌≤◌, List, [], ◌∷◌, Option, MatchOption, drop, length}
+use Rattle.std.specs.Prelude.{take}
 use Rattle.std.specs.Borrow.{MutBor}
 use Rattle.std.specs.Int.{Width}
-use Rattle.rkyv_base.specs.{ElementSpec, entry_spec, value_pos}
+use Rattle.rkyv_base.specs.{ElementSpec, bytes_in, bytes_of, entry_spec, pos_of, seal_pos}
+use Rattle.rkyv_base.specs.{value_pos}
 use Rattle.rkyv_base.specs.declared.entry.Entry.{Entry}
 use Rattle.rkyv_base.specs.declared.seal.Seal.{Seal}
 use Rattle.rkyv_base.specs.declared.view.View.{View}
@@ -61,6 +63,12 @@ module _ {K V : Type 0} (k v : ElementSpec) where
       (w : Width) (p : ℕ) → IsPairIter w p before
       → MatchOption result (IsDone w p before after) (λ q. (key : ℕ) × (q ≡ value_pos k v key)
       × YieldsPairAt w p before after key)
+
+  -- `pair`: view of the key and seal of the value. The bytes are split at the start of the value
+  pub record IsSplitPair (b : List ℕ) (pair : View K × Seal V) : Type 0 where
+    pub front : bytes_of pair.0 ≡ take (value_pos k v (pos_of pair.0)) b
+    pub back : bytes_in pair.1 ≡ drop (value_pos k v (pos_of pair.0)) b
+    pub begin : seal_pos pair.1 ≡ 0
 
   -- the key and the seal of the value of the first remaining pair, or `None` if none remains
   abbrev pub LendsFirstPair : RawIterSeal (Entry K V) → Option (View K × Seal V) → Type 0

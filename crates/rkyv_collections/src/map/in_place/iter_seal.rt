@@ -12,11 +12,11 @@ ghost use Rattle.rkyv_base.specs.{IsValidView, LiesIn, Viewable, archive_in, byt
 ghost use Rattle.rkyv_base.specs.{pos_in, pos_of, seal_pos, value_pos, with_value};
 ghost use Rattle.rkyv_table.specs.{CountsDown, LendsArchive, SameArchive, StaysThere, WrittenBy};
 ghost use Rattle.rkyv_table.specs.{cursor_bytes, cursor_len};
-ghost use Rattle.rkyv_collections.specs.{HasAllPairs, IsMapSeal, KeepsPairs, KeepsValues};
-ghost use Rattle.rkyv_collections.specs.{LendsFirstPair, LendsFirstValue, MayWritePair};
-ghost use Rattle.rkyv_collections.specs.{MayWriteValue, StepsAndWritesPair, StepsAndWritesValue};
-ghost use Rattle.rkyv_collections.specs.{YieldsKeyPos, YieldsValuePos, entries_in, entries_of};
-ghost use Rattle.rkyv_collections.specs.{map_spec};
+ghost use Rattle.rkyv_collections.specs.{HasAllPairs, IsMapSeal, IsSplitPair, KeepsPairs};
+ghost use Rattle.rkyv_collections.specs.{KeepsValues, LendsFirstPair, LendsFirstValue};
+ghost use Rattle.rkyv_collections.specs.{MayWritePair, MayWriteValue, StepsAndWritesPair};
+ghost use Rattle.rkyv_collections.specs.{StepsAndWritesValue, YieldsKeyPos, YieldsValuePos};
+ghost use Rattle.rkyv_collections.specs.{entries_in, entries_of, map_spec};
 
 use crate::map::{ArchivedHashMap, HashMapOf};
 use rkyv_base::element::Element;
@@ -145,6 +145,8 @@ impl<'a, K: Element, V: Element, H, W> IterMut<'a, K, V, H, W> {
     pub fn next_seal(&mut self) -> Option<(View<'_, K>, Seal<'_, V>)>
         ensures inside { IfSome result (λ pair. LiesIn V.spec pair.1) }
         ensures viewable { IfSome result (λ pair. IsValidView K.spec pair.0) }
+        ensures split { IfSome result (IsSplitPair K.spec V.spec
+            (cursor_bytes (entries_in self.old))) }
         ensures first { LendsFirstPair K.spec V.spec (entries_in self.old) result }
     {
         let pos = self.next_pos()?;
@@ -231,6 +233,8 @@ impl<'a, K: Element, V: Element, H, W> ValuesMut<'a, K, V, H, W> {
     #[inline]
     pub fn next_seal(&mut self) -> Option<Seal<'_, V>>
         ensures inside { IfSome result (LiesIn V.spec) }
+        ensures bytes { IfSome result (λ value.
+            bytes_in value ≡ cursor_bytes (entries_of self.old)) }
         ensures first { LendsFirstValue K.spec V.spec (entries_of self.old) result }
     {
         let pos = self.next_pos()?;
