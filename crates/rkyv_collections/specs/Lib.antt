@@ -45,8 +45,8 @@ unfoldable pub use Map.HashedPairs.{HashedStep}
 unfoldable pub use Map.Writing.{ResolvesMap, WritesMap, WritesSet}
 unfoldable pub use Map.SealedMap.{CanCompareKeysAt, CanCompareKeysIn, ComparesKeysByAt, FindsByAt}
 unfoldable pub use Map.SealedMap.{FindsFirstByAt, IsAcceptedKeyAt, IsKeyPosIn, IsMapSeal}
-unfoldable pub use Map.SealedMap.{IsPairSeal, IsPairSealAt, IsValueSeal, IsValueSealAt, map_sealed}
-pub use Map.SealedMap.{FoundByHasAt, IsKeyAt, IsPairPos}
+unfoldable pub use Map.SealedMap.{IsPairSeal, IsPairSealAt, IsValueSealAt, map_sealed}
+pub use Map.SealedMap.{FoundByHasAt, IsKeyAt, IsPairPos, IsValueSeal}
 unfoldable pub use Map.SealedPairs.{IsPairIter, KeepsPairs, KeepsValues, LendsFirstPair}
 unfoldable pub use Map.SealedPairs.{LendsFirstValue, MayWritePair, MayWriteValue, YieldsKeyPos}
 unfoldable pub use Map.SealedPairs.{YieldsValuePos, entries_in, entries_of}

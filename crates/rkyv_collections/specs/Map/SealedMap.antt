@@ -4,13 +4,12 @@ use Rattle.rkyv_base.specs.declared.width.Word.{Ghosts as Words}
 use Rattle.std.specs.Prelude.{◌≡◌, ℕ, List, Bool, true, IfSome, Option}
 use Rattle.std.specs.Int.{Width}
 use Rattle.std.specs.Option.{option_map}
-use Rattle.rkyv_base.specs.{ElementSpec, IsValidView, Viewable, archive_in, bytes_of, entry_spec}
-use Rattle.rkyv_base.specs.{pos_in, pos_of, value_pos}
+use Rattle.rkyv_base.specs.{ElementSpec, IsValidView, SealAt, Viewable, archive_in, bytes_of}
+use Rattle.rkyv_base.specs.{entry_spec, pos_in, pos_of, value_pos}
 use Rattle.rkyv_base.specs.declared.seal.ArchiveSeal.{ArchiveSeal}
 use Rattle.rkyv_base.specs.declared.seal.Seal.{Seal}
 use Rattle.rkyv_base.specs.declared.view.View.{View}
-use Rattle.rkyv_table.specs.{IsWalked, KeptByValueWrites, LendsPair, LendsValue, item_at}
-use Rattle.rkyv_table.specs.{pos_of_seal}
+use Rattle.rkyv_table.specs.{IsWalked, KeptByValueWrites, LendsPair, item_at, pos_of_seal}
 use Rattle.rkyv_collections.specs.Map.{AreUnderHashAt, FindsFirstKeyAt, FindsKeyAt}
 use Rattle.rkyv_collections.specs.Map.MapAt.{MapAt, map_at}
 use Rattle.rkyv_collections.specs.Map.MapSpec.{IsKeyPosAt}
@@ -101,10 +100,12 @@ module _ {K V H W : Type 0} (w : Width) (k v : ElementSpec) (a : ArchiveSeal
   IsPairSeal pair = (i : ℕ)
       × LendsPair k v (archive_in a) (IsPairPos w k v (archive_in a) (pos_in a) i) pair
 
-  -- the seal is that of a value of the map
-  abbrev pub IsValueSeal : Seal V → Type 0
-  IsValueSeal value = (i : ℕ)
-      × LendsValue k v (archive_in a) (IsPairPos w k v (archive_in a) (pos_in a) i) value
+  -- `value`: seal of a value of the map, with the reference of the map's seal
+  pub record IsValueSeal (value : Seal V) : Type 0 where
+    pub bucket : ℕ
+    pub key : ℕ
+    pub pair : IsPairPos w k v (archive_in a) (pos_in a) bucket key
+    pub at : SealAt value a.archive (value_pos k v key)
 
 -- the position is that of the key of the found pair, or there is neither
 abbrev pub IsPairSealAt : {K V : Type 0} → Option (View K × Seal V) → Option ℕ → Type 0

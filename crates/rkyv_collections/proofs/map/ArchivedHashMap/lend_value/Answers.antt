@@ -10,8 +10,7 @@ value_seal-requires g c =
 pub returns-clause-walked : goal.returns-clause-walked
 returns-clause-walked g c =
     let pair = found_key_pos g.W.Word.word g.K.HasSpec.spec g.V.HasSpec.spec g.K.HasSpec.laws g.V.HasSpec.laws (archive_in c.args.this) (pos_in c.args.this) c.requires.map c.args.found c.in_ok-found.field-0 c.in_ok-found.was c.requires.found in
-    let e = c.value_seal.ensures.at in
-    (pair.0, record { key = c.in_ok-found.field-0; at = pair.1; bytes = e.bytes; pos = e.pos })
+    record { bucket = pair.0; key = c.in_ok-found.field-0; pair = pair.1; at = c.value_seal.ensures.at }
 
 pub returns-clause-viewable : goal.returns-clause-viewable
 returns-clause-viewable g c =
