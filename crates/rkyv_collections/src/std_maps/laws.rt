@@ -29,7 +29,7 @@ use rkyv_base::width::Width;
 use rkyv_keys::deserialize::Deserialize;
 use rkyv_keys::equality::{EqualsWritten, MatchesNative, RepresentsUniquely};
 use rkyv_keys::keys::{KeyElement, NativeKey, Query};
-use rkyv_scan::hash::KeyHasher;
+use rkyv_scan::hash::{FxHasher64, KeyHasher};
 use std::collections::{HashMap, HashSet};
 use std::hash::{BuildHasher, Hash};
 
@@ -81,6 +81,8 @@ where
 {}
 
 /// States that a map represents the map of std of its pairs, inserted in bucket order.
+///
+/// Without a hasher, `Hashed` has `FxHasher64`.
 pub fn std_maps_are_represented<K, V, A, B, T: BuildHasher, H, W: Width>()
 where
     K: Represents<A>,
@@ -91,9 +93,14 @@ where
     ensures hashed { let m = ⟦<HashMapOf<K, V, H, W> as Represents<Hashed<HashMap<A, B, T>, H>>>⟧ in
         SameValues m.represents (RepresentsAs inner
         (StdMapRepresents K.spec V.spec K.represents V.represents W.word A.eq)) }
+    ensures default_hasher { SameValues
+        ⟦<HashMapOf<K, V> as Represents<Hashed<HashMap<A, B, T>>>>⟧.represents
+        ⟦<HashMapOf<K, V> as Represents<Hashed<HashMap<A, B, T>, FxHasher64>>>⟧.represents }
 {}
 
 /// States that a set represents the set of std of its keys, inserted in bucket order.
+///
+/// Without a hasher, `Hashed` has `FxHasher64`.
 pub fn std_sets_are_represented<K, A, T: BuildHasher, H, W: Width>()
 where
     K: Represents<A>,
@@ -103,6 +110,9 @@ where
     ensures hashed { let s = ⟦<HashSetOf<K, H, W> as Represents<Hashed<HashSet<A, T>, H>>>⟧ in
         SameValues s.represents (RepresentsAs inner
         (StdSetRepresents K.spec K.represents W.word A.eq)) }
+    ensures default_hasher { SameValues
+        ⟦<HashSetOf<K> as Represents<Hashed<HashSet<A, T>>>>⟧.represents
+        ⟦<HashSetOf<K> as Represents<Hashed<HashSet<A, T>, FxHasher64>>>⟧.represents }
 {}
 
 /// States that an archived map is compared with a map of std by their lengths and by lookups.
