@@ -1,5 +1,5 @@
 -- Deserializing a map of std, pair by pair.
-use Rattle.std.proofs.Common.{◌≡◌, ℕ, refl, ap, ◌∙◌, Bool, true, false, cond, subst, sym, List, [], ◌∷◌, ◌++◌, append_assoc, append-nil, Option, Some, None}
+use Rattle.std.proofs.Common.{◌≡◌, ◌<◌, ℕ, arith, length, refl, ap, ◌∙◌, Bool, true, false, cond, subst, sym, List, [], ◌∷◌, ◌++◌, append_assoc, append-nil, Option, Some, None}
 use Rattle.std.specs.Borrow.{Bor}
 use Rattle.std.specs.Int.{Width}
 use Rattle.std.specs.HashSet.{HashSet, Updates}
@@ -15,6 +15,15 @@ use Rattle.rkyv_keys.specs.{DeserializeErrors}
 use Rattle.rkyv_table.specs.{ItemsLeft, YieldsFirstPos, item_positions, with_units}
 use Rattle.rkyv_collections.specs.{AddsKey, ArePairsAt, ReadInOrderFails}
 use Rattle.rkyv_collections.specs.Lemmas.StdSet.{unit_lookup}
+
+-- a list of no elements
+pub none_left : {X : Type 0} (xs : List X) → length xs ≡ 0 → xs ≡ []
+none_left [] none = refl
+none_left (x ∷ xs) none = absurd (omega arith)
+
+some_between : {X : Type 0} (before : List X) (x : X) (after : List X) → 0 < length (before ++ x ∷ after)
+some_between [] x after = omega arith
+some_between (y ∷ before) x after = omega arith
 
 -- one more value at the next position
 read_push : {V : Type 0} (Read : ℕ → V → Type 0) (positions : List ℕ) (values : List V) (pos : ℕ) (value : V) → AllZip Read positions values → Read pos value → AllZip Read (positions ++ pos ∷ []) (values ++ value ∷ [])
@@ -61,6 +70,10 @@ module _ {A B : Type 0} (w : Width) (k v : ElementSpec) (key : List ℕ → ℕ 
     -- the positions around the next key
     pub walks_split : all_positions ≡ on.before ++ key_pos ∷ after.positions
     walks_split = on.in_order ∙ ap (λ (ps : List ℕ). on.before ++ ps) step.first
+
+    -- the map has pairs
+    pub walks_some : (positions : List ℕ) (n : ℕ) → positions ≡ all_positions → length positions ≡ n → 0 < n
+    walks_some positions n same count = subst (λ m. 0 < m) (sym (ap length (same ∙ walks_split)) ∙ count) (some_between on.before key_pos after.positions)
 
     pub walks_next : (found' : A → Option B) (stored' : List A) (a : A) (x : B) → PairRepresents k v key value archive.now key_pos (a, x) → ((q : A) → found' q ≡ cond (equal a q) (Some x) (found q))
         → AddsKey equal stored stored' a → WalksOn after found' stored'

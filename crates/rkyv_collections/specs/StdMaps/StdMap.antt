@@ -1,6 +1,6 @@
 -- Maps of std: the archived maps that represent them, and their format.
-use Rattle.std.specs.Prelude.{◌≡◌, ℕ, ◌⊎◌, Bool, List, [], ◌∷◌, ◌++◌, MatchResult, None, Result}
-use Rattle.std.specs.Prelude.{Some}
+use Rattle.std.specs.Prelude.{◌≡◌, ℕ, ◌<◌, ◌⊎◌, Bool, List, [], ◌∷◌, ◌++◌, MatchResult, None}
+use Rattle.std.specs.Prelude.{Result, Some}
 use Rattle.std.specs.HashMap.{HashMap, IsUnique, Updates, hasher_of, keys}
 use Rattle.std.specs.Int.{Width}
 use Rattle.std.specs.List.{AllZip, IsDistinct, find}
@@ -10,7 +10,7 @@ use Rattle.rkyv_base.specs.declared.errors.ReadError.{ReadError}
 use Rattle.rkyv_base.specs.declared.errors.ReadError.TheVariants.{Memory}
 use Rattle.rkyv_base.specs.declared.view.View.{View}
 use Rattle.rkyv_keys.specs.{DeserializeErrors, DeserializeMembers, entry_deserialize_fails}
-use Rattle.rkyv_table.specs.{item_positions}
+use Rattle.rkyv_table.specs.{item_positions, len_at}
 use Rattle.rkyv_collections.specs.declared.std_maps.hashed.Hashed.{Hashed}
 
 -- the map or set of std inside the wrapper
@@ -60,12 +60,12 @@ pub record ReadInOrderFails {V : Type 0} (represents : List ℕ → ℕ → V �
   pub read : AllZip (represents b) before values
   pub error : fails b pos e
 
--- `e`: error of deserializing the map at `p`. It is `Memory`, or the error of a key or a value,
--- after all pairs before it, in bucket order, were deserialized
+-- `e`: error of deserializing the map at `p`. It is `Memory`, unless the map is empty, or the error
+-- of a key or a value, after all pairs before it, in bucket order, were deserialized
 abbrev pub std_map_fails : {A B : Type 0} → Width → DeserializeMembers A → DeserializeMembers B
     → DeserializeErrors
 std_map_fails w k v b p e =
-    (e ≡ Memory)
+    ((e ≡ Memory) × (0 < len_at w b p))
     ⊎ ReadInOrderFails (PairRepresents k.spec v.spec k.represents v.represents)
     (entry_deserialize_fails k v) b
     (item_positions w (entry_spec k.spec v.spec).size b p) e

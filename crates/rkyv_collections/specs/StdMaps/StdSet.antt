@@ -1,7 +1,7 @@
 -- Sets of std, as their keys, each with the unit value.
 use Rattle.rkyv_base.specs.declared.element.HasSpec.{Ghosts as Specs}
 use Rattle.rkyv_base.specs.declared.width.Word.{Ghosts as Words}
-use Rattle.std.specs.Prelude.{◌≡◌, ℕ, ◌⊎◌, Bool, true, List, MatchResult, Result}
+use Rattle.std.specs.Prelude.{◌≡◌, ℕ, ◌<◌, ◌⊎◌, Bool, true, List, MatchResult, Result}
 use Rattle.std.specs.HashSet.{HashSet, IsUnique, Updates, hash_set_len, hasher_of}
 use Rattle.std.specs.List.{All}
 use Rattle.std.specs.Int.{Width}
@@ -33,11 +33,11 @@ InsertsKey {A} equal Fact s n =
 abbrev pub insert_key_fails : DeserializeErrors → DeserializeErrors
 insert_key_fails key b q e = (e ≡ Memory) ⊎ key b q e
 
--- `e`: error of deserializing the set at `p`. It is `Memory`, or the error of a key,
--- after all keys before it, in bucket order, were deserialized
+-- `e`: error of deserializing the set at `p`. It is `Memory`, unless the set is empty, or the error
+-- of a key, after all keys before it, in bucket order, were deserialized
 abbrev pub std_set_fails : {A : Type 0} → Width → DeserializeMembers A → DeserializeErrors
 std_set_fails w k b p e =
-    (e ≡ Memory)
+    ((e ≡ Memory) × (0 < len_at w b p))
     ⊎ ReadInOrderFails k.represents k.deserialize_fails b
     (item_positions w (entry_spec k.spec unit_spec).size b p) e
 

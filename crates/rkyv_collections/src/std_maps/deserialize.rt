@@ -51,7 +51,7 @@ impl<'a, K: Element, V: Element, H, W: Width> ArchivedHashMap<'a, K, V, H, W> {
     ///
     /// # Errors
     ///
-    /// - `Memory`: memory for the map could not be allocated.
+    /// - `Memory`: memory for the map could not be allocated. An empty map needs none.
     /// - The first error of deserializing a key or a value, in bucket order.
     ///
     /// # Examples
@@ -79,7 +79,8 @@ impl<'a, K: Element, V: Element, H, W: Width> ArchivedHashMap<'a, K, V, H, W> {
             (std_map_fails W.word K.Deserialize V.Deserialize)
             (map_view self.entry) state result }
     {
-        let mut map = HashMap::with_capacity_and_hasher(alloc, self.len(), state)?;
+        let mut map = HashMap::with_hasher(alloc, state);
+        map.reserve(self.len())?;
         for (key, value) in self.iter() {
             insert_read(&mut map, alloc, key, value)?;
         }

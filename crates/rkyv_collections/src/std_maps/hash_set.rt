@@ -131,7 +131,7 @@ impl<'a, K: Element, H, W: Width> ArchivedHashSet<'a, K, H, W> {
     ///
     /// # Errors
     ///
-    /// - `Memory`: memory for the set could not be allocated.
+    /// - `Memory`: memory for the set could not be allocated. An empty set needs none.
     /// - The first error of deserializing a key, in bucket order.
     ///
     /// # Examples
@@ -155,7 +155,8 @@ impl<'a, K: Element, H, W: Width> ArchivedHashSet<'a, K, H, W> {
         ensures { ReadsStdSet (StdSetRepresents K.spec K.represents W.word A.eq)
             (std_set_fails W.word K.Deserialize) (set_view self.entry) state result }
     {
-        let mut set = HashSet::with_capacity_and_hasher(alloc, self.len(), state)?;
+        let mut set = HashSet::with_hasher(alloc, state);
+        set.reserve(self.len())?;
         for key in self.iter() {
             insert_read(&mut set, alloc, key)?;
         }

@@ -172,8 +172,8 @@ pub fn hashed_values_are_compared<M: PartialEq, H>()
 
 /// States which errors deserializing a map of std can return.
 ///
-/// Memory could not be allocated, or a key or a value has the error, after all pairs before it,
-/// in bucket order, were deserialized.
+/// Memory could not be allocated, and the map is not empty, or a key or a value has the error,
+/// after all pairs before it, in bucket order, were deserialized.
 pub fn std_maps_fail_as_pairs<K, V, A, B, H, W: Width>()
 where
     K: Deserialize<A>,
@@ -190,8 +190,8 @@ where
 
 /// States which errors deserializing a set of std can return.
 ///
-/// Memory could not be allocated, or a key has the error, after all keys before it,
-/// in bucket order, were deserialized.
+/// Memory could not be allocated, and the set is not empty, or a key has the error,
+/// after all keys before it, in bucket order, were deserialized.
 pub fn std_sets_fail_as_keys<K, A, H, W: Width>()
 where
     K: Deserialize<A>,

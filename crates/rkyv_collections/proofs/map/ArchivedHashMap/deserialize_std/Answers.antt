@@ -5,18 +5,18 @@ use Rattle.std.specs.Map.{keys_of, lookup}
 use Rattle.std.proofs.lemmas.Result.{err_from_is_err_and}
 use Rattle.rkyv_base.specs.{PairRepresents}
 use Rattle.rkyv_keys.specs.{DeserializeMembers, entry_deserialize_fails}
-use Rattle.rkyv_collections.specs.{map_archive, map_pos}
-use Rattle.rkyv_collections.proofs.StdReading.{walks_fail, walks_first, walks_last, walks_next}
+use Rattle.rkyv_collections.specs.{map_archive, map_len, map_pos}
+use Rattle.rkyv_collections.proofs.StdReading.{none_left, walks_fail, walks_first, walks_last, walks_next, walks_some}
 use Rattle.rkyv_collections.proofs.map.ArchivedHashMap.deserialize_std.Goals as goal
 
 pub loop-key-init : goal.loop-key-init
 loop-key-init g c =
     let walk = c.iter-key-items.ensures in
-    let empty = c.in_ok-map.ensures in (
+    let empty = none_left c.reserve.new.self.entries (c.reserve.ensures.entries.1 ∙ c.with_hasher-map.ensures.len) in (
       walks_first g.W.Word.word g.K.HasSpec.spec g.V.HasSpec.spec g.K.Represents.represents g.V.Represents.represents g.A.PartialEq.eq (map_archive c.args.self) (map_pos c.args.self)
           c.into_iter-key-iterator.result c.iter-key-items.result c.into_iter-key-iterator.ensures.into_iter_gives walk.archive walk.positions
-          (get g.A.PartialEq.eq c.in_ok-map.map) (keys c.in_ok-map.map) (λ q. ap (lookup (g.A.PartialEq.eq q)) empty.empty) (ap keys_of empty.empty),
-      empty.unique,
+          (get g.A.PartialEq.eq c.reserve.new.self) (keys c.reserve.new.self) (λ q. ap (lookup (g.A.PartialEq.eq q)) empty) (ap keys_of empty),
+      c.reserve.ensures.unique,
       refl,
     )
 
@@ -43,7 +43,11 @@ returns-in_err-insert_read g c =
     let error = c.in_err-insert_read.field-0.0 in
     let p = err_from_is_err_and c.from_residual-in_err-insert_read.result c.from_residual-in_err-insert_read.ensures.1 in
     rw (p.1, p.2) (elim c.in_err-insert_read.ensures [
-      | inl memory ↦ inl memory
+      | inl memory ↦ inl (
+        memory,
+        walks_some g.W.Word.word g.K.HasSpec.spec g.V.HasSpec.spec g.K.Represents.represents g.V.Represents.represents g.A.PartialEq.eq (map_archive c.args.self) (map_pos c.args.self)
+            c.loop-key.key-iterator c.next.new.self c.in-Some.key.pos (get g.A.PartialEq.eq c.loop-key.map) (keys c.loop-key.map) step.0 on.0 c.iter-key-items.result.positions (map_len c.args.self) c.iter-key-items.ensures.positions c.iter-key-items.ensures.count,
+      )
       | inr part ↦ inr (walks_fail g.W.Word.word g.K.HasSpec.spec g.V.HasSpec.spec g.K.Represents.represents g.V.Represents.represents g.A.PartialEq.eq (map_archive c.args.self) (map_pos c.args.self)
           c.loop-key.key-iterator c.next.new.self c.in-Some.key.pos (get g.A.PartialEq.eq c.loop-key.map) (keys c.loop-key.map) step.0 on.0 fails error
           (subst (λ (a : Bor (List ℕ)). fails a.now c.in-Some.key.pos error) (step.1.at.0 ∙ on.0.same_archive) part))
@@ -54,4 +58,4 @@ returns g c =
     let on = c.loop-key.invariant in
     let read = walks_last g.W.Word.word g.K.HasSpec.spec g.V.HasSpec.spec g.K.Represents.represents g.V.Represents.represents g.A.PartialEq.eq (map_archive c.args.self) (map_pos c.args.self)
     c.loop-key.key-iterator (get g.A.PartialEq.eq c.loop-key.map) (keys c.loop-key.map) on.0 c.in-None.ensures.steps.none in
-    (record { pairs = on.0.pairs; read = read; inserted = (on.0.inserted, on.1); stored = on.0.first_kept }, on.2 ∙ c.in_ok-map.ensures.hasher)
+    (record { pairs = on.0.pairs; read = read; inserted = (on.0.inserted, on.1); stored = on.0.first_kept }, on.2 ∙ c.reserve.ensures.hasher ∙ c.with_hasher-map.ensures.hasher)
