@@ -3,6 +3,7 @@
 //! `MapPairs` is a list of pairs, and `SetItems` a list of items.
 
 mod items;
+pub mod laws;
 mod pairs;
 
 pub use items::SetItems;
