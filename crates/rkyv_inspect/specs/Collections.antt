@@ -75,10 +75,12 @@ is_key_type U64 = true
 is_key_type Text = true
 is_key_type _ = false
 
--- values of the type are supported
-abbrev pub is_value_type : ItemType → Bool
-is_value_type UnitType = true
-is_value_type item = is_key_type item
+-- values of the type are supported in a collection of the kind. Those of a set are unit
+abbrev pub is_value_type : Kind → ItemType → Bool
+is_value_type _ UnitType = true
+is_value_type HashMap item = is_key_type item
+is_value_type IndexMap item = is_key_type item
+is_value_type _ _ = false
 
 -- the spec of the header of a collection of the kind. A set is a map: its values are unit if `v` is
 abbrev pub root_spec : Kind → Width → ElementSpec → ElementSpec → ElementSpec

@@ -81,9 +81,9 @@ module _ (t : Target) where
   -- with these out-of-line bytes; or the error for the type of values
   abbrev pub InspectsValues : KeyType → Parts → Result Inspection InspectError → Type 0
   InspectsValues key parts result =
-      ((is_value_type t.contents.value ≡ true)
+      ((is_value_type t.contents.kind t.contents.value ≡ true)
       × Inspects t.contents.kind key (pairs_with key parts) result)
-      ⊎ ((is_value_type t.contents.value ≡ false)
+      ⊎ ((is_value_type t.contents.kind t.contents.value ≡ false)
       × (result ≡ Err (Unsupported t.contents.value)))
 
   -- the same with the keys of the contents, or the error for the type of keys

@@ -103,12 +103,13 @@ fn inspect_keys<K: KeyElement + Field, W: IndexWidth>(
     ensures { let keys = fx_keys K.spec K.same K.key_calls in
         InspectsValues (target W.word W.LIMIT contents archive.now limit) keys K.part_at result }
 {
-    match contents.value {
-        ItemType::Unit => inspect_kind::<K, (), W>(alloc, archive, contents, limit),
-        ItemType::U32 => inspect_kind::<K, u32, W>(alloc, archive, contents, limit),
-        ItemType::U64 => inspect_kind::<K, u64, W>(alloc, archive, contents, limit),
-        ItemType::Text => inspect_kind::<K, Text<W>, W>(alloc, archive, contents, limit),
-        other => Err(InspectError::Unsupported(other)),
+    match (contents.kind, contents.value) {
+        (_, ItemType::Unit) => inspect_kind::<K, (), W>(alloc, archive, contents, limit),
+        (Kind::HashSet | Kind::IndexSet, other) => Err(InspectError::Unsupported(other)),
+        (_, ItemType::U32) => inspect_kind::<K, u32, W>(alloc, archive, contents, limit),
+        (_, ItemType::U64) => inspect_kind::<K, u64, W>(alloc, archive, contents, limit),
+        (_, ItemType::Text) => inspect_kind::<K, Text<W>, W>(alloc, archive, contents, limit),
+        (_, other) => Err(InspectError::Unsupported(other)),
     }
 }
 
@@ -136,7 +137,8 @@ fn inspect_width<W: IndexWidth>(
 ///
 /// # Errors
 ///
-/// - `Unsupported`: the keys aren't `u32`, `u64` or text, or the values aren't these or unit.
+/// - `Unsupported`: the keys aren't `u32`, `u64` or text, or the values aren't these or unit. The
+///   values of a set must be unit.
 /// - `Invalid`: the bytes aren't a valid archive of this collection.
 /// - `Memory`: an allocation failed.
 ///

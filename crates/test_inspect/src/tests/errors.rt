@@ -38,5 +38,8 @@ fn unsupported_types(rt: HostRuntime) -> Result<(), Fail> {
     let contents = narrow(Kind::HashMap, ItemType::U32, ItemType::Bytes);
     let values = inspect(rt.alloc(), &ONE_NUMBER, contents, 1000);
     assert!(rt; matches!(&values, Err(InspectError::Unsupported(ItemType::Bytes))));
+    let contents = narrow(Kind::HashSet, ItemType::U32, ItemType::U32);
+    let set = inspect(rt.alloc(), &ONE_NUMBER, contents, 1000);
+    assert!(rt; matches!(&set, Err(InspectError::Unsupported(ItemType::U32))));
     Ok(())
 }
