@@ -9,8 +9,7 @@ use Rattle.rkyv_scan.specs.{Hasher, HasherCall}
 use Rattle.rkyv_keys.specs.{Comparison, FitsItsEqual, IsKey, IsQuery, hash_at, hash_of}
 use Rattle.rkyv_collections.specs.{MapRepresents, SetRepresents, map_format, set_format, set_spec}
 use Rattle.rkyv_collections.specs.Lemmas.MapSound.{map_local, map_sound}
-use Rattle.rkyv_table.specs.{listed, with_units}
-use Rattle.rkyv_table.specs.Lemmas.Listed.{listed-format}
+use Rattle.rkyv_table.specs.{with_units}
 
 module _ {State : Type 0} (hasher : Hasher State) (w : Width) {k : ElementSpec} (kl : IsElement k)
     {A : Type 0} {key : List ℕ → ℕ → A → Type 0} {same : Comparison} {key_calls : List ℕ → ℕ
@@ -35,18 +34,3 @@ module _ {State : Type 0} (hasher : Hasher State) (w : Width) {k : ElementSpec} 
       (MapRepresents w k unit_spec key unit_represents (hash_at hasher key_calls) factor)
       (map_format w k unit_spec kf unit_format (hash_of hasher calls) factor)
       (map_sound hasher w kl unit_element factor kind query native itself reads kw unit_is_format)
-
-  -- the same for a list, written by a call that takes exactly its keys
-  pub listed_set_sound : (max : ℕ) → IsArchiveWord w
-      → {can_read : A → Type 0} {calls : A → List HasherCall} {fits : A → List ℕ → ℕ
-      → Bool} {equal : A → A → Bool} {R : Type 0} {kf : Format A R}
-      → IsQuery k same key_calls can_read calls fits → FitsItsEqual k key equal fits
-      → ((a : A) → equal a a ≡ true) → ((a : A) → can_read a) → IsFormat k key kf
-      → IsFormat (set_spec w k) (SetRepresents w k key (hash_at hasher key_calls) factor)
-      (listed max factor (set_format w k kf (hash_of hasher calls) factor))
-  listed_set_sound max kind {can_read} {calls} {fits} {equal} {R} {kf} query native itself reads
-      kw =
-      listed-format max factor (set_spec w k) (SetRepresents w k key
-      (hash_at hasher key_calls) factor)
-      (set_format w k kf (hash_of hasher calls) factor)
-      (set_sound kind query native itself reads kw)

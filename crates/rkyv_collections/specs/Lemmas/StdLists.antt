@@ -6,18 +6,9 @@ use Rattle.rkyv_base.specs.{ElementSpec, Format, IsArchiveWord, IsElement, IsFor
 use Rattle.rkyv_base.specs.Lemmas.Pairs.{written_as-format}
 use Rattle.rkyv_keys.specs.{Comparison, FitsItsEqual, IsQuery, hash_at, hash_of}
 use Rattle.rkyv_table.specs.{listed}
+use Rattle.rkyv_collections.specs.Lemmas.DistinctEntries.{of_entries-format}
 use Rattle.rkyv_collections.specs.Lemmas.MapSound.{listed_map_sound}
 use Rattle.rkyv_collections.specs.{MapRepresents, map_format, map_spec, of_entries}
-
--- a relation that the format of a list keeps is kept for entries with distinct keys
-distinct_keep : {A B R : Type 0} (s : ElementSpec) (keeps : List ℕ → ℕ → List (A × B) → Type 0)
-    (equal : A → A → Bool) (f : Format (List (A × B)) R) → IsFormat s keeps f
-    → IsFormat s keeps (of_entries equal f)
-distinct_keep s keeps equal f law = record {
-  size_exact = law.size_exact;
-  exclusive = law.exclusive;
-  sound = λ entries r c p0 p part out parts. law.sound entries r c p0 p part out parts.1;
-}
 
 pub entries_listed : {State : Type 0} (hasher : Hasher State) (w : Width) (kind : IsArchiveWord w)
     (max : ℕ) {k v : ElementSpec} (kl : IsElement k) (vl : IsElement v) {A B X R S : Type 0}
@@ -40,5 +31,6 @@ entries_listed hasher w kind max {k} {v} kl vl {key = key} {value = value} {key_
     (7, 8)) in
     let keeps = MapRepresents w k v key value (hash_at hasher key_calls) (7, 8) in
     written_as-format entries (map_spec w k v) keeps (of_entries equal f)
-    (distinct_keep (map_spec w k v) keeps equal f (listed_map_sound hasher w kl vl (7, 8) max kind
-    own native itself reads key_law value_law))
+    (of_entries-format w kind kl vl (7, 8) equal keeps (λ b p view es represents distinct.
+    represents) f (listed_map_sound hasher w kl vl (7, 8) max kind own native itself reads key_law
+    value_law))

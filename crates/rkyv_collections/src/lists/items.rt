@@ -3,9 +3,9 @@
 ghost use Rattle.std.specs.Prelude.{◌≡◌};
 ghost use Rattle.rkyv_keys.specs.{hash_at, hash_of};
 ghost use Rattle.rkyv_table.specs.{listed, written_as_each};
-ghost use Rattle.rkyv_table.specs.Lemmas.Listed.{written_as_each-format};
+ghost use Rattle.rkyv_table.specs.Lemmas.Listed.{listed-format, written_as_each-format};
 ghost use Rattle.rkyv_collections.specs.{SetRepresents, set_format, set_spec};
-ghost use Rattle.rkyv_collections.specs.Lemmas.SetSound.{listed_set_sound, set_local};
+ghost use Rattle.rkyv_collections.specs.Lemmas.SetSound.{set_local, set_sound};
 
 use crate::set::write::HashSetResolver;
 use crate::set::{ArchivedHashSet, HashSetOf};
@@ -96,9 +96,11 @@ where
         (λ x. SetRepresents W.word A.Archived.spec A.Archived.represents hash x.load_factor)
         (λ x. listed W.MAX_CAPACITY x.load_factor
         (set_format W.word A.Archived.spec A.format own x.load_factor))
-        (λ x. listed_set_sound H.hasher W.word A.Archived.laws x.load_factor W.MAX_CAPACITY
-        W.layout.kind
-        A.query A.native A.Eq.laws.refl A.reads A.Archive.laws) };
+        (λ x. listed-format W.MAX_CAPACITY x.load_factor (set_spec W.word A.Archived.spec)
+        (SetRepresents W.word A.Archived.spec A.Archived.represents hash x.load_factor)
+        (set_format W.word A.Archived.spec A.format own x.load_factor)
+        (set_sound H.hasher W.word A.Archived.laws x.load_factor W.layout.kind
+        A.query A.native A.Eq.laws.refl A.reads A.Archive.laws)) };
 }
 
 impl<'a, S: Writer, W: Width, H: KeyHasher, A: Serialize<S, W>> Serialize<S, W>

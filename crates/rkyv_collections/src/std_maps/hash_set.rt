@@ -33,7 +33,6 @@ use rkyv_keys::keys::{KeyElement, NativeKey};
 use rkyv_scan::hash::KeyHasher;
 use std::alloc::Global;
 use std::collections::HashSet;
-use std::collections::hash_set::Iter;
 use std::hash::{BuildHasher, BuildHasherDefault, Hash};
 
 impl<A: Eq + Hash, T: BuildHasher, H, W: Width, K: Represents<A>> Represents<HashSet<A, T>>
