@@ -1,9 +1,11 @@
 -- All definitions of the crate, which contracts and proofs import from here.
 pub mod ByAddress
 pub mod Commands
+pub mod Errors
 pub mod Outcomes
 unfoldable pub use ByAddress.{IndexFails, IndexResult, IsEntryOf, IsIndexOf, Listed, OpensIndex}
 unfoldable pub use ByAddress.{PairsRepresentAt, Row, index_header, pairs_format, turned}
 pub use ByAddress.{IsAscending}
 unfoldable pub use Commands.{command_of, least_count}
+unfoldable pub use Errors.{IsFileError, IsValidationError, IsWriteError}
 unfoldable pub use Outcomes.{outcome_of}

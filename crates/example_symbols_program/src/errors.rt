@@ -1,4 +1,5 @@
 //! The errors of the program.
+ghost use Rattle.example_symbols_program.specs.{IsFileError, IsValidationError, IsWriteError};
 
 use rkyv_base::errors::{VerifyError, WriteError};
 use rkyv_base::writer::NoMemory;
@@ -42,7 +43,9 @@ pub enum SymbolsError {
 }
 
 /// Returns the error of a read or a write of a file.
-pub fn file_error(alloc: Global, file: &str, error: io::Error) -> SymbolsError {
+pub fn file_error(alloc: Global, file: &str, error: io::Error) -> SymbolsError
+    ensures { IsFileError file.now error result }
+{
     match String::from_str(alloc, file) {
         Ok(file) => SymbolsError::File { file, error },
         Err(failure) => SymbolsError::Memory(failure),
@@ -50,7 +53,9 @@ pub fn file_error(alloc: Global, file: &str, error: io::Error) -> SymbolsError {
 }
 
 /// Returns the error of an archive that is to be written to a file.
-pub fn write_error(alloc: Global, file: &str, error: WriteError<NoMemory>) -> SymbolsError {
+pub fn write_error(alloc: Global, file: &str, error: WriteError<NoMemory>) -> SymbolsError
+    ensures { IsWriteError file.now error result }
+{
     match String::from_str(alloc, file) {
         Ok(file) => SymbolsError::Write { file, error },
         Err(failure) => SymbolsError::Memory(failure),
@@ -58,7 +63,9 @@ pub fn write_error(alloc: Global, file: &str, error: WriteError<NoMemory>) -> Sy
 }
 
 /// Returns the error of a file that isn't a valid table or index.
-pub fn invalid_error(alloc: Global, file: &str, error: VerifyError) -> SymbolsError {
+pub fn invalid_error(alloc: Global, file: &str, error: VerifyError) -> SymbolsError
+    ensures { IsValidationError file.now error result }
+{
     match String::from_str(alloc, file) {
         Ok(file) => SymbolsError::Invalid { file, error },
         Err(failure) => SymbolsError::Memory(failure),
