@@ -1,11 +1,15 @@
 -- Splits of a list at the first item that passes a test.
-use Rattle.std.proofs.Common.{◌≡◌, ◌==◌, ℕ, ◌+◌, ◌<◌, Bool, true, List, [], ◌∷◌, Option, length, take, drop, Some, None, refl, sym, ◌∙◌, subst, arith, ltb, ⊎_elim}
+use Rattle.std.proofs.Common.{◌≡◌, ◌==◌, ℕ, ◌+◌, ◌<◌, ◌≤◌, Bool, true, List, [], ◌∷◌, Option, length, take, drop, Some, None, refl, sym, ap, ◌∙◌, subst, arith, ltb, ⊎_elim}
 use Rattle.std.specs.List.{position, position_or_len, slice_split}
 use Rattle.std.proofs.lemmas.List.Splits.{length-slice_split, slice_split_first, slice_split_none}
 use denote.Ref.{Bor}
 use Rattle.std.specs.Option.{MatchOption}
 use Rattle.std.proofs.lemmas.Str.Pattern.{IsSplitOnceResult, split_once_first}
-use Rattle.rkyv_dict.specs.{Request, one_of, split_at, two_of, without_arguments}
+use Rattle.std.specs.Prelude.{codes, OnErr, Result}
+use Rattle.std.specs.Str.{bytes_eq}
+use Rattle.std.proofs.lemmas.Result.{on_err_weaker}
+use Rattle.std.proofs.lemmas.Slice.Eq.{bytes_eq-Decides}
+use Rattle.rkyv_dict.specs.{NeedMemory, Request, one_of, split_at, two_of, without_arguments}
 use Rattle.std.proofs.lemmas.List.Quantifiers.{position-Some}
 use Rattle.std.proofs.lemmas.List.Sums.{fails_before_first, position_or_len_is}
 use Rattle.std.proofs.lemmas.Bool.{cases_lt, lt-ltb}
@@ -44,6 +48,21 @@ two_of_more first second rest = let s = split_cons (λ b. b == 32) rest in rw s.
 
 pub without_arguments_of_more : (request : Request) (rest : List ℕ) → without_arguments request (split_at 32 rest) ≡ None
 without_arguments_of_more request rest = let s = split_cons (λ b. b == 32) rest in rw s.2 refl
+
+-- the only word of a list is all of it
+one_of_is : (words : List (List ℕ)) (word : List ℕ) → one_of words ≡ Some word → words ≡ word ∷ []
+one_of_is [] word e = absurd (let bad : None ≡ Some word = e in cc)
+one_of_is (first ∷ []) word e = let same : Some first ≡ Some word = e in cc
+one_of_is (first ∷ second ∷ more) word e = absurd (let bad : None ≡ Some word = e in cc)
+
+pub needs_memory : (arguments : List (List ℕ)) (word : List ℕ) → one_of arguments ≡ Some word → 2 ≤ length word → NeedMemory (codes "check" ∷ arguments)
+needs_memory arguments word e long = record { digits = word; check = ap (λ others. codes "check" ∷ others) (one_of_is arguments word e); several = long }
+
+-- the same with a verb that equals `check`
+pub needs_memory_as : {T E : Type 0} (r : Result T E) (verb : List ℕ) (arguments : List (List ℕ)) → bytes_eq verb (codes "check") ≡ true
+    → OnErr r (NeedMemory (codes "check" ∷ arguments)) → OnErr r (NeedMemory (verb ∷ arguments))
+needs_memory_as r verb arguments is h =
+    on_err_weaker r (λ needs. subst (λ v. NeedMemory (v ∷ arguments)) (sym ((bytes_eq-Decides verb (codes "check")).0 is)) needs) h
 
 -- a text is split at its first space
 pub cut_first : (bs : List ℕ) (r : Option (Bor (List ℕ) × Bor (List ℕ))) → IsSplitOnceResult 32 bs r

@@ -41,8 +41,8 @@ unfoldable pub use Script.{is_numeral, kind_of_word, kind_request, lines_of, loa
 unfoldable pub use Script.{most_number, number_of, one_of, parsed_by, parsed_by_both, parts_after}
 unfoldable pub use Script.{put_request, request_by, request_of, request_of_words, split_at, text_of}
 unfoldable pub use Script.{two_of, width_request, without_arguments, words_left, words_of}
-pub use Script.{Request, build_archive, check_archive, count_misplaced, get_value, list_pairs}
-pub use Script.{put_numbers, put_texts, set_kind, set_load_factor, set_width, show_hex}
+pub use Script.{NeedMemory, Request, build_archive, check_archive, count_misplaced, get_value}
+pub use Script.{list_pairs, put_numbers, put_texts, set_kind, set_load_factor, set_width, show_hex}
 unfoldable pub use Errors.{cause_text, is_allocation_failure, message_of, verify_error_text}
 unfoldable pub use States.{IsSound, emptied, form_of, no_pairs, start, with_numbers, with_texts}
 pub use States.{Archived, IsSoundIn, State}

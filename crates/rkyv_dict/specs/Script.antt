@@ -1,7 +1,7 @@
 -- The lines of a script, and the requests that they represent.
 use denote.Ref.{Bor}
-use Rattle.std.specs.Prelude.{ℕ, ◌&&◌, ◌||◌, ◌==◌, Bool, not, nat_le, if◌then◌else◌, List, [], ◌∷◌}
-use Rattle.std.specs.Prelude.{None, Option, Some, codes, length, slice_index}
+use Rattle.std.specs.Prelude.{ℕ, ◌≡◌, ◌≤◌, ◌&&◌, ◌||◌, ◌==◌, Bool, not, nat_le, if◌then◌else◌, List}
+use Rattle.std.specs.Prelude.{None, Option, Some, [], ◌∷◌, codes, length, slice_index}
 use Rattle.std.specs.List.{list_all, slice_split}
 use Rattle.std.specs.Char.{is_ascii_digit}
 use Rattle.std.specs.Option.{option_copied, option_map}
@@ -177,6 +177,12 @@ request_by kind verb arguments =
 abbrev pub request_of_words : Kind → List (List ℕ) → Option Request
 request_of_words kind [] = None
 request_of_words kind (verb ∷ arguments) = request_by kind verb arguments
+
+-- the words are `check` and one word of at least two bytes, whose bytes need memory
+pub record NeedMemory (words : List (List ℕ)) : Type 0 where
+  pub digits : List ℕ
+  pub check : words ≡ codes "check" ∷ digits ∷ []
+  pub several : 2 ≤ length digits
 
 -- the request of a line, or `None` for a bad line: not UTF-8, or not a request of the kind
 unfoldable pub request_of : Kind → List ℕ → Option Request

@@ -12,7 +12,7 @@ ghost use Rattle.rkyv_dict.specs.Run.{AppendsSome};
 ghost use Rattle.rkyv_dict.specs.Script.{build_archive, check_archive};
 ghost use Rattle.rkyv_dict.specs.States.{IsSound, emptied, form_of, start};
 ghost use Rattle.std.specs.Option.{ForSome};
-ghost use Rattle.std.specs.Prelude.{◌≡◌, ◌≤◌, OnOk, string_bytes};
+ghost use Rattle.std.specs.Prelude.{◌≡◌, ◌≤◌, ◌<◌, OnErr, OnOk, length, string_bytes};
 
 use crate::archives::{self, push_line};
 use crate::errors::{cause_text, is_allocation_failure, verify_error_text};
@@ -231,7 +231,7 @@ impl<'a> Dict<'a> {
     ///
     /// # Errors
     ///
-    /// - `AllocError`: an allocation fails; the state is unspecified then.
+    /// - `AllocError`: an allocation fails; the state is unspecified then. The line isn't empty.
     pub fn execute(
         &mut self,
         alloc: Global,
@@ -239,8 +239,9 @@ impl<'a> Dict<'a> {
         out: &mut String,
     ) -> Result<(), AllocError>
         requires { IsSound (state_of self.old) }
-        ensures { OnOk result (AppendsSome (string_bytes out.old) (string_bytes out.new) (λ printed.
-            StepsLine (state_of self.old) line.now printed (state_of self.new))) }
+        ensures step { OnOk result (AppendsSome (string_bytes out.old) (string_bytes out.new)
+            (λ printed. StepsLine (state_of self.old) line.now printed (state_of self.new))) }
+        ensures allocates { OnErr result (0 < length line.now) }
     {
         if line.is_empty() {
             return Ok(());

@@ -2,8 +2,8 @@
 ghost use Rattle.rkyv_dict.specs.{byte_of_digits, bytes_of_digits, hex_of, hex_of_byte};
 ghost use Rattle.std.specs.Char.{digit_value, is_ascii_hexdigit};
 ghost use Rattle.std.specs.Option.{option_map};
-ghost use Rattle.std.specs.Prelude.{◌≡◌, ◌<◌, ◌++◌, IfOk, IfSome, None, OnOk, Some, if◌then◌else◌};
-ghost use Rattle.std.specs.Prelude.{string_bytes};
+ghost use Rattle.std.specs.Prelude.{◌≡◌, ◌<◌, ◌≤◌, ◌++◌, IfOk, IfSome, None, OnErr, OnOk, Some};
+ghost use Rattle.std.specs.Prelude.{if◌then◌else◌, length, string_bytes};
 
 use std::alloc::{AllocError, Global};
 
@@ -57,9 +57,11 @@ fn byte_of(high: u8, low: u8) -> Option<u8>
 ///
 /// # Errors
 ///
-/// - `AllocError`: the vector of the bytes fails to allocate.
+/// - `AllocError`: the vector of the bytes fails to allocate. There are at least two digits then.
 pub fn read_hex(alloc: Global, digits: &[u8]) -> Result<Option<Vec<u8>>, AllocError>
-    ensures { IfOk result (λ bytes. option_map (λ v. v.items) bytes ≡ bytes_of_digits digits.now) }
+    ensures bytes { IfOk result (λ bytes.
+        option_map (λ v. v.items) bytes ≡ bytes_of_digits digits.now) }
+    ensures allocates { OnErr result (2 ≤ length digits.now) }
 {
     let mut bytes = Vec::with_capacity(alloc, digits.len() / 2)?;
     let mut rest = digits;

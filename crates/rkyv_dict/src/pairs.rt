@@ -1,7 +1,7 @@
 //! The list of the pairs that a script puts.
 ghost use Rattle.rkyv_dict.specs.{kind_of_pairs, list_len, no_pairs, pairs_of, take_pairs};
 ghost use Rattle.rkyv_dict.specs.{with_numbers, with_texts};
-ghost use Rattle.std.specs.Prelude.{◌≡◌, ◌≤◌, ℕ, IfErr, OnOk};
+ghost use Rattle.std.specs.Prelude.{◌≡◌, ◌≤◌, ℕ, IfErr, OnErr, OnOk};
 
 use crate::form::{Kind, PairList};
 use std::alloc::{AllocError, Global};
@@ -40,11 +40,12 @@ pub fn count_of(list: &PairList<'_>) -> usize
 ///
 /// # Errors
 ///
-/// - `AllocError`: the list fails to allocate; its pairs are unchanged then.
+/// - `AllocError`: a list of numbers fails to allocate; its pairs are unchanged then.
 pub fn put_numbers(list: &mut PairList<'_>, key: u32, value: u32) -> Result<(), AllocError>
     ensures added { OnOk result
         (pairs_of list.new ≡ with_numbers (pairs_of list.old) key value) }
     ensures unchanged { IfErr result (λ _. pairs_of list.new ≡ pairs_of list.old) }
+    ensures numbers { OnErr result (kind_of_pairs (pairs_of list.old) ≡ Kind.Num) }
     ensures kept { list_len list.old ≤ list_len list.new }
     ensures first { (n : ℕ) → n ≤ list_len list.old
         → take_pairs n (pairs_of list.new) ≡ take_pairs n (pairs_of list.old) }
@@ -62,7 +63,7 @@ pub fn put_numbers(list: &mut PairList<'_>, key: u32, value: u32) -> Result<(), 
 ///
 /// # Errors
 ///
-/// - `AllocError`: the list fails to allocate; its pairs are unchanged then.
+/// - `AllocError`: a list of texts fails to allocate; its pairs are unchanged then.
 pub fn put_texts<'a>(
     list: &mut PairList<'a>,
     key: &'a str,
@@ -71,6 +72,7 @@ pub fn put_texts<'a>(
     ensures added { OnOk result
         (pairs_of list.new ≡ with_texts (pairs_of list.old) key.now value.now) }
     ensures unchanged { IfErr result (λ _. pairs_of list.new ≡ pairs_of list.old) }
+    ensures texts { OnErr result (kind_of_pairs (pairs_of list.old) ≡ Kind.Text) }
     ensures kept { list_len list.old ≤ list_len list.new }
     ensures first { (n : ℕ) → n ≤ list_len list.old
         → take_pairs n (pairs_of list.new) ≡ take_pairs n (pairs_of list.old) }

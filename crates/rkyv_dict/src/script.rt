@@ -1,9 +1,10 @@
 //! The commands of a script, and the parser of a line.
-ghost use Rattle.rkyv_dict.specs.{check_request, command_request, get_request, kind_request};
-ghost use Rattle.rkyv_dict.specs.{load_factor_request, put_request, request_by, request_of};
-ghost use Rattle.rkyv_dict.specs.{width_request, without_arguments, words_left};
+ghost use Rattle.rkyv_dict.specs.{NeedMemory, check_request, command_request, get_request};
+ghost use Rattle.rkyv_dict.specs.{kind_request, load_factor_request, put_request, request_by};
+ghost use Rattle.rkyv_dict.specs.{request_of, width_request, without_arguments, words_left};
+ghost use Rattle.rkyv_dict.specs.{words_of};
 ghost use Rattle.std.specs.Option.{option_map};
-ghost use Rattle.std.specs.Prelude.{◌≡◌, IfOk};
+ghost use Rattle.std.specs.Prelude.{◌≡◌, ◌∷◌, IfOk, OnErr, codes};
 
 use crate::form::{ArchiveWidth, Key, Kind};
 use crate::hex::read_hex;
@@ -105,9 +106,11 @@ fn get(kind: Kind, arguments: Option<&str>) -> Option<Command<'_>>
 }
 
 /// Parses the argument of `check`: pairs of hexadecimal digits.
+#[tactic(auto, using(crate::proofs::Cuts::needs_memory))]
 fn check(alloc: Global, arguments: Option<&str>) -> Result<Option<Command<'_>>, AllocError>
-    ensures { IfOk result (λ command.
+    ensures request { IfOk result (λ command.
         option_map command_request command ≡ check_request (words_left arguments.entry)) }
+    ensures allocates { OnErr result (NeedMemory (codes "check" ∷ words_left arguments.entry)) }
 {
     let Some(word) = one_word(arguments) else {
         return Ok(None);
@@ -122,15 +125,16 @@ fn check(alloc: Global, arguments: Option<&str>) -> Result<Option<Command<'_>>, 
 }
 
 /// Returns the command of the verb and its arguments.
-#[tactic(auto, unfolding(crate::specs::Script::request_by))]
+#[tactic(auto, unfolding(crate::specs::Script::request_by), using(crate::proofs::Cuts::needs_memory_as))]
 fn by_verb<'a>(
     alloc: Global,
     kind: Kind,
     verb: &str,
     arguments: Option<&'a str>,
 ) -> Result<Option<Command<'a>>, AllocError>
-    ensures { IfOk result (λ command. option_map command_request command
+    ensures request { IfOk result (λ command. option_map command_request command
         ≡ request_by kind verb.now (words_left arguments.entry)) }
+    ensures allocates { OnErr result (NeedMemory (verb.now ∷ words_left arguments.entry)) }
 {
     if is_word(verb, "kind") {
         Ok(set_kind(arguments))
@@ -166,15 +170,16 @@ fn by_verb<'a>(
 ///
 /// # Errors
 ///
-/// - `AllocError`: the bytes of `check` fail to allocate.
+/// - `AllocError`: the bytes of `check` fail to allocate. The line is `check` and one word then.
 #[tactic(auto, unfolding(crate::specs::Script::request_of), using(crate::proofs::Texts::utf8_yes, crate::proofs::Texts::utf8_no))]
 pub fn read_command(
     alloc: Global,
     kind: Kind,
     line: &[u8],
 ) -> Result<Option<Command<'_>>, AllocError>
-    ensures { IfOk result (λ command.
+    ensures request { IfOk result (λ command.
         option_map command_request command ≡ request_of kind line.now) }
+    ensures allocates { OnErr result (NeedMemory (words_of line.now)) }
 {
     match str::from_utf8(line) {
         Ok(text) => {

@@ -16,16 +16,16 @@ loop-rest-init g c = record {
 pub loop-rest-preserved : goal.loop-rest-preserved
 loop-rest-preserved g c =
     let cut = ap (λ r. parts_after 10 (option_copied r)) c.in-Some.is ∙ c.cut.ensures.parts in
-    let line = progress_line _ _ _ _ _ _ _ _ (state_of c.loop-rest.dict) (state_of c.execute.new.self) c.loop-rest.invariant.progress cut c.in_ok-execute.ensures in
+    let line = progress_line _ _ _ _ _ _ _ _ (state_of c.loop-rest.dict) (state_of c.execute.new.self) c.loop-rest.invariant.progress cut c.in_ok-execute.ensures.step in
     record {
       progress = progress_moved _ _ _ _ _ _ _ _ line c.in_ok-write_much.ensures.ok;
-      sound = line_sound _ _ _ _ c.loop-rest.invariant.sound c.in_ok-execute.ensures.accepted;
+      sound = line_sound _ _ _ _ c.loop-rest.invariant.sound c.in_ok-execute.ensures.step.accepted;
     }
 
 pub returns-in_err-write_much-clause-front : goal.returns-in_err-write_much-clause-front
 returns-in_err-write_much-clause-front g c =
     let cut = ap (λ r. parts_after 10 (option_copied r)) c.in-Some.is ∙ c.cut.ensures.parts in
-    let line = progress_line _ _ _ _ _ _ _ _ (state_of c.loop-rest.dict) (state_of c.execute.new.self) c.loop-rest.invariant.progress cut c.in_ok-execute.ensures in
+    let line = progress_line _ _ _ _ _ _ _ _ (state_of c.loop-rest.dict) (state_of c.execute.new.self) c.loop-rest.invariant.progress cut c.in_ok-execute.ensures.step in
     on_err _ _ (progress_front _ _ _ _ _ _ _ line c.in_err-write_much.ensures.front)
 
 pub returns-clause-front : goal.returns-clause-front
