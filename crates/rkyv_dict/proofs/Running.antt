@@ -2,7 +2,7 @@
 use Rattle.std.proofs.Common.{◌≡◌, ℕ, List, [], ◌∷◌, ◌++◌, Option, refl, sym, ap, ◌∙◌, subst, append_assoc}
 use Rattle.std.proofs.KnownBytes.{Appends-nil, Appends-trans}
 use Rattle.std.proofs.lemmas.List.{append-nil}
-use Rattle.rkyv_dict.specs.{AppendsBeginning, AppendsFront, AppendsSome, MovesFront, Progress, RunsTo, State, StepsLine, lines_of, start}
+use Rattle.rkyv_dict.specs.{AppendsBeginning, AppendsFront, AppendsProperBeginning, AppendsProperFront, AppendsSome, MovesFront, Progress, RunsTo, State, StepsLine, lines_of, start}
 
 pub runs_none : (s : State) → RunsTo s [] [] s
 unfolding RunsTo
@@ -75,15 +75,26 @@ pub progress_stopped : (old now : Option (List ℕ)) (script buffered : List ℕ
 progress_stopped old now script buffered rest s p =
     progress_ends old now now script buffered rest s p (record { front = p.moved.moved; rest = buffered; parts = sym p.moved.parts; appended = p.moved.appended })
 
--- a prefix of the buffered output is written, and the run fails
-pub progress_front : (old now next : Option (List ℕ)) (script buffered : List ℕ) (rest : List (List ℕ)) (s : State)
-    → Progress old now script buffered rest s → AppendsFront now next buffered → AppendsBeginning old next script
-progress_front old now next script buffered rest s p f = progress_ends old now next script buffered rest s p (record {
-  front = p.moved.moved ++ f.front;
-  rest = f.rest;
-  parts = append_assoc p.moved.moved f.front f.rest ∙ ap (λ l. p.moved.moved ++ l) f.parts ∙ sym p.moved.parts;
-  appended = Appends-trans old now next p.moved.moved f.front p.moved.appended f.appended;
-})
+-- a proper prefix of the buffered output is written, and the run fails
+pub progress_proper : (old now next : Option (List ℕ)) (script buffered : List ℕ) (rest : List (List ℕ)) (s : State)
+    → Progress old now script buffered rest s → AppendsProperFront now next buffered → AppendsProperBeginning old next script
+progress_proper old now next script buffered rest s p f = record {
+  beginning = record {
+    done = p.done;
+    rest = rest;
+    lines = p.lines;
+    output = p.output;
+    last = s;
+    runs = p.runs;
+    front = record {
+      front = p.moved.moved ++ f.part.front;
+      rest = f.part.rest;
+      parts = append_assoc p.moved.moved f.part.front f.part.rest ∙ ap (λ l. p.moved.moved ++ l) f.part.parts ∙ sym p.moved.parts;
+      appended = Appends-trans old now next p.moved.moved f.part.front p.moved.appended f.part.appended;
+    };
+  };
+  unwritten = f.unwritten;
+}
 
 -- no byte is written
 pub nothing_written : (now : Option (List ℕ)) (script : List ℕ) → AppendsBeginning now now script

@@ -53,8 +53,8 @@ pub use Steps.{StepBuildFails, StepBuilds, StepCheckFails, StepChecks}
 unfoldable pub use Commands.{command_request}
 unfoldable pub use Counts.{list_len, take_pairs}
 unfoldable pub use Dicts.{archived_of, state_of}
-pub use Run.{AppendsBeginning, AppendsFront, AppendsOutput, AppendsSome, Gathers, MovesFront}
-pub use Run.{Progress}
+pub use Run.{AppendsBeginning, AppendsFront, AppendsOutput, AppendsProperBeginning}
+pub use Run.{AppendsProperFront, AppendsSome, Gathers, MovesFront, Progress}
 unfoldable pub use Once.{BuildsAreOne, ChecksAreOne, ScriptsAreOne}
 pub use Once.{BuildErrorsAreOne}
 unfoldable pub use Existence.{AreNative, BuildsHaveResult, ChecksHaveResult}

@@ -3,8 +3,8 @@
 //! 1. The script is read to the end, in pieces.
 //! 2. Each line is executed by `dict`.
 //! 3. The buffered output is written when it has at least one piece, and at the end.
-ghost use Rattle.rkyv_dict.specs.{AppendsBeginning, AppendsFront, AppendsOutput, Gathers};
-ghost use Rattle.rkyv_dict.specs.{MovesFront, message_of};
+ghost use Rattle.rkyv_dict.specs.{AppendsBeginning, AppendsOutput, AppendsProperBeginning};
+ghost use Rattle.rkyv_dict.specs.{AppendsProperFront, Gathers, MovesFront, message_of};
 ghost use Rattle.rkyv_dict.specs.declared.run.RunError.TheVariants.{Memory};
 ghost use Rattle.std.specs.Io.KnownBytes.{Appends, IsAtEnd};
 ghost use Rattle.std.specs.Prelude.{◌≡◌, ◌≢◌, ◌<◌, IfErr, IfOk, IfSome, IsErrOf, IsTrue, OnErr};
@@ -124,7 +124,7 @@ fn read_input<R: Read>(alloc: Global, reader: &mut R) -> Result<Vec<u8>, RunErro
 fn write_piece<W: Write>(writer: &mut W, piece: &[u8]) -> Result<(), RunError>
     ensures ok { OnOk result (Appends (W.contents writer.old) (W.contents writer.new) piece.now) }
     ensures front { OnErr result
-        (AppendsFront (W.contents writer.old) (W.contents writer.new) piece.now) }
+        (AppendsProperFront (W.contents writer.old) (W.contents writer.new) piece.now) }
     ensures cause { IfErr result (λ e. e ≡ RunError.Write) }
 {
     let mut rest = piece;
@@ -142,8 +142,8 @@ fn write_piece<W: Write>(writer: &mut W, piece: &[u8]) -> Result<(), RunError>
 fn write_much<W: Write>(writer: &mut W, buffered: &mut String) -> Result<(), RunError>
     ensures ok { OnOk result (MovesFront (W.contents writer.old) (W.contents writer.new)
         (string_bytes buffered.old) (string_bytes buffered.new)) }
-    ensures front { OnErr result
-        (AppendsFront (W.contents writer.old) (W.contents writer.new) (string_bytes buffered.old)) }
+    ensures front { OnErr result (AppendsProperFront (W.contents writer.old)
+        (W.contents writer.new) (string_bytes buffered.old)) }
     ensures cause { IfErr result (λ e. e ≡ RunError.Write) }
 {
     if buffered.len() >= PIECE {
@@ -159,6 +159,8 @@ fn write_output<W: Write>(alloc: Global, script: &[u8], writer: &mut W) -> Resul
         (AppendsOutput (W.contents writer.old) (W.contents writer.new) script.now) }
     ensures front { OnErr result
         (AppendsBeginning (W.contents writer.old) (W.contents writer.new) script.now) }
+    ensures write { IsErrOf result RunError.Write
+        → AppendsProperBeginning (W.contents writer.old) (W.contents writer.new) script.now }
     ensures causes { IfErr result (λ e. e ≢ RunError.Read) }
 {
     let mut dict = Dict::new(alloc);
@@ -183,7 +185,8 @@ fn write_output<W: Write>(alloc: Global, script: &[u8], writer: &mut W) -> Resul
 /// - `Memory`: an allocation fails.
 /// - `Write`: a write fails or writes no byte.
 ///
-/// After `Memory` and `Write`, a prefix of the output of the first lines is written.
+/// After `Memory` and `Write`, a prefix of the output of the first lines is written. After `Write`,
+/// at least one byte of that output isn't written.
 pub fn run<R: Read, W: Write>(alloc: Global, reader: &mut R, writer: &mut W) -> Result<(), RunError>
     // On success the bytes written are the output of the whole input, which is read to its end.
     ensures ok { OnOk result (IfSome (R.remaining reader.old) (λ script.
@@ -194,6 +197,10 @@ pub fn run<R: Read, W: Write>(alloc: Global, reader: &mut R, writer: &mut W) -> 
     // After an error, a prefix of the output of the first lines is written.
     ensures front { OnErr result (IfSome (R.remaining reader.old) (λ script.
         AppendsBeginning (W.contents writer.old) (W.contents writer.new) script)) }
+    // After `Write`, it is a proper prefix, and the input is read to its end.
+    ensures write { IsErrOf result RunError.Write → IfSome (R.remaining reader.old) (λ script.
+        AppendsProperBeginning (W.contents writer.old) (W.contents writer.new) script) }
+    ensures write_end { IsErrOf result RunError.Write → IsAtEnd (R.remaining reader.new) }
 {
     let script = read_input(alloc, reader)?;
     write_output(alloc, script.as_slice(), writer)
