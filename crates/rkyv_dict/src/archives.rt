@@ -198,7 +198,7 @@ pub fn check(form: Form, bytes: &[u8]) -> Result<usize, VerifyError>
 ///
 /// # Errors
 ///
-/// - `AllocError`: `out` fails to allocate.
+/// - `AllocError`: `out` fails to allocate. Its bytes are unspecified then.
 pub fn push_value(
     form: Form,
     bytes: &[u8],
@@ -235,7 +235,7 @@ pub fn push_value(
 ///
 /// # Errors
 ///
-/// - `AllocError`: `out` fails to allocate.
+/// - `AllocError`: `out` fails to allocate. Its bytes are unspecified then.
 pub fn push_pairs(form: Form, bytes: &[u8], out: &mut String) -> Result<(), AllocError>
     requires { IsArchive form bytes.now }
     ensures { AppendsText result out.old out.new (listing form bytes.now) }

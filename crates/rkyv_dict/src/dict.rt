@@ -231,7 +231,8 @@ impl<'a> Dict<'a> {
     ///
     /// # Errors
     ///
-    /// - `AllocError`: an allocation fails; the state is unspecified then. The line isn't empty.
+    /// - `AllocError`: an allocation fails, and the line isn't empty. The state and the bytes of
+    ///   `out` are unspecified then.
     pub fn execute(
         &mut self,
         alloc: Global,

@@ -19,7 +19,7 @@ fn push_byte(text: &mut String, byte: u8) -> Result<(), AllocError>
 ///
 /// # Errors
 ///
-/// - `AllocError`: `text` fails to allocate.
+/// - `AllocError`: `text` fails to allocate. Its bytes are unspecified then.
 pub fn push_hex(text: &mut String, bytes: &[u8]) -> Result<(), AllocError>
     ensures { OnOk result (string_bytes text.new ≡ string_bytes text.old ++ hex_of bytes.now) }
 {

@@ -24,7 +24,7 @@ pub trait Printable: KeyElement {
     ///
     /// # Errors
     ///
-    /// - `AllocError`: `out` fails to allocate.
+    /// - `AllocError`: `out` fails to allocate. Its bytes are unspecified then.
     fn push(view: View<'_, Self>, out: &mut String) -> Result<(), AllocError>
         requires { IsValidView Self.spec view }
         ensures { AppendsText result out.old out.new (at_view text view.entry) };
