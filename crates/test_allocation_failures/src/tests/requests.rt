@@ -118,6 +118,45 @@ fn index_set(alloc: Global) -> (Outcome, bool) {
     (outcome, fits_index(outcome, requests.get()))
 }
 
+// Writes an index map of two pairs under the claimed length 3.
+// Returns the outcome, and the number of calls of the iterator.
+fn index_map_too_short(alloc: Global) -> (Outcome, usize) {
+    let requests = Cell::new(0usize);
+    let mut writer = VecWriter::new(alloc);
+    let outcome = OrderedNumbers::serialize_from_iter::<VecWriter, i8, i8, i8, i8, _>(
+        alloc,
+        iter::from_fn(|| yields_next(&requests, 2).then_some((1i8, 2i8))),
+        3,
+        (7, 8),
+        &mut writer,
+    );
+    (outcome_of(outcome, &writer), requests.get())
+}
+
+// Does the same with an index set of two keys.
+fn index_set_too_short(alloc: Global) -> (Outcome, usize) {
+    let requests = Cell::new(0usize);
+    let mut writer = VecWriter::new(alloc);
+    let outcome = OrderedKeys::serialize_from_iter::<VecWriter, i8, i8, _>(
+        alloc,
+        iter::from_fn(|| yields_next(&requests, 2).then_some(1i8)),
+        3,
+        (7, 8),
+        &mut writer,
+    );
+    (outcome_of(outcome, &writer), requests.get())
+}
+
+// Returns whether the outcome and the number of calls are those of two items under the claimed
+// length 3. Memory for the items is allocated before the calls, and none after them.
+fn fits_too_short(outcome: Outcome, requests: usize) -> bool {
+    match outcome {
+        Outcome::Memory => requests == 0,
+        Outcome::Mismatch(3, 2) => requests == 3,
+        _ => false,
+    }
+}
+
 #[test]
 fn table_allocates_before_reading_items(rt: HostRuntime) {
     let (_, right) = table(rt.alloc());
@@ -182,4 +221,32 @@ fn an_index_set_without_memory_has_taken_no_key_or_all(rt: HostRuntime) {
 #[test]
 fn an_index_set_succeeds(rt: HostRuntime) {
     assert_eq!(rt; index_set(rt.alloc()), (Outcome::Written, true));
+}
+
+#[test]
+fn an_index_map_counts_its_pairs_before_it_allocates_its_table(rt: HostRuntime) {
+    let (outcome, requests) = index_map_too_short(rt.alloc());
+    assert!(rt; fits_too_short(outcome, requests));
+}
+
+#[test]
+fn the_count_of_an_index_map_succeeds(rt: HostRuntime) {
+    assert_eq!(rt;
+        index_map_too_short(rt.alloc()),
+        (Outcome::Mismatch(3, 2), 3)
+    );
+}
+
+#[test]
+fn an_index_set_counts_its_keys_before_it_allocates_its_table(rt: HostRuntime) {
+    let (outcome, requests) = index_set_too_short(rt.alloc());
+    assert!(rt; fits_too_short(outcome, requests));
+}
+
+#[test]
+fn the_count_of_an_index_set_succeeds(rt: HostRuntime) {
+    assert_eq!(rt;
+        index_set_too_short(rt.alloc()),
+        (Outcome::Mismatch(3, 2), 3)
+    );
 }
