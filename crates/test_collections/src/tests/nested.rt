@@ -3,11 +3,13 @@
 use crate::tests::archives::is_map_archive;
 use rkyv_base::access::access;
 use rkyv_base::entry::Entry;
-use rkyv_base::errors::VerifyError;
+use rkyv_base::errors::{VerifyError, WriteError};
+use rkyv_base::root::write_root;
+use rkyv_base::writer::VecWriter;
 use rkyv_collections::MapPairs;
 use rkyv_collections::map::{ArchivedHashMap, HashMapOf};
 use std::alloc::Global;
-use test_support::archives::two_maps;
+use test_support::archives::{one_pair, two_maps};
 
 type Inner = HashMapOf<u16, u16>;
 
@@ -41,6 +43,33 @@ fn reads(bytes: &[u8]) -> Result<(usize, [bool; 3]), VerifyError> {
 #[test]
 fn two_maps_are_written(rt: HostRuntime) {
     assert!(rt; two_maps_are(rt.alloc(), &two_maps()));
+}
+
+// Writes the map of 1 and 3 to maps of 1 to 2. The load factor of the second inner map is invalid.
+// Returns the load factor of the error, and whether the written bytes are those of the first inner
+// map.
+fn second_fails(alloc: Global) -> (Option<(usize, usize)>, bool) {
+    let pairs = [(1i8, 2i8)];
+    let first: MapPairs<'_, i8, i8> = MapPairs::new(&pairs);
+    let second: MapPairs<'_, i8, i8> = MapPairs::with_load_factor(&pairs, (8, 7));
+    let values = [(1i8, first), (3, second)];
+    let outer: MapPairs<'_, i8, MapPairs<'_, i8, i8>> = MapPairs::new(&values);
+    let mut writer = VecWriter::new(alloc);
+    let load_factor = match write_root(alloc, &outer, &mut writer) {
+        Err(
+            WriteError::InvalidLoadFactor {
+                numerator,
+                denominator,
+            },
+        ) => Some((numerator, denominator)),
+        _ => None,
+    };
+    (load_factor, one_pair().get(..35) == Some(writer.bytes()))
+}
+
+#[test]
+fn a_value_that_fails_ends_the_write(rt: HostRuntime) {
+    expect_eq!(rt; second_fails(rt.alloc()), (Some((8, 7)), true));
 }
 
 #[test]

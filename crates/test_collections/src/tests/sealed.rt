@@ -174,9 +174,9 @@ fn unsuccessful_lookup_returns_no_seal(rt: HostRuntime) {
     let replaced = replace(&mut bytes, 2, 7).ok();
     let beside_key = replace_beside_key(&mut bytes, 2, 7).ok();
     let by_comparison = replace_by(&mut bytes, 1, 7, false).ok();
-    let key_by_comparison = key_by(&mut bytes, 2, true).ok();
+    let pair_by_comparison = replace_beside_key_by(&mut bytes, 2, 7, true).ok();
     expect_eq!(rt;
-        (replaced, beside_key, by_comparison, key_by_comparison),
+        (replaced, beside_key, by_comparison, pair_by_comparison),
         (Some(None), Some(None), Some(None), Some(None))
     );
     expect_eq!(rt; bytes, one_number());
@@ -208,25 +208,37 @@ fn replace_by(
     }
 }
 
-// Returns the key that is found by such a comparison.
-fn key_by(bytes: &mut [u8], key: u32, accepts: bool) -> Result<Option<u32>, VerifyError> {
+// Does the same by `get_key_value_seal_with`. Returns the key, and the value before the write.
+fn replace_beside_key_by(
+    bytes: &mut [u8],
+    key: u32,
+    value: u32,
+    accepts: bool,
+) -> Result<Option<(u32, u32)>, VerifyError> {
     let whole = number_seal(bytes)?;
     match ArchivedHashMap::get_key_value_seal_with(
         whole,
         &key,
         |_: &u32, _: View<'_, u32>| accepts,
     ) {
-        Some((found, _)) => Ok(Some(found.to_native())),
+        Some((found, mut seal)) => {
+            let before = (found.to_native(), seal.to_native());
+            seal.set(value);
+            Ok(Some(before))
+        }
         None => Ok(None),
     }
 }
 
 #[test]
 fn sealed_lookup_takes_a_comparison(rt: HostRuntime) {
-    let mut bytes = one_number();
-    let key = key_by(&mut bytes, 1, true).ok();
+    let (mut bytes, mut pair_bytes) = (one_number(), one_number());
     let before = replace_by(&mut bytes, 1, 7, true).ok();
-    expect_eq!(rt; (key, before, bytes[4]), (Some(Some(1)), Some(Some(2)), 7));
+    let pair_before = replace_beside_key_by(&mut pair_bytes, 1, 7, true).ok();
+    let mut expected = one_number();
+    expected[4] = 7;
+    expect_eq!(rt; (before, pair_before), (Some(Some(2)), Some(Some((1, 2)))));
+    expect_eq!(rt; [bytes, pair_bytes], [expected; 2]);
 }
 
 // Writes these numbers over the values that a cursor reaches, one after the other.

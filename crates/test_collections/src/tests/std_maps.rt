@@ -285,6 +285,38 @@ fn maps_of_unequal_maps_are_unequal(rt: HostRuntime) {
     expect_eq!(rt; equal, [Some([true; 2]), Some([false; 2])]);
 }
 
+// Returns the value of the key 1 in the map of the key 1.
+fn value_in_a_map(map: &HashMap<i8, HashMap<i8, i8>>) -> Option<i8> {
+    match map.get(&1) {
+        Some(inner) => inner.get(&1).copied(),
+        None => None,
+    }
+}
+
+// Reads an archive back into maps of std without `Hashed`. Returns the length, the inner value, and
+// whether the archived map equals the result.
+fn read_plain_maps(
+    alloc: Global,
+    bytes: &[u8],
+) -> Result<Option<(usize, Option<i8>, bool)>, VerifyError> {
+    let root = ArchivedHashMap::of(access::<ArchivedNested>(bytes)?);
+    let map: HashMap<i8, HashMap<i8, i8>> = match root.deserialize_std(
+        alloc,
+        BuildHasherDefault::new(),
+    ) {
+        Ok(map) => map,
+        Err(_) => return Ok(None),
+    };
+    let equal = root.eq_std::<i8, HashMap<i8, i8>, _>(&map);
+    Ok(Some((map.len(), value_in_a_map(&map), equal)))
+}
+
+#[test]
+fn a_plain_map_in_a_map_is_read(rt: HostRuntime) {
+    let back = read_plain_maps(rt.alloc(), &nested()).ok();
+    expect_eq!(rt; back, Some(Some((1, Some(2), true))));
+}
+
 // Returns whether the maps of 1 to each of these values are equal once they are wrapped.
 fn wrapped_are_equal(alloc: Global, first: i8, second: i8) -> Option<bool> {
     let one: Hashed<HashMap<i8, i8>> = Hashed::new(one_of(alloc, 1, first).ok()?);
@@ -645,6 +677,44 @@ fn maps_of_unequal_sets_are_unequal(rt: HostRuntime) {
         equals_inner_set(rt.alloc(), 3),
     ];
     expect_eq!(rt; equal, [Some([true; 2]), Some([false; 2])]);
+}
+
+// Returns the length of the set of the key 1, and whether it has the key 2.
+fn keys_in_a_map(map: &HashMap<i8, HashSet<i8>>) -> Option<(usize, bool)> {
+    match map.get(&1) {
+        Some(inner) => Some((inner.len(), inner.contains(&2))),
+        None => None,
+    }
+}
+
+// Reads an archive back into a map and sets of std without `Hashed`. Returns the length, the result
+// of `keys_in_a_map`, and whether the archived map equals the result.
+fn read_plain_sets(
+    alloc: Global,
+    bytes: &[u8],
+) -> Result<Option<(usize, Option<(usize, bool)>, bool)>, VerifyError> {
+    let root = ArchivedHashMap::of(access::<ArchivedSets>(bytes)?);
+    let map: HashMap<i8, HashSet<i8>> = match root.deserialize_std(
+        alloc,
+        BuildHasherDefault::new(),
+    ) {
+        Ok(map) => map,
+        Err(_) => return Ok(None),
+    };
+    let equal = root.eq_std::<i8, HashSet<i8>, _>(&map);
+    Ok(Some((map.len(), keys_in_a_map(&map), equal)))
+}
+
+// Does the same with the archived map of 1 to the set of 2.
+fn plain_sets_of_two(alloc: Global) -> Option<Option<(usize, Option<(usize, bool)>, bool)>> {
+    let archive = archived(alloc, &set_in_a_map(alloc, 2).ok()?)?;
+    read_plain_sets(alloc, archive.as_slice()).ok()
+}
+
+#[test]
+fn a_plain_set_in_a_map_is_read(rt: HostRuntime) {
+    let back = plain_sets_of_two(rt.alloc());
+    expect_eq!(rt; back, Some(Some((1, Some((1, true)), true))));
 }
 
 // Returns whether an archived map equals `map`, and is read back as `map` with this hash state.

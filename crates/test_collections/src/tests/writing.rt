@@ -146,6 +146,48 @@ fn the_header_of_a_set(rt: HostRuntime) {
     expect_eq!(rt; set_header(rt.alloc()).ok(), Some((header, true)));
 }
 
+// Returns the header of the map of 1 to 2 at a position, and whether its distance fits.
+// The header is written over sevens.
+fn map_header(alloc: Global, pos: u32) -> Result<([u8; 12], bool), WriteError<NoMemory>> {
+    let mut writer = VecWriter::new(alloc);
+    let resolver = Numbers::serialize_from_iter::<VecWriter, i8, i8, i8, i8, _>(
+        alloc,
+        [(1i8, 2i8)].into_iter(),
+        1,
+        (7, 8),
+        &mut writer,
+    )?;
+    let (len, load_factor) = (resolver.len(), resolver.load_factor());
+    let mut header = [7u8; 12];
+    let fits = Numbers::resolve_from_len(
+        len,
+        load_factor,
+        resolver,
+        u64::from(pos),
+        &mut header,
+    ).is_ok();
+    Ok((header, fits))
+}
+
+#[test]
+fn the_header_of_a_map(rt: HostRuntime) {
+    let headers = [
+        map_header(rt.alloc(), 36).ok(),
+        map_header(rt.alloc(), 2_147_483_652).ok(),
+        map_header(rt.alloc(), 2_147_483_656).ok(),
+    ];
+    let near = [0xe0, 0xff, 0xff, 0xff, 1, 0, 0, 0, 2, 0, 0, 0];
+    let farthest = [0, 0, 0, 0x80, 1, 0, 0, 0, 2, 0, 0, 0];
+    expect_eq!(rt;
+        headers,
+        [
+            Some((near, true)),
+            Some((farthest, true)),
+            Some(([7; 12], false))
+        ]
+    );
+}
+
 #[test]
 fn the_empty_map(rt: HostRuntime) {
     let same = is_map_archive::<i8, i8>(rt.alloc(), &[], &no_items());
