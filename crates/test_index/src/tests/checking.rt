@@ -72,6 +72,31 @@ fn empty_maps_are_accepted(rt: HostRuntime) -> Result<(), Fail> {
     Ok(())
 }
 
+// Returns the position and the size in the error of the empty map, with `byte` as the first byte of
+// the distance to the entries.
+fn range_error(byte: u8) -> Option<(i128, u128)> {
+    let mut bytes = no_pairs();
+    bytes[12] = byte;
+    match access::<Small>(&bytes) {
+        Err(VerifyError::OutOfRange { pos, size }) => Some((pos, size)),
+        _ => None,
+    }
+}
+
+#[test]
+fn the_row_of_no_entries_is_validated(rt: HostRuntime) {
+    expect_eq!(rt; [range_error(0xf3), range_error(0xf5)], [Some((-1, 0)), Some((1, 0))]);
+    let mut bytes = [0; 20];
+    bytes[4] = 1;
+    bytes[16..].copy_from_slice(&[0xf1, 0xff, 0xff, 0xff]);
+    assert!(rt;
+        matches!(
+            access::<IndexMapOf<u32, u32>>(&bytes),
+            Err(VerifyError::Unaligned { pos: 1, align: 4 })
+        )
+    );
+}
+
 #[test]
 fn a_wide_map_is_accepted(rt: HostRuntime) -> Result<(), Fail> {
     let bytes = wide_pair();

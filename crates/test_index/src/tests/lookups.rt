@@ -1,17 +1,20 @@
 //! Tests of lookups, walks, equality and printing of index maps.
 
-use crate::tests::archives::{no_pairs, one_key_twice, one_pair};
+use crate::tests::archives::{map_in_a_map, no_pairs, one_key_twice, one_pair};
 use crate::tests::writing::narrow;
 use rkyv_base::access::access;
 use rkyv_base::element::Element;
 use rkyv_base::errors::VerifyError;
+use rkyv_base::root::to_bytes;
 use rkyv_base::view::View;
 use rkyv_base::width::Narrow;
 use rkyv_index::map::laws::{
     clones_are_the_same, index_maps_are_laid_out, items_are_yielded, pairs_at_are_listed,
     walks_by_for_are_iterations, walks_visit_in_order,
 };
-use rkyv_index::{ArchivedIndexMap, IndexMapOf, Iter, Keys, Values};
+use rkyv_index::{
+    ArchivedIndexMap, IndexMapOf, IndexSetOf, Iter, Keys, OrderedItems, OrderedPairs, Values,
+};
 use rkyv_scan::hash::FxHasher64;
 use rkyv_table::Strides;
 use std::alloc::Global;
@@ -361,6 +364,45 @@ fn maps_are_printed(rt: HostRuntime) {
         prints(rt.alloc(), &no_pairs(), "{}"),
     ];
     expect_eq!(rt; printed, [true; 2]);
+}
+
+type Nested = IndexMapOf<i8, Small>;
+
+type Sets = IndexMapOf<i8, IndexSetOf<i8>>;
+
+// Returns whether the map of maps in an archive prints as `text`, and whether it equals itself.
+fn nested_prints(alloc: Global, bytes: &[u8], text: &str) -> Result<(bool, bool), VerifyError> {
+    let map = ArchivedIndexMap::of(access::<Nested>(bytes)?);
+    let printed = matches!(format!(in alloc; "{map:?}"), Ok(shown) if shown.as_str() == text);
+    Ok((printed, map == map))
+}
+
+// Does the same with a map of sets.
+fn sets_print(alloc: Global, bytes: &[u8], text: &str) -> Result<(bool, bool), VerifyError> {
+    let map = ArchivedIndexMap::of(access::<Sets>(bytes)?);
+    let printed = matches!(format!(in alloc; "{map:?}"), Ok(shown) if shown.as_str() == text);
+    Ok((printed, map == map))
+}
+
+#[test]
+fn an_index_map_in_an_index_map(rt: HostRuntime) {
+    let found = nested_prints(rt.alloc(), &map_in_a_map(), "{1: {1: 2}}").ok();
+    expect_eq!(rt; found, Some((true, true)));
+}
+
+// Returns the archive of the index map of 1 to the index set of 4, 1 and 3.
+fn set_in_a_map(alloc: Global) -> Result<Vec<u8>, Fail> {
+    let items = OrderedItems(vec![in alloc; 4i8, 1, 3]?);
+    let outer = OrderedPairs(vec![in alloc; (1i8, items)]?);
+    Ok(to_bytes(alloc, &outer)?)
+}
+
+#[test]
+fn an_index_set_in_an_index_map(rt: HostRuntime) -> Result<(), Fail> {
+    let bytes = set_in_a_map(rt.alloc())?;
+    let found = sets_print(rt.alloc(), bytes.as_slice(), "{1: {4, 1, 3}}").ok();
+    expect_eq!(rt; found, Some((true, true)));
+    Ok(())
 }
 
 // Returns the length of a copy of a map.

@@ -83,15 +83,24 @@ fn replace_beside_key(
     }
 }
 
-// Returns the key that is found by a comparison that always returns `accepts`.
-fn key_by(bytes: &mut [u8], key: i8, accepts: bool) -> Result<Option<i8>, VerifyError> {
+// Does the same by a comparison that always returns `accepts`.
+fn replace_beside_key_by(
+    bytes: &mut [u8],
+    key: i8,
+    value: i8,
+    accepts: bool,
+) -> Result<Option<(i8, i8)>, VerifyError> {
     let whole = access_mut::<Small>(bytes)?;
     match ArchivedIndexMap::get_key_value_seal_with(
         whole,
         &key,
         |_: &i8, _: View<'_, i8>| accepts,
     ) {
-        Some((stored, _)) => Ok(Some(stored.to_native())),
+        Some((stored, mut seal)) => {
+            let before = (stored.to_native(), seal.to_native());
+            seal.set(value);
+            Ok(Some(before))
+        }
         None => Ok(None),
     }
 }
@@ -109,11 +118,20 @@ fn replace_value(bytes: &mut [u8], key: i8, value: i8) -> Result<Option<(i8, i8)
     }
 }
 
-// Returns the value that is found by a comparison that always returns `accepts`.
-fn value_by(bytes: &mut [u8], key: i8, accepts: bool) -> Result<Option<i8>, VerifyError> {
+// Does the same by a comparison that always returns `accepts`. Returns the value before the write.
+fn replace_value_by(
+    bytes: &mut [u8],
+    key: i8,
+    value: i8,
+    accepts: bool,
+) -> Result<Option<i8>, VerifyError> {
     let whole = access_mut::<Small>(bytes)?;
     match ArchivedIndexMap::get_seal_with(whole, &key, |_: &i8, _: View<'_, i8>| accepts) {
-        Some(seal) => Ok(Some(seal.to_native())),
+        Some(mut seal) => {
+            let before = seal.to_native();
+            seal.set(value);
+            Ok(Some(before))
+        }
         None => Ok(None),
     }
 }
@@ -143,22 +161,28 @@ fn every_form_writes_the_same(rt: HostRuntime) {
     ];
     let beside_key = replace_beside_key(&mut bytes, 5, 60).ok();
     let value = replace_value(&mut bytes, 1, 20).ok();
-    let by_comparison = (
-        key_by(&mut bytes, 5, true).ok(),
-        value_by(&mut bytes, 5, true).ok(),
-    );
     let mut expected = four_entries();
     expected[51..59].copy_from_slice(&[1, 20, 3, 40, 5, 60, 7, 80]);
     expect_eq!(rt;
-        (replaced, beside_key, value, by_comparison, bytes == expected),
+        (replaced, beside_key, value, bytes == expected),
         (
             [Some(Some((3, 7, 8))), Some(Some((1, 3, 4)))],
             Some(Some((5, 6))),
             Some(Some((2, 20))),
-            (Some(Some(5)), Some(Some(60))),
             true,
         )
     );
+}
+
+#[test]
+fn a_value_is_written_by_a_comparison(rt: HostRuntime) {
+    let (mut pair_bytes, mut value_bytes) = (four_entries(), four_entries());
+    let pair = replace_beside_key_by(&mut pair_bytes, 5, 60, true).ok();
+    let value = replace_value_by(&mut value_bytes, 5, 60, true).ok();
+    let mut expected = four_entries();
+    expected[56] = 60;
+    let same = [pair_bytes == expected, value_bytes == expected];
+    expect_eq!(rt; (pair, value, same), (Some(Some((5, 6))), Some(Some(6)), [true; 2]));
 }
 
 #[test]
@@ -171,8 +195,8 @@ fn unsuccessful_lookup_returns_no_seal(rt: HostRuntime) {
     let beside_key = replace_beside_key(&mut bytes, 2, 60).ok();
     let value = replace_value(&mut bytes, 2, 20).ok();
     let by_comparison = (
-        key_by(&mut bytes, 5, false).ok(),
-        value_by(&mut bytes, 5, false).ok(),
+        replace_beside_key_by(&mut bytes, 5, 60, false).ok(),
+        replace_value_by(&mut bytes, 5, 60, false).ok(),
     );
     expect_eq!(rt;
         (

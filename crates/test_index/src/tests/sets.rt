@@ -117,6 +117,25 @@ fn keys_are_found(rt: HostRuntime) -> Result<(), Fail> {
     Ok(())
 }
 
+// Returns the number of misplaced keys of a set, and whether it has the key 5.
+fn misplaced_and_five(bytes: &[u8]) -> Result<(usize, bool), VerifyError> {
+    let set = ArchivedIndexSet::of(access::<Keys>(bytes)?);
+    Ok((set.misplaced(), set.contains(&5)))
+}
+
+#[test]
+fn misplaced_keys_are_counted(rt: HostRuntime) -> Result<(), Fail> {
+    let twice = set_archive(rt.alloc(), &[4, 1, 4])?;
+    let mut changed = one_index_key();
+    changed[39] = 5;
+    let found = [
+        misplaced_and_five(twice.as_slice()).ok(),
+        misplaced_and_five(&changed).ok(),
+    ];
+    expect_eq!(rt; found, [Some((1, false)); 2]);
+    Ok(())
+}
+
 // Walks over a set. Returns the results of the first five steps. Then come `len` and `size_hint`
 // before the steps, after one of them and after all.
 fn keys_of(bytes: &[u8]) -> Result<([Option<i8>; 5], Lengths), VerifyError> {
