@@ -6,19 +6,20 @@ use std::alloc::{AllocError, Global};
 use std::io;
 use std::io::{Read, Write};
 
-/// A reader of at most `most` bytes at a time, which fails once with `fails_at` bytes left.
+/// A reader of at most `most` bytes at a time. It fails once with `kind`, at `fails_at` bytes left.
 #[derive(Drop)]
 struct Slow<'a> {
     rest: &'a [u8],
     most: usize,
     fails_at: Option<usize>,
+    kind: io::ErrorKind,
 }
 
 impl Read for Slow<'_> {
     fn read(&mut self, buf: &mut [u8]) -> io::Result<usize> {
         if self.fails_at == Some(self.rest.len()) {
             self.fails_at = None;
-            return Err(io::Error::from(io::ErrorKind::Other));
+            return Err(io::Error::from(self.kind));
         }
         let n = buf.len().min(self.most).min(self.rest.len());
         let (front, rest) = self.rest.split_at(n);
@@ -52,14 +53,15 @@ impl Write for Short {
     }
 }
 
-// Runs the script from a reader that fails once with `left` bytes left.
+// Runs the script from a reader that fails once with `kind`, at `left` bytes left.
 // Returns the exit status and the written bytes.
-fn read_fails(alloc: Global, most: usize, left: usize) -> (u8, Vec<u8>) {
+fn read_fails(alloc: Global, kind: io::ErrorKind, most: usize, left: usize) -> (u8, Vec<u8>) {
     let mut out = Vec::new(alloc);
     let mut reader = Slow {
         rest: SCRIPT,
         most,
         fails_at: Some(left),
+        kind,
     };
     let outcome = run(alloc, &mut reader, &mut out);
     (exit_status(&outcome), out)
@@ -122,14 +124,21 @@ fn outcomes_have_messages_and_exit_statuses(rt: HostRuntime) -> Result<(), Alloc
 
 #[test]
 fn a_read_that_fails_ends_the_run(rt: HostRuntime) {
-    let (at_the_end, nothing) = read_fails(rt.alloc(), 1, 0);
-    let (in_the_middle, none_then) = read_fails(rt.alloc(), 1, 20);
-    let (at_once, none_still) = read_fails(rt.alloc(), 100, SCRIPT.len());
+    let (alloc, kind) = (rt.alloc(), io::ErrorKind::Other);
+    let (at_the_end, nothing) = read_fails(alloc, kind, 1, 0);
+    let (in_the_middle, none_then) = read_fails(alloc, kind, 1, 20);
+    let (at_once, none_still) = read_fails(alloc, kind, 100, SCRIPT.len());
     let written = [nothing.len(), none_then.len(), none_still.len()];
     expect_eq!(rt;
         ((at_the_end, in_the_middle, at_once), written),
         ((2, 2, 2), [0, 0, 0])
     );
+}
+
+#[test]
+fn an_interrupted_read_ends_the_run(rt: HostRuntime) {
+    let (status, written) = read_fails(rt.alloc(), io::ErrorKind::Interrupted, 1, 20);
+    expect_eq!(rt; (status, written.len()), (2, 0));
 }
 
 #[test]
@@ -139,6 +148,7 @@ fn many_reads_are_made(rt: HostRuntime) -> Result<(), AllocError> {
         rest: script.as_slice(),
         most: 1,
         fails_at: None,
+        kind: io::ErrorKind::Other,
     };
     let mut out = Vec::new(rt.alloc());
     let status = exit_status(&run(rt.alloc(), &mut reader, &mut out));
