@@ -1,6 +1,6 @@
 //! The printed text of inspections.
 
-use crate::tests::archives::{NAMES, NUMBERED_TEXTS, ONE_HASH, ONE_NUMBER};
+use crate::tests::archives::{EMPTY, NAMES, NUMBERED_TEXTS, ONE_HASH, ONE_NUMBER};
 use crate::tests::support::{narrow, numbers, wide};
 use rkyv_base::width::{Narrow, Wide};
 use rkyv_container::Header;
@@ -38,6 +38,25 @@ bytes: 60
 fn one_number(rt: HostRuntime) -> Result<(), Fail> {
     let text = text_of(rt.alloc(), &ONE_NUMBER, numbers(), 1000)?;
     expect_eq!(rt; text.as_str(), ONE_NUMBER_TEXT);
+    Ok(())
+}
+
+#[test]
+fn the_empty_map(rt: HostRuntime) -> Result<(), Fail> {
+    let text = text_of(rt.alloc(), &EMPTY, numbers(), 1000)?;
+    let lines = "items: 0\nbuckets: 0\nload: 0%\ncontrol bytes at: none\nheader at: 0\n\
+        misplaced keys: 0\n";
+    assert!(rt; text.as_str().starts_with(lines));
+    Ok(())
+}
+
+#[test]
+fn bytes_before_the_buckets(rt: HostRuntime) -> Result<(), Fail> {
+    let mut bytes = [0; 68];
+    bytes[8..].copy_from_slice(&ONE_NUMBER);
+    let text = text_of(rt.alloc(), &bytes, numbers(), 1000)?;
+    let line = "       0  00 00 00 00 00 00 00 00     unknown bytes\n";
+    assert!(rt; text.as_str().contains(line));
     Ok(())
 }
 
