@@ -1,5 +1,5 @@
 -- The outcomes of the program, and their exit statuses.
-use Rattle.std.specs.Prelude.{Err, List, Ok, Result, ℕ, ◌≡◌}
+use Rattle.std.specs.Prelude.{Err, List, Ok, Result, string_bytes, ℕ, ◌≡◌}
 use Rattle.std.specs.declared.io.Error.{Error}
 use Rattle.rkyv_container.specs.declared.contents.Contents.{Contents}
 use Rattle.rkyv_container.specs.declared.errors.ContainerError.{ContainerError}
@@ -28,24 +28,28 @@ abbrev pub IsOtherError : InspectError → Type 0
 IsOtherError (InvalidArchive _) = ⊥
 IsOtherError _ = Unit {0}
 
--- the error of the program for a failed inspection with this cause, or a failed allocation
-abbrev pub IsCausedBy : InspectError → ProgramError → Type 0
-IsCausedBy cause (Invalid _ fault) = cause ≡ InvalidArchive fault
-IsCausedBy cause (Other _ error) = (cause ≡ error) × IsOtherError error
-IsCausedBy _ (Memory _) = Unit {0}
-IsCausedBy _ _ = ⊥
+-- the error of the program for a failed inspection of the file `name` with this cause, or a failed
+-- allocation
+abbrev pub IsCausedBy : List ℕ → InspectError → ProgramError → Type 0
+IsCausedBy name cause (Invalid file fault) =
+    (string_bytes file ≡ name) × (cause ≡ InvalidArchive fault)
+IsCausedBy name cause (Other file error) =
+    (string_bytes file ≡ name) × (cause ≡ error) × IsOtherError error
+IsCausedBy _ _ (Memory _) = Unit {0}
+IsCausedBy _ _ _ = ⊥
 
--- the error of the program for a failed read of a file, or a failed allocation
-abbrev pub IsFileError : Error → ProgramError → Type 0
-IsFileError cause (File _ error) = cause ≡ error
-IsFileError _ (Memory _) = Unit {0}
-IsFileError _ _ = ⊥
+-- the error of the program for a failed read of the file `name`, or a failed allocation
+abbrev pub IsFileError : List ℕ → Error → ProgramError → Type 0
+IsFileError name cause (File file error) = (string_bytes file ≡ name) × (cause ≡ error)
+IsFileError _ _ (Memory _) = Unit {0}
+IsFileError _ _ _ = ⊥
 
--- the error of the program for a file that can't be opened as a container, or a failed allocation
-abbrev pub IsContainerError : ContainerError → ProgramError → Type 0
-IsContainerError cause (Container _ error) = cause ≡ error
-IsContainerError _ (Memory _) = Unit {0}
-IsContainerError _ _ = ⊥
+-- the error of the program for the file `name`, which can't be opened as a container, or a failed
+-- allocation
+abbrev pub IsContainerError : List ℕ → ContainerError → ProgramError → Type 0
+IsContainerError name cause (Container file error) = (string_bytes file ≡ name) × (cause ≡ error)
+IsContainerError _ _ (Memory _) = Unit {0}
+IsContainerError _ _ _ = ⊥
 
 -- the archive `bytes` has an inspection with these contents, so it is valid. `limit`: limit of
 -- strides

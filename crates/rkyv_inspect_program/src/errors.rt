@@ -36,7 +36,7 @@ pub enum ProgramError {
 
 /// Returns the error of a read of a file.
 pub fn file_error(alloc: Global, file: &str, error: io::Error) -> ProgramError
-    ensures { IsFileError error result }
+    ensures { IsFileError file.now error result }
 {
     match String::from_str(alloc, file) {
         Ok(file) => ProgramError::File { file, error },
@@ -46,7 +46,7 @@ pub fn file_error(alloc: Global, file: &str, error: io::Error) -> ProgramError
 
 /// Returns the error of a file that can't be opened as a container.
 pub fn container_error(alloc: Global, file: &str, error: ContainerError) -> ProgramError
-    ensures { IsContainerError error result }
+    ensures { IsContainerError file.now error result }
 {
     match String::from_str(alloc, file) {
         Ok(file) => ProgramError::Container { file, error },
@@ -56,7 +56,7 @@ pub fn container_error(alloc: Global, file: &str, error: ContainerError) -> Prog
 
 /// Returns the error of an inspection of a file.
 pub fn inspect_error(alloc: Global, file: &str, error: InspectError) -> ProgramError
-    ensures { IsCausedBy error result }
+    ensures { IsCausedBy file.now error result }
 {
     match (String::from_str(alloc, file), error) {
         (Ok(file), InspectError::Invalid(error)) => ProgramError::Invalid { file, error },
