@@ -5,7 +5,9 @@ use rkyv_base::errors::{VerifyError, WriteError};
 use rkyv_base::root::to_bytes;
 use rkyv_base::writer::NoMemory;
 use rkyv_collections::SetItems;
+use rkyv_collections::lists::laws::{item_clones_are_the_same, pair_clones_are_the_same};
 use rkyv_collections::set::{ArchivedHashSet, HashSetOf};
+use rkyv_scan::hash::FxHasher64;
 use std::alloc::Global;
 use test_support::archives::{archive, three_keys};
 
@@ -75,4 +77,17 @@ fn rejects_a_list_under_a_load_factor_above_1(rt: HostRuntime) {
     let items = [1];
     let fails = write_fails(rt.alloc(), SetItems::with_load_factor(&items, (8, 7)));
     assert!(rt; fails);
+}
+
+// Returns the same as `written_and_read` for a copy of a list of items.
+fn copied(alloc: Global, items: &[u8]) -> Option<(bool, (usize, usize, [bool; 2]))> {
+    let list: SetItems<'_, u8> = SetItems::new(items);
+    written_and_read(alloc, list.clone().ok()?, &three_keys())
+}
+
+#[test]
+fn a_copy_of_a_list_is_archived_alike(rt: HostRuntime) {
+    item_clones_are_the_same::<u8, FxHasher64>();
+    pair_clones_are_the_same::<u8, u8, FxHasher64>();
+    expect_eq!(rt; copied(rt.alloc(), &[1, 2, 3]), Some((true, (3, 3, [true, false]))));
 }
