@@ -175,7 +175,7 @@ fn every_form_writes_the_same(rt: HostRuntime) {
 }
 
 #[test]
-fn a_value_is_written_by_a_comparison(rt: HostRuntime) {
+fn values_found_by_a_comparison_are_written(rt: HostRuntime) {
     let (mut pair_bytes, mut value_bytes) = (four_entries(), four_entries());
     let pair = replace_beside_key_by(&mut pair_bytes, 5, 60, true).ok();
     let value = replace_value_by(&mut value_bytes, 5, 60, true).ok();
