@@ -1,5 +1,5 @@
 -- The archive of a list, and the scalar of a value that is found in it.
-use Rattle.std.proofs.Common.{◌≡◌, ◌+◌, ◌∙◌, ℕ, Bool, Err, List, MatchResult, None, Ok, Option, Result, Some, [], ◌∷◌, ap, inl, inr, refl, subst, sym}
+use Rattle.std.proofs.Common.{◌≡◌, ◌+◌, ◌∙◌, ℕ, Bool, List, MatchResult, None, Option, Result, Some, [], ◌∷◌, ap, inl, inr, refl, subst, sym}
 use Rattle.std.specs.Borrow.{Bor}
 use Rattle.std.specs.Int.{Width}
 use Rattle.std.specs.List.{find, list_any}
@@ -17,7 +17,7 @@ use Rattle.rkyv_base.specs.declared.width.Word.{Ghosts as Words}
 use Rattle.rkyv_table.specs.{home_positions, pos_found, with_units}
 use Rattle.rkyv_table.proofs.Moved.{moved}
 use Rattle.rkyv_collections.proofs.FoundPairs.{first_listed, value_listed}
-use Rattle.rkyv_collections.specs.{FindsKey, FoundAreListed, IsPosOfPair, IsTextMapUnder, IsValueAt, IsValueIn, MapRepresents, MapWrittenAt, TextMapFails, TextMapRepresents, TextMapResult, TextPairs, map_bytes, map_pos, map_root, text_map_format, text_map_spec}
+use Rattle.rkyv_collections.specs.{FindsKey, FoundAreListed, IsPosOfPair, IsValueAt, IsValueIn, MapRepresents, MapWrittenAt, TextMapRepresents, TextMapResult, TextPairs, map_bytes, map_pos, map_root, text_map_format, text_map_spec}
 use Rattle.rkyv_keys.specs.{FindsByView, FitsItsEqual, FoundValues, NativeKeys, first_pair}
 use Rattle.rkyv_keys.specs.{scalar_found}
 use Rattle.rkyv_collections.specs.declared.map.ArchivedHashMap.{ArchivedHashMap}
@@ -28,10 +28,9 @@ pub text_map_result : {F N Z : Type 0} (e : Encoding N) {factor : ℕ × ℕ} {p
     → MatchResult result (λ archive. ArchiveOf narrow_limit (text_map_spec e) (TextMapRepresents e factor) (text_map_format e factor) pairs' archive.items)
     (ToBytesFails narrow_limit (text_map_spec e) (text_map_format e factor) pairs')
     → TextMapResult e pairs result
-text_map_result e {factor = factor} (Ok archive) is_factor is_pairs made =
-    subst (λ x. IsTextMapUnder e (7, 8) archive.items x) is_pairs (record { accepted = made.0; load_factor = factor; represents = made.1 }, is_factor)
-text_map_result e {factor = factor} {pairs' = pairs'} (Err why) is_factor is_pairs refused =
-    subst (λ x. TextMapFails e x why) is_pairs (subst (λ x. ToBytesFails narrow_limit (text_map_spec e) (text_map_format e x) pairs' why) is_factor refused)
+text_map_result e {pairs' = pairs'} result is_factor is_pairs made =
+    subst (λ x. TextMapResult e x result) is_pairs (subst (λ x. MatchResult result (λ archive. ArchiveOf narrow_limit (text_map_spec e) (TextMapRepresents e x) (text_map_format e x) pairs' archive.items)
+    (ToBytesFails narrow_limit (text_map_spec e) (text_map_format e x) pairs')) is_factor made)
 
 -- a found value, by the position of its key
 scalar_behind : {N : Type 0} (e : Encoding N) (b : List ℕ) (offset : ℕ) (found : Option (View N)) (key : Option ℕ) → IfSome found (λ view. bytes_of view ≡ b)

@@ -65,7 +65,7 @@ unfoldable pub use Map.MatchedKeys.{FindsMatchedKeys, HasDistinctKeys}
 pub use Map.MatchedKeys.{FindsSameKey}
 unfoldable pub use Map.Walking.{WalksAll}
 unfoldable pub use Map.InPlace.{SetsFirst, SetsFound, SetsValue, with_first}
-unfoldable pub use Map.ListArchives.{FoundAreListed, IsTextMapUnder, OpensTextMap, TextMapFails}
+unfoldable pub use Map.ListArchives.{FoundAreListed, IsTextMapOf, OpensTextMap, TextMapFails}
 unfoldable pub use Map.ListArchives.{TextMapRepresents, TextMapResult, TextPairs, first_of_text}
 unfoldable pub use Map.ListArchives.{map_root, text_found, text_map_format, text_map_spec}
 pub use Map.ListArchives.{IsTextMap}

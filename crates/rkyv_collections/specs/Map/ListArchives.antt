@@ -7,10 +7,10 @@ use Rattle.std.specs.Int.{Width, w32}
 use Rattle.std.specs.Option.{option_map}
 use Rattle.std.specs.declared.vec.Vec.{Vec}
 use Rattle.rkyv_scan.specs.{fx_hasher, generic_kind, low_halves}
-use Rattle.rkyv_base.specs.{ElementSpec, Encoding, Format, IsAt, IsTextOf, IsValidArchive}
-use Rattle.rkyv_base.specs.{OpensNarrow, ScalarRepresents, ToBytesFails, entry_spec, narrow_limit}
-use Rattle.rkyv_base.specs.{scalar_format, scalar_spec, text_at, text_format, text_spec, value_at}
-use Rattle.rkyv_base.specs.{value_offset, written_as}
+use Rattle.rkyv_base.specs.{ArchiveOf, ElementSpec, Encoding, Format, IsAt, IsTextOf}
+use Rattle.rkyv_base.specs.{IsValidArchive, OpensNarrow, ScalarRepresents, ToBytesFails}
+use Rattle.rkyv_base.specs.{entry_spec, narrow_limit, scalar_format, scalar_spec, text_at}
+use Rattle.rkyv_base.specs.{text_format, text_spec, value_at, value_offset, written_as}
 use Rattle.rkyv_base.specs.declared.errors.VerifyError.{VerifyError}
 use Rattle.rkyv_base.specs.declared.errors.WriteError.{WriteError}
 use Rattle.rkyv_base.specs.declared.view.View.{View}
@@ -48,10 +48,6 @@ pub record IsTextMap {N : Type 0} (e : Encoding N) (b : List ℕ) (pairs : TextP
   pub load_factor : ℕ × ℕ
   pub represents : TextMapRepresents e load_factor b (length b - (text_map_spec e).size) pairs
 
--- the same, and the load factor is `factor`
-abbrev pub IsTextMapUnder : {N : Type 0} → Encoding N → ℕ × ℕ → List ℕ → TextPairs N → Type 0
-IsTextMapUnder e factor b pairs = (is : IsTextMap e b pairs) × (is.load_factor ≡ factor)
-
 -- the format of the pairs under a load factor
 abbrev pub text_map_format : {N : Type 0} → Encoding N → ℕ × ℕ → Format (TextPairs N) TableResolver
 text_map_format e factor = listed narrow_limit factor
@@ -59,18 +55,24 @@ text_map_format e factor = listed narrow_limit factor
     (written_as (λ text. text.now) (text_format w32)) (scalar_format e)
     (hash_of (fx_hasher low_halves) (λ text. text_calls text.now)) factor)
 
+-- `b`: archive of the pairs alone under the load factor 7 / 8. It is valid, represents them,
+-- and has no other bytes
+abbrev pub IsTextMapOf : {N : Type 0} → Encoding N → TextPairs N → List ℕ → Type 0
+IsTextMapOf e pairs b =
+    ArchiveOf narrow_limit (text_map_spec e) (TextMapRepresents e (7, 8)) (text_map_format e (7, 8))
+    pairs b
+
 -- `why`: error of archiving the pairs under the load factor 7 / 8
 abbrev pub TextMapFails : {F N : Type 0} → Encoding N → TextPairs N → WriteError F → Type 0
 TextMapFails e pairs why =
     ToBytesFails narrow_limit (text_map_spec e) (text_map_format e (7, 8)) pairs why
 
--- the result of archiving the pairs: the bytes of such an archive under the load factor 7 / 8,
+-- the result of archiving the pairs under the load factor 7 / 8: the archive of the pairs alone,
 -- or an error
 abbrev pub TextMapResult : {F N Z : Type 0} → Encoding N → TextPairs N
     → Result (Vec ℕ Z) (WriteError F) → Type 0
 TextMapResult e pairs result =
-    MatchResult result (λ archive. IsTextMapUnder e (7, 8) archive.items pairs)
-    (TextMapFails e pairs)
+    MatchResult result (λ archive. IsTextMapOf e pairs archive.items) (TextMapFails e pairs)
 
 -- The bytes are opened if and only if they are a narrow archive whose root is a map of texts
 -- to scalars. The error is the first fault of the bytes
