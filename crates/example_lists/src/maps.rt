@@ -1,8 +1,8 @@
 //! Lookups in hash maps: of numbers, of texts, and of pairs of numbers.
 
-ghost use Rattle.std.specs.Prelude.{◌==◌, ◌≡◌, Ok};
+ghost use Rattle.std.specs.Prelude.{◌-◌, ◌==◌, ◌≡◌, IfOk, Ok, length};
 ghost use Rattle.rkyv_base.specs.{ArchivesWide, IsNarrowArchive, IsWideArchive, OpensNarrow};
-ghost use Rattle.rkyv_base.specs.{OpensWide};
+ghost use Rattle.rkyv_base.specs.{OpensWide, RootBytes};
 ghost use Rattle.rkyv_keys.specs.{IsTextOk, first_value, same_bytes};
 
 use rkyv_base::access::{access, access_in};
@@ -41,12 +41,17 @@ pub type SpotPairs<'a> = MapPairs<'a, &'a str, (u32, u32)>;
 
 /// Archives a list of numbers.
 ///
+/// The archive has no other bytes.
+///
 /// # Errors
 ///
 /// - The error of `to_bytes_in`.
 pub fn write_numbers(alloc: Global, list: &NumberPairs<'_>) -> Result<Vec<u8>, WriteError<NoMemory>>
-    ensures { ArchivesWide ⟦<Numbers as Represents<NumberPairs<'static>>>⟧
+    ensures archive { ArchivesWide ⟦<Numbers as Represents<NumberPairs<'static>>>⟧
         ⟦<NumberPairs<'static> as Archive<Wide>>⟧.format list.now result }
+    ensures bytes { IfOk result (λ b. RootBytes ⟦<Numbers as HasSpec>⟧.spec.align
+        ⟦<NumberPairs<'static> as Archive<Wide>>⟧.format list.now 0 b.items
+        (length b.items - ⟦<Numbers as HasSpec>⟧.spec.size)) }
 {
     to_bytes_in::<Wide, _>(alloc, list)
 }
