@@ -2,10 +2,11 @@
 
 ghost use Rattle.std.specs.Int.{w64};
 ghost use Rattle.std.specs.Option.{is_some};
-ghost use Rattle.std.specs.Prelude.{ℕ, ◌≡◌, Ok, OnErr};
-ghost use Rattle.rkyv_base.specs.{OpensNarrow, unsigned};
+ghost use Rattle.std.specs.Prelude.{ℕ, ◌≡◌, IfOk, Ok, OnErr};
+ghost use Rattle.rkyv_base.specs.{IsValidArchive, OpensNarrow, narrow_limit, unsigned};
 ghost use Rattle.rkyv_keys.specs.{same_bytes};
-ghost use Rattle.rkyv_collections.specs.{IsTextMap, TextPairs, first_of_text, with_first};
+ghost use Rattle.rkyv_collections.specs.{IsTextMap, SetsValueOfText, TextPairs, first_of_text};
+ghost use Rattle.rkyv_collections.specs.{with_first};
 
 use rkyv_base::access::access;
 use rkyv_base::element::HasSpec;
@@ -20,9 +21,11 @@ use rkyv_table::table::laws::in_place::writes_keep_archives;
 /// A map of texts to numbers in a narrow archive.
 pub type Counts = HashMapOf<Text, u64>;
 
-/// Writes the count of the first pair with the name, and returns whether there is one.
+/// Writes the count of the pair that a lookup of the name finds, and returns whether there is one.
 ///
-/// The archive then represents the list with this count replaced. After an error it is unchanged.
+/// In the archive of a list, it is the first pair with the name. The archive then represents the
+/// list with this count replaced. All other bytes are unchanged, and the archive stays valid.
+/// After an error it is unchanged.
 ///
 /// # Errors
 ///
@@ -30,6 +33,10 @@ pub type Counts = HashMapOf<Text, u64>;
 pub fn set_count(table: &mut [u8], name: &str, count: u64) -> Result<bool, VerifyError>
     ensures opened { OpensNarrow ⟦<Counts as HasSpec>⟧.spec table.old result }
     ensures unchanged { OnErr result (table.new ≡ table.old) }
+    ensures kept { IfOk result
+        (λ _. IsValidArchive narrow_limit ⟦<Counts as HasSpec>⟧.spec table.new) }
+    ensures written { IfOk result
+        (SetsValueOfText (unsigned w64) name.now count table.old table.new) }
     ensures found { (pairs : TextPairs ℕ) → IsTextMap (unsigned w64) table.old pairs
         → result ≡ Ok (is_some (first_of_text name.now pairs)) }
     ensures listed { (pairs : TextPairs ℕ) → IsTextMap (unsigned w64) table.old pairs

@@ -65,9 +65,10 @@ unfoldable pub use Map.MatchedKeys.{FindsMatchedKeys, HasDistinctKeys}
 pub use Map.MatchedKeys.{FindsSameKey}
 unfoldable pub use Map.Walking.{WalksAll}
 unfoldable pub use Map.InPlace.{SetsFirst, SetsFound, SetsValue, with_first}
-unfoldable pub use Map.ListArchives.{FoundAreListed, IsTextMapOf, OpensTextMap, TextMapFails}
-unfoldable pub use Map.ListArchives.{TextMapRepresents, TextMapResult, TextPairs, first_of_text}
-unfoldable pub use Map.ListArchives.{map_root, text_found, text_map_format, text_map_spec}
+unfoldable pub use Map.ListArchives.{FoundAreListed, IsTextMapOf, OpensTextMap, SetsValueOfText}
+unfoldable pub use Map.ListArchives.{TextMapFails, TextMapRepresents, TextMapResult, TextPairs}
+unfoldable pub use Map.ListArchives.{first_of_text, map_root, text_found, text_key_found}
+unfoldable pub use Map.ListArchives.{text_map_format, text_map_spec}
 pub use Map.ListArchives.{IsTextMap}
 unfoldable pub use Map.NestedWrites.{NestedWritesKeepLookups, NestedWritesKeepMaps}
 unfoldable pub use Map.NestedWrites.{NestedWritesRepresent, ValueWritesAreNested}

@@ -1,7 +1,8 @@
 -- Archives with a root map that represents a list of pairs, and the values that are found in one.
 use Rattle.rkyv_base.specs.declared.element.HasSpec.{Ghosts as Specs}
 use Rattle.rkyv_base.specs.declared.width.Word.{Ghosts as Words}
-use Rattle.std.specs.Prelude.{◌≡◌, ℕ, ◌+◌, ◌-◌, IfSome, List, MatchResult, Option, Result, length}
+use Rattle.std.specs.Prelude.{◌≡◌, ℕ, ◌+◌, ◌-◌, Bool, IfSome, List, MatchOption, MatchResult}
+use Rattle.std.specs.Prelude.{Option, Result, false, length, true}
 use Rattle.std.specs.Borrow.{Bor}
 use Rattle.std.specs.Int.{Width, w32}
 use Rattle.std.specs.Option.{option_map}
@@ -10,7 +11,8 @@ use Rattle.rkyv_scan.specs.{fx_hasher, generic_kind, low_halves}
 use Rattle.rkyv_base.specs.{ArchiveOf, ElementSpec, Encoding, Format, IsAt, IsTextOf}
 use Rattle.rkyv_base.specs.{IsValidArchive, OpensNarrow, ScalarRepresents, ToBytesFails}
 use Rattle.rkyv_base.specs.{entry_spec, narrow_limit, scalar_format, scalar_spec, text_at}
-use Rattle.rkyv_base.specs.{text_format, text_spec, value_at, value_offset, written_as}
+use Rattle.rkyv_base.specs.{text_format, text_spec, value_at, value_offset, value_pos}
+use Rattle.rkyv_base.specs.{with_value, written_as}
 use Rattle.rkyv_base.specs.declared.errors.VerifyError.{VerifyError}
 use Rattle.rkyv_base.specs.declared.errors.WriteError.{WriteError}
 use Rattle.rkyv_base.specs.declared.view.View.{View}
@@ -83,14 +85,27 @@ OpensTextMap e b result = OpensNarrow (text_map_spec e) b result
 abbrev pub first_of_text : {N : Type 0} → List ℕ → TextPairs N → Option N
 first_of_text text pairs = first_value (λ other. same_bytes text other.now) pairs
 
--- the value of the pair that a lookup of `text` finds in the map at the root of the archive `b`,
+-- the position of the key that a lookup of `text` finds in the map at the root of the archive `b`,
 -- which may represent no list
+abbrev pub text_key_found : {N : Type 0} → Encoding N → List ℕ → List ℕ → Option ℕ
+text_key_found e text b =
+    pos_found generic_kind w32 (entry_spec (text_spec w32) (scalar_spec e)).size b
+    (map_root w32 (text_spec w32) (scalar_spec e) b)
+    (hash_of (fx_hasher low_halves) text_calls text) (λ q. same_bytes text (text_at w32 b q))
+
+-- the value of the pair that such a lookup finds
 abbrev pub text_found : {N : Type 0} → Encoding N → List ℕ → List ℕ → Option N
 text_found e text b =
     option_map (λ q. value_at e b (q + value_offset (text_spec w32) (scalar_spec e)))
-    (pos_found generic_kind w32 (entry_spec (text_spec w32) (scalar_spec e)).size b
-    (map_root w32 (text_spec w32) (scalar_spec e) b)
-    (hash_of (fx_hasher low_halves) text_calls text) (λ q. same_bytes text (text_at w32 b q)))
+    (text_key_found e text b)
+
+-- `c`: the archive `b` with `value` written over the value that such a lookup finds, and `found`
+-- is `true`. If it finds none, `c` is `b`, and `found` is `false`
+abbrev pub SetsValueOfText : {N : Type 0} → Encoding N → List ℕ → N → List ℕ → List ℕ → Bool
+    → Type 0
+SetsValueOfText e text value b c found =
+    MatchOption (text_key_found e text b) ((found ≡ false) × (c ≡ b))
+    (λ q. (found ≡ true) × (c ≡ with_value e b (value_pos (text_spec w32) (scalar_spec e) q) value))
 
 -- The root of the archive is a map that represents a list of pairs. A lookup of a native key
 -- finds the value of the first pair with an equal key, and `None` if no pair has one.
