@@ -2,6 +2,5 @@
 pub mod Lines
 pub mod Table
 unfoldable pub use Lines.{has_symbol, symbol_of, symbols_of, with_name_bytes}
-unfoldable pub use Table.{IsTable, IsTableOf, Represents, Symbols, SymbolsRepresent, TableFails}
-unfoldable pub use Table.{ValidationFails, address_found, address_spec, first_address, header_spec}
-unfoldable pub use Table.{name_spec, root, symbols_format}
+unfoldable pub use Table.{IsTable, IsTableOf, Represents, Symbols, TableFails, ValidationFails}
+unfoldable pub use Table.{address_found, header_spec}

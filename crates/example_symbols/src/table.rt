@@ -5,8 +5,9 @@
 //! - `address_in` looks up a name in a valid table.
 //! - `address_of` validates a table, then looks up a name.
 ghost use Rattle.std.specs.Prelude.{IfOk, IsOk, MatchResult, ◌≡◌};
+ghost use Rattle.rkyv_collections.specs.{first_of_text};
 ghost use Rattle.example_symbols.specs.{IsTable, IsTableOf, Represents, Symbols, TableFails};
-ghost use Rattle.example_symbols.specs.{ValidationFails, address_found, first_address};
+ghost use Rattle.example_symbols.specs.{ValidationFails, address_found};
 
 use rkyv_base::access::{access, access_unchecked};
 use rkyv_base::errors::{VerifyError, WriteError};
@@ -60,7 +61,7 @@ pub fn address_in(table: &[u8], name: &str) -> Option<u64>
     requires { IsTable table.now }
     ensures found { result ≡ address_found name.now table.now }
     ensures listed { (symbols : Symbols) → Represents table.now symbols
-        → result ≡ first_address name.now symbols }
+        → result ≡ first_of_text name.now symbols }
 {
     scalars_found_are_listed::<&str, &str, u64, Text, FxHasher64, Narrow>();
     let map = ArchivedHashMap::of(access_unchecked::<HashMapOf<Text, u64>>(table));
@@ -78,7 +79,7 @@ pub fn address_of(table: &[u8], name: &str) -> Result<Option<u64>, VerifyError>
         (ValidationFails table.now) }
     ensures accepts { IsTable table.now → IsOk result }
     ensures listed { (symbols : Symbols) → Represents table.now symbols
-        → IfOk result (λ found. found ≡ first_address name.now symbols) }
+        → IfOk result (λ found. found ≡ first_of_text name.now symbols) }
 {
     check(table)?;
     Ok(address_in(table, name))

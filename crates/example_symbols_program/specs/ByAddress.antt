@@ -10,8 +10,8 @@ use Rattle.std.specs.List.Sorted.{IsNonDecreasingBy, IsPermutation, IsStableByKe
 use Rattle.rkyv_scan.specs.{U64, fx_hasher, low_halves}
 use Rattle.rkyv_base.specs.{AccessFails, ArchiveOf, AtView, ElementSpec, Format, IsAt, IsTextOf}
 use Rattle.rkyv_base.specs.{IsValidArchive, ScalarRepresents, ToBytesFails, bytes_of, entry_spec}
-use Rattle.rkyv_base.specs.{pos_of, scalar_format, scalar_spec, text_at, text_format, unsigned}
-use Rattle.rkyv_base.specs.{written_as}
+use Rattle.rkyv_base.specs.{pos_of, scalar_format, scalar_spec, text_at, text_format, text_spec}
+use Rattle.rkyv_base.specs.{unsigned, written_as}
 use Rattle.rkyv_base.specs.declared.errors.VerifyError.{VerifyError}
 use Rattle.rkyv_base.specs.declared.errors.WriteError.{WriteError}
 use Rattle.rkyv_base.specs.declared.errors.WriteError.TheVariants.{Memory}
@@ -21,7 +21,15 @@ use Rattle.rkyv_table.specs.{listed}
 use Rattle.rkyv_index.specs.{IndexRepresents, IndexResolver, IsPairOf, index_format, index_spec}
 use Rattle.rkyv_index.specs.declared.lists.OrderedPairs.{OrderedPairs}
 use Rattle.rkyv_index.specs.declared.map.ArchivedIndexMap.{ArchivedIndexMap}
-use Rattle.example_symbols.specs.{Symbols, address_spec, name_spec}
+use Rattle.example_symbols.specs.{Symbols}
+
+-- the spec of an address
+abbrev pub address_spec : ElementSpec
+address_spec = scalar_spec (unsigned w64)
+
+-- the spec of a name
+abbrev pub name_spec : ElementSpec
+name_spec = text_spec w32
 
 -- addresses, each with a name
 abbrev pub Row : Type 0

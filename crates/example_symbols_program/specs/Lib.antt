@@ -4,7 +4,8 @@ pub mod Commands
 pub mod Errors
 pub mod Outcomes
 unfoldable pub use ByAddress.{IndexFails, IndexResult, IsEntryOf, IsIndexOf, Listed, OpensIndex}
-unfoldable pub use ByAddress.{PairsRepresentAt, Row, index_header, pairs_format, turned}
+unfoldable pub use ByAddress.{PairsRepresentAt, Row, address_spec, index_header, name_spec}
+unfoldable pub use ByAddress.{pairs_format, turned}
 pub use ByAddress.{IsAscending}
 unfoldable pub use Commands.{command_of, least_count}
 unfoldable pub use Errors.{IsFileError, IsValidationError, IsWriteError}

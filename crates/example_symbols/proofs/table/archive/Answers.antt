@@ -1,16 +1,13 @@
-use Rattle.std.proofs.Common.{ℕ, MatchResult, subst}
-use Rattle.rkyv_base.specs.{ArchiveOf, ToBytesFails}
-use Rattle.example_symbols.specs.{IsTable, IsTableOf, Represents, Symbols, SymbolsRepresent, TableFails, header_spec, symbols_format}
+use Rattle.std.specs.Int.{w64}
+use Rattle.rkyv_base.specs.{unsigned}
 use Rattle.rkyv_collections.proofs.FoundValues.{on_ok}
+use Rattle.rkyv_collections.proofs.ListArchives.{text_map_result}
+use Rattle.example_symbols.specs.{IsTable, IsTableOf, Represents, TableFails}
 use Rattle.example_symbols.proofs.table.archive.Goals as goal
 
 pub returns-clause-whole : goal.returns-clause-whole
 unfolding IsTableOf TableFails
-returns-clause-whole c =
-    let WriteResult : ℕ × ℕ → Symbols → Type 0 = λ factor symbols. MatchResult c.to_bytes.result (λ table. ArchiveOf 4_294_967_295 header_spec (SymbolsRepresent factor) (symbols_format factor) symbols table.items)
-    (ToBytesFails 4_294_967_295 header_spec (symbols_format factor) symbols) in
-    let list = c.new-list in
-    subst (λ factor. WriteResult factor c.args.symbols.now) list.ensures.load_factor (subst (λ symbols. WriteResult list.result.load_factor symbols) list.ensures.pairs c.to_bytes.ensures)
+returns-clause-whole c = text_map_result (unsigned w64) c.to_bytes.result c.new-list.ensures.load_factor c.new-list.ensures.pairs c.to_bytes.ensures
 
 pub returns-clause-represents : goal.returns-clause-represents
 unfolding IsTable IsTableOf Represents
