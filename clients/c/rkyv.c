@@ -476,6 +476,7 @@ const char *rkyv_status_name(uint32_t status) {
     case RKYV_READ_ONLY: return "RKYV_READ_ONLY";
     case RKYV_NO_MEMORY: return "RKYV_NO_MEMORY";
     case RKYV_WRONG_SIZE: return "RKYV_WRONG_SIZE";
+    case RKYV_OVERLAP: return "RKYV_OVERLAP";
     case RKYV_OUT_OF_RANGE: return "RKYV_OUT_OF_RANGE";
     case RKYV_UNALIGNED: return "RKYV_UNALIGNED";
     case RKYV_INVALID_LENGTH: return "RKYV_INVALID_LENGTH";
@@ -927,6 +928,14 @@ static rkyv_status check_writable(const rkyv_map *map) {
     return map != NULL && map->writable == NULL ? RKYV_READ_ONLY : RKYV_OK;
 }
 
+/* RKYV_OK if no byte of a key is in the archive of a map that may be written. Differences of addresses
+ * are modulo 2^64. */
+static rkyv_status check_outside(const rkyv_map *map, const void *key, size_t length) {
+    const uintptr_t archive = (uintptr_t)map->writable, begin = (uintptr_t)key;
+    const bool overlaps = begin - archive < map->length || archive - begin < length;
+    return length != 0 && overlaps ? RKYV_OVERLAP : RKYV_OK;
+}
+
 /* Writes the value of a number key in a map of the kind or of the one behind it. */
 static rkyv_status write_number(const rkyv_map *map, uint32_t kind, set_number *set, uint32_t key,
                                 uint64_t value) {
@@ -954,6 +963,9 @@ static rkyv_status write_text(const rkyv_map *map, uint32_t kind, set_text *set,
                               size_t length, uint64_t value) {
     rkyv_status status = first(check_numbers(map, kind), check_bytes(key, length));
     status = first(status, check_writable(map));
+    if (status == RKYV_OK) {
+        status = check_outside(map, key, length);
+    }
     if (status == RKYV_OK) {
         status = (rkyv_status)set(map->writable, map->length, has_long_values(map->kind),
                                   is_wide(map), bytes_of(key), length, value);

@@ -29,8 +29,7 @@
  *   - A pointer that is not null points to as many bytes or elements as the number beside it, or to
  *     one value of its type, during the call. `header` points to RKYV_CONTAINER_HEADER bytes.
  *   - The memory that a call writes overlaps none of its other arguments, unless its comment says
- *     otherwise. No other thread uses it. A call that writes a value may write the whole archive, so
- *     its key is outside the archive: copy a key that an iteration has stored.
+ *     otherwise. No other thread uses it. A call that writes a value may write the whole archive.
  *   - The bytes of a map stay at their address while a handle of it is in use. Only the calls that
  *     write values in place change them, as `rkyv_map_set_number`, by a handle of the same bytes,
  *     kind and width.
@@ -83,6 +82,8 @@ typedef enum rkyv_status {
     RKYV_NO_MEMORY = 12,
     /* The room for a container does not have the size of the container. */
     RKYV_WRONG_SIZE = 13,
+    /* The key of a write in place has a byte of the archive, which the call writes. */
+    RKYV_OVERLAP = 14,
 
     /* Errors of validation: the bytes are not an archive of such a map. They are not checked in the
      * order of their numbers. */
@@ -476,13 +477,16 @@ rkyv_status rkyv_map_set_number(const rkyv_map *map, uint32_t key, uint64_t valu
 rkyv_status rkyv_map_set_long_number(const rkyv_map *map, uint64_t key, uint64_t value);
 
 /* Writes the value of a text key of `length` bytes in place: the value that `rkyv_map_get_text`
- * finds. `key` may be null if `length` is 0. It is outside the archive.
+ * finds. `key` may be null if `length` is 0. A key that another call has stored is a part of the
+ * archive: copy it first.
  *
  * Errors, after which no byte is changed:
  *   - RKYV_NULL: `map` is null;
  *   - RKYV_CLOSED, RKYV_WRONG_KIND;
  *   - RKYV_NULL: `key` is null;
- *   - RKYV_TOO_LONG, RKYV_READ_ONLY, RKYV_NOT_TEXT, RKYV_VALUE_TOO_LARGE, RKYV_NOT_FOUND. */
+ *   - RKYV_TOO_LONG, RKYV_READ_ONLY;
+ *   - RKYV_OVERLAP: a byte of the key is in the archive;
+ *   - RKYV_NOT_TEXT, RKYV_VALUE_TOO_LARGE, RKYV_NOT_FOUND. */
 rkyv_status rkyv_map_set_text(const rkyv_map *map, const char *key, size_t length,
                               uint64_t value);
 
@@ -727,13 +731,16 @@ rkyv_status rkyv_index_set_number(const rkyv_index_map *map, uint32_t key, uint6
 rkyv_status rkyv_index_set_long_number(const rkyv_index_map *map, uint64_t key, uint64_t value);
 
 /* Writes the value of a text key of `length` bytes in place: the value that `rkyv_index_get_text`
- * finds. `key` may be null if `length` is 0. It is outside the archive.
+ * finds. `key` may be null if `length` is 0. A key that another call has stored is a part of the
+ * archive: copy it first.
  *
  * Errors, after which no byte is changed:
  *   - RKYV_NULL: `map` is null;
  *   - RKYV_CLOSED, RKYV_WRONG_KIND;
  *   - RKYV_NULL: `key` is null;
- *   - RKYV_TOO_LONG, RKYV_READ_ONLY, RKYV_NOT_TEXT, RKYV_VALUE_TOO_LARGE, RKYV_NOT_FOUND. */
+ *   - RKYV_TOO_LONG, RKYV_READ_ONLY;
+ *   - RKYV_OVERLAP: a byte of the key is in the archive;
+ *   - RKYV_NOT_TEXT, RKYV_VALUE_TOO_LARGE, RKYV_NOT_FOUND. */
 rkyv_status rkyv_index_set_text(const rkyv_index_map *map, const char *key, size_t length,
                                 uint64_t value);
 

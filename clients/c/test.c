@@ -154,6 +154,73 @@ static void texts(void) {
     returns("set a number", rkyv_map_set_number(&map, 1, 1), RKYV_WRONG_KIND);
 }
 
+/* A write fails with a key that has a byte of the archive, and changes no byte. */
+static void overlapping_keys(void) {
+    uint8_t *bytes = NULL, kept[256];
+    char key[4] = {0};
+    size_t length = 0;
+    uint64_t value = 9;
+    const rkyv_text_item items[] = {{7, "abcd", 4}, {8, "", 0}};
+    rkyv_map map;
+    rkyv_text_pair pair = {0, 0, NULL, 0};
+    rkyv_index_map index_map;
+    rkyv_index_text_pair index_pair = {0, NULL, 0};
+
+    returns("build", rkyv_build_texts(items, 2, RKYV_TEXT_TO_U32, 64, &bytes, &length), RKYV_OK);
+    returns("open", rkyv_map_open_writable(bytes, length, RKYV_TEXT_TO_U32, 64, &map), RKYV_OK);
+    while (pair.key_length == 0 && rkyv_map_next_text(&map, &pair) == RKYV_OK) {
+    }
+    same("the key", pair.key_length, 4);
+    memcpy(kept, bytes, length);
+    returns("a stored key", rkyv_map_set_text(&map, pair.key, pair.key_length, 3), RKYV_OVERLAP);
+    returns("a part of it", rkyv_map_set_text(&map, pair.key + 1, 1, 3), RKYV_OVERLAP);
+    returns("the first byte", rkyv_map_set_text(&map, (char *)bytes, 1, 3), RKYV_OVERLAP);
+    returns("all bytes", rkyv_map_set_text(&map, (char *)bytes, length, 3), RKYV_OVERLAP);
+    returns("the last byte", rkyv_map_set_text(&map, (char *)bytes + length - 1, 1, 3),
+            RKYV_OVERLAP);
+    same("unchanged", memcmp(bytes, kept, length) == 0, 1);
+    memcpy(key, pair.key, 4);
+    returns("a copy", rkyv_map_set_text(&map, key, 4, 3), RKYV_OK);
+    returns("get", rkyv_map_get_text(&map, pair.key, pair.key_length, &value), RKYV_OK);
+    same("written", value, 3);
+    returns("no bytes", rkyv_map_set_text(&map, pair.key, 0, 4), RKYV_OK);
+    returns("get", rkyv_map_get_text(&map, "", 0, &value), RKYV_OK);
+    same("written", value, 4);
+    rkyv_bytes_free(bytes);
+
+    returns("build", rkyv_build_texts(items, 2, RKYV_INDEX_TEXT_TO_U64, 32, &bytes, &length),
+            RKYV_OK);
+    returns("open",
+            rkyv_index_open_writable(bytes, length, RKYV_INDEX_TEXT_TO_U64, 32, &index_map),
+            RKYV_OK);
+    returns("at", rkyv_index_text_at(&index_map, 0, &index_pair), RKYV_OK);
+    memcpy(kept, bytes, length);
+    returns("a stored key", rkyv_index_set_text(&index_map, index_pair.key, 4, 3), RKYV_OVERLAP);
+    returns("all bytes", rkyv_index_set_text(&index_map, (char *)bytes, length, 3), RKYV_OVERLAP);
+    same("unchanged", memcmp(bytes, kept, length) == 0, 1);
+    returns("a copy", rkyv_index_set_text(&index_map, key, 4, 3), RKYV_OK);
+    returns("get", rkyv_index_get_text(&index_map, "abcd", 4, NULL, &value), RKYV_OK);
+    same("written", value, 3);
+    rkyv_bytes_free(bytes);
+    same("blocks", blocks, 0);
+}
+
+/* The bytes before and behind an archive may be a key: here the key is the byte before it, the byte
+ * behind it, and each of them with one byte of the archive. */
+static void adjacent_keys(void) {
+    uint8_t bytes[106];
+    const size_t length = empty_to_seven(bytes + 1);
+    rkyv_map map;
+    bytes[0] = 'a';
+    bytes[1 + length] = 'b';
+    returns("open", rkyv_map_open_writable(bytes + 1, length, RKYV_TEXT_TO_U64, 64, &map), RKYV_OK);
+    returns("before", rkyv_map_set_text(&map, (char *)bytes, 1, 8), RKYV_NOT_FOUND);
+    returns("one more", rkyv_map_set_text(&map, (char *)bytes, 2, 8), RKYV_OVERLAP);
+    returns("around", rkyv_map_set_text(&map, (char *)bytes, length + 2, 8), RKYV_OVERLAP);
+    returns("behind", rkyv_map_set_text(&map, (char *)bytes + 1 + length, 1, 8), RKYV_NOT_FOUND);
+    returns("one less", rkyv_map_set_text(&map, (char *)bytes + length, 2, 8), RKYV_OVERLAP);
+}
+
 /* An archive of 40 pairs of the kind: i to 100 + i, with the keys as numbers or as letters. */
 static uint8_t *forty_pairs(uint32_t kind, size_t *length) {
     uint8_t *bytes = NULL;
@@ -2229,6 +2296,8 @@ static void indexed_texts_to_texts(void) {
 int main(void) {
     numbers();
     texts();
+    overlapping_keys();
+    adjacent_keys();
     several_numbers();
     several_texts();
     anywhere();
