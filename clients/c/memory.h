@@ -1,5 +1,8 @@
 /* The three functions with which the proved library and rkyv.c allocate memory. memory.c implements
- * them over the C library. A program may implement them itself, and then leaves memory.c out. */
+ * them over the C library. A program may implement them itself, and then leaves memory.c out.
+ *
+ * Each function returns: it throws no exception and does not jump. Threads may call them at the same
+ * time. */
 #ifndef RKYV_MEMORY_H
 #define RKYV_MEMORY_H
 
@@ -21,7 +24,8 @@ struct rattle_block {
 struct rattle_block rattle_alloc(size_t size, size_t align);
 
 /* Gives a block another size and preserves its first `kept` bytes. If the allocation fails, the
- * block is unchanged. */
+ * block is unchanged. `size` and `align` are as in `rattle_alloc`, and `align` is the one that the
+ * block was allocated with. `kept` is at most the old size and at most the new one. */
 struct rattle_block rattle_realloc(void *block, size_t kept, size_t size, size_t align);
 
 /* Frees a block. */

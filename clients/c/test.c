@@ -1,7 +1,7 @@
 /* A test of rkyv.h: each call, and each error that small inputs can cause, with archives that are
  * written out by hand. Prints the differences, and exits with 1 if there are any. The functions
- * of memory.h are here: they count the blocks, and let one request fail if a test asks for it. This
- * file is C99, and C++11 too. */
+ * of memory.h are here: they check their arguments, count the blocks, and let one request fail if a
+ * test asks for it. This file is C99, and C++11 too. */
 #include "rkyv.h"
 
 #include "memory.h"
@@ -12,33 +12,84 @@
 
 static int faults;
 
-/* The number of blocks that are not freed, the number of requests, and the request that fails. */
-static size_t blocks, requests, failing = SIZE_MAX;
-
-struct rattle_block rattle_alloc(size_t size, size_t align) {
-    void *block = requests++ == failing ? NULL : malloc(size != 0 ? size : align);
-    const struct rattle_block result = {block != NULL, block};
-    blocks += block != NULL;
-    return result;
-}
-
-struct rattle_block rattle_realloc(void *block, size_t kept, size_t size, size_t align) {
-    (void)kept;
-    void *grown = requests++ == failing ? NULL : realloc(block, size != 0 ? size : align);
-    const struct rattle_block result = {grown != NULL, grown};
-    return result;
-}
-
-void rattle_dealloc(void *block) {
-    blocks--;
-    free(block);
-}
-
 static void same(const char *what, uint64_t got, uint64_t wanted) {
     if (got != wanted) {
         faults++;
         printf("%s: %llu, not %llu\n", what, (unsigned long long)got, (unsigned long long)wanted);
     }
+}
+
+/* A block that is not freed, with the size and the alignment that were asked for. */
+struct request {
+    void *block;
+    size_t size;
+    size_t align;
+};
+
+/* The blocks that are not freed, and their number. */
+static struct request live[64];
+static size_t blocks;
+
+/* The number of requests, and the request that fails. */
+static size_t requests, failing = SIZE_MAX;
+
+/* Ends the program. */
+static void fail(const char *what) {
+    printf("%s\n", what);
+    exit(1);
+}
+
+/* Tests that memory.h allows a request of this size and alignment. */
+static void is_request(size_t size, size_t align) {
+    same("an alignment", align == 1 || align == 2 || align == 4 || align == 8 || align == 16, 1);
+    same("a multiple of the alignment", align != 0 && size % align == 0, 1);
+}
+
+/* The request of a block. */
+static struct request *request_of(void *block) {
+    size_t i = 0;
+    while (i < blocks && live[i].block != block) {
+        i++;
+    }
+    if (i == blocks) {
+        fail("a block that is not allocated");
+    }
+    return &live[i];
+}
+
+struct rattle_block rattle_alloc(size_t size, size_t align) {
+    is_request(size, align);
+    if (blocks == sizeof live / sizeof *live) {
+        fail("too many blocks for this test");
+    }
+    void *block = requests++ == failing ? NULL : malloc(size != 0 ? size : align);
+    const struct rattle_block result = {block != NULL, block};
+    const struct request request = {block, size, align};
+    if (block != NULL) {
+        live[blocks++] = request;
+    }
+    return result;
+}
+
+struct rattle_block rattle_realloc(void *block, size_t kept, size_t size, size_t align) {
+    struct request *request = request_of(block);
+    is_request(size, align);
+    same("the same alignment", align, request->align);
+    same("kept of the old block", kept <= request->size, 1);
+    same("kept in the new block", kept <= size, 1);
+    void *grown = requests++ == failing ? NULL : realloc(block, size != 0 ? size : align);
+    const struct rattle_block result = {grown != NULL, grown};
+    if (grown != NULL) {
+        request->block = grown;
+        request->size = size;
+    }
+    return result;
+}
+
+void rattle_dealloc(void *block) {
+    struct request *request = request_of(block);
+    *request = live[--blocks];
+    free(block);
 }
 
 static void returns(const char *what, rkyv_status got, rkyv_status wanted) {
