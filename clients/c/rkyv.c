@@ -715,41 +715,53 @@ rkyv_status rkyv_index_count(const rkyv_index_map *map, size_t *count) {
     return rkyv_map_count(map_of(map), count);
 }
 
-rkyv_status rkyv_map_get_number(const rkyv_map *map, uint32_t key, uint64_t *value) {
-    rkyv_status status = first(check_numbers(map, RKYV_NUMBER_TO_U32), check_output(value));
-    if (status == RKYV_OK) {
-        get_number *get = get_numbers[map->kind - RKYV_NUMBER_TO_U32][is_wide(map)];
-        status = (rkyv_status)get(map->bytes, map->length, &map->header, key, value);
+/* Stores a number that was found, unless the output is null. */
+static rkyv_status store_number(rkyv_status status, uint64_t found, uint64_t *value) {
+    if (status == RKYV_OK && value != NULL) {
+        *value = found;
     }
     return status;
 }
 
+rkyv_status rkyv_map_get_number(const rkyv_map *map, uint32_t key, uint64_t *value) {
+    uint64_t found = 0;
+    rkyv_status status = check_numbers(map, RKYV_NUMBER_TO_U32);
+    if (status == RKYV_OK) {
+        get_number *get = get_numbers[map->kind - RKYV_NUMBER_TO_U32][is_wide(map)];
+        status = (rkyv_status)get(map->bytes, map->length, &map->header, key, &found);
+    }
+    return store_number(status, found, value);
+}
+
 rkyv_status rkyv_map_get_long_number(const rkyv_map *map, uint64_t key, uint64_t *value) {
-    rkyv_status status = first(check_numbers(map, RKYV_LONG_NUMBER_TO_U32), check_output(value));
+    uint64_t found = 0;
+    rkyv_status status = check_numbers(map, RKYV_LONG_NUMBER_TO_U32);
     if (status == RKYV_OK) {
         get_long_number *get = get_long_numbers[map->kind - RKYV_LONG_NUMBER_TO_U32][is_wide(map)];
-        status = (rkyv_status)get(map->bytes, map->length, &map->header, key, value);
+        status = (rkyv_status)get(map->bytes, map->length, &map->header, key, &found);
     }
-    return status;
+    return store_number(status, found, value);
 }
 
 rkyv_status rkyv_map_get_text(const rkyv_map *map, const char *key, size_t length,
                               uint64_t *value) {
+    uint64_t found = 0;
     rkyv_status status = first(check_numbers(map, RKYV_TEXT_TO_U32), check_bytes(key, length));
-    status = first(status, check_output(value));
     if (status == RKYV_OK) {
         get_text *get = get_texts[map->kind - RKYV_TEXT_TO_U32][is_wide(map)];
         status = (rkyv_status)get(map->bytes, map->length, &map->header, bytes_of(key), length,
-                                  value);
+                                  &found);
     }
-    return status;
+    return store_number(status, found, value);
 }
 
-/* Stores a text that was found. */
+/* Stores a text that was found. An output that is null is not stored. */
 static rkyv_status store_text(rkyv_status status, text found, const char **value,
                               size_t *value_length) {
-    if (status == RKYV_OK) {
+    if (status == RKYV_OK && value != NULL) {
         *value = found.text;
+    }
+    if (status == RKYV_OK && value_length != NULL) {
         *value_length = found.length;
     }
     return status;
@@ -758,8 +770,7 @@ static rkyv_status store_text(rkyv_status status, text found, const char **value
 rkyv_status rkyv_map_get_text_of_number(const rkyv_map *map, uint32_t key, const char **value,
                                         size_t *value_length) {
     text found = {NO_TEXT, 0};
-    rkyv_status status = first(check_kind(map, RKYV_NUMBER_TO_TEXT), check_output(value));
-    status = first(status, check_output(value_length));
+    rkyv_status status = check_kind(map, RKYV_NUMBER_TO_TEXT);
     if (status == RKYV_OK) {
         get_text_of_number *get = get_texts_of_numbers[is_wide(map)];
         status = (rkyv_status)get(map->bytes, map->length, &map->header, key, &found);
@@ -770,8 +781,7 @@ rkyv_status rkyv_map_get_text_of_number(const rkyv_map *map, uint32_t key, const
 rkyv_status rkyv_map_get_text_of_long_number(const rkyv_map *map, uint64_t key, const char **value,
                                              size_t *value_length) {
     text found = {NO_TEXT, 0};
-    rkyv_status status = first(check_kind(map, RKYV_LONG_NUMBER_TO_TEXT), check_output(value));
-    status = first(status, check_output(value_length));
+    rkyv_status status = check_kind(map, RKYV_LONG_NUMBER_TO_TEXT);
     if (status == RKYV_OK) {
         get_text_of_long_number *get = get_texts_of_long_numbers[is_wide(map)];
         status = (rkyv_status)get(map->bytes, map->length, &map->header, key, &found);
@@ -783,7 +793,6 @@ rkyv_status rkyv_map_get_text_of_text(const rkyv_map *map, const char *key, size
                                       const char **value, size_t *value_length) {
     text found = {NO_TEXT, 0};
     rkyv_status status = first(check_kind(map, RKYV_TEXT_TO_TEXT), check_bytes(key, length));
-    status = first(first(status, check_output(value)), check_output(value_length));
     if (status == RKYV_OK) {
         get_text_of_text *get = get_texts_of_texts[is_wide(map)];
         status = (rkyv_status)get(map->bytes, map->length, &map->header, bytes_of(key), length,
@@ -820,16 +829,13 @@ rkyv_status rkyv_set_contains_text(const rkyv_map *set, const char *item, size_t
     return status;
 }
 
-/* Stores what a lookup in an index map found. */
+/* Stores the index and the number that were found. An output that is null is not stored. */
 static rkyv_status store_indexed(rkyv_status status, indexed found, size_t *index,
                                  uint64_t *value) {
     if (status == RKYV_OK && index != NULL) {
         *index = found.index;
     }
-    if (status == RKYV_OK && value != NULL) {
-        *value = found.value;
-    }
-    return status;
+    return store_number(status, found.value, value);
 }
 
 rkyv_status rkyv_index_get_number(const rkyv_index_map *map, uint32_t key, size_t *index,
@@ -870,19 +876,13 @@ rkyv_status rkyv_index_get_text(const rkyv_index_map *map, const char *key, size
     return store_indexed(status, found, index, value);
 }
 
-/* Stores what a lookup in an index map to texts found. */
+/* Stores the index and the text that were found. An output that is null is not stored. */
 static rkyv_status store_indexed_text(rkyv_status status, indexed_text found, size_t *index,
                                       const char **value, size_t *value_length) {
     if (status == RKYV_OK && index != NULL) {
         *index = found.index;
     }
-    if (status == RKYV_OK && value != NULL) {
-        *value = found.value.text;
-    }
-    if (status == RKYV_OK && value_length != NULL) {
-        *value_length = found.value.length;
-    }
-    return status;
+    return store_text(status, found.value, value, value_length);
 }
 
 rkyv_status rkyv_index_get_text_of_number(const rkyv_index_map *map, uint32_t key, size_t *index,

@@ -391,13 +391,11 @@ rkyv_status rkyv_map_width(const rkyv_map *map, uint32_t *width);
 rkyv_status rkyv_map_count(const rkyv_map *map, size_t *count);
 
 /* Stores the value of a number key. In a map that a call of this header has built, this is the value
- * of the first pair with the key.
+ * of the first pair with the key. `value` is not stored if it is null.
  *
  * Errors:
  *   - RKYV_NULL: `map` is null;
- *   - RKYV_CLOSED, RKYV_WRONG_KIND;
- *   - RKYV_NULL: `value` is null;
- *   - RKYV_NOT_FOUND. */
+ *   - RKYV_CLOSED, RKYV_WRONG_KIND, RKYV_NOT_FOUND. */
 rkyv_status rkyv_map_get_number(const rkyv_map *map, uint32_t key, uint64_t *value);
 
 /* Stores the value of a number key of 64 bits, as `rkyv_map_get_number` does. */
@@ -410,21 +408,18 @@ rkyv_status rkyv_map_get_long_number(const rkyv_map *map, uint64_t key, uint64_t
  *   - RKYV_NULL: `map` is null;
  *   - RKYV_CLOSED, RKYV_WRONG_KIND;
  *   - RKYV_NULL: `key` is null;
- *   - RKYV_TOO_LONG;
- *   - RKYV_NULL: `value` is null;
- *   - RKYV_NOT_TEXT, RKYV_NOT_FOUND. */
+ *   - RKYV_TOO_LONG, RKYV_NOT_TEXT, RKYV_NOT_FOUND. */
 rkyv_status rkyv_map_get_text(const rkyv_map *map, const char *key, size_t length,
                               uint64_t *value);
 
 /* Stores the value of a number key that is a text: the address of its first byte and its number of
  * bytes. They are bytes of the archive. They are not terminated by a zero byte, and may contain one.
  * In a map that `rkyv_build_number_texts` has built, it is the value of the first pair with the key.
+ * An output that is null is not stored.
  *
  * Errors:
  *   - RKYV_NULL: `map` is null;
- *   - RKYV_CLOSED, RKYV_WRONG_KIND;
- *   - RKYV_NULL: `value` or `value_length` is null;
- *   - RKYV_NOT_FOUND. */
+ *   - RKYV_CLOSED, RKYV_WRONG_KIND, RKYV_NOT_FOUND. */
 rkyv_status rkyv_map_get_text_of_number(const rkyv_map *map, uint32_t key, const char **value,
                                         size_t *value_length);
 
@@ -439,9 +434,7 @@ rkyv_status rkyv_map_get_text_of_long_number(const rkyv_map *map, uint64_t key, 
  *   - RKYV_NULL: `map` is null;
  *   - RKYV_CLOSED, RKYV_WRONG_KIND;
  *   - RKYV_NULL: `key` is null;
- *   - RKYV_TOO_LONG;
- *   - RKYV_NULL: `value` or `value_length` is null;
- *   - RKYV_NOT_TEXT, RKYV_NOT_FOUND. */
+ *   - RKYV_TOO_LONG, RKYV_NOT_TEXT, RKYV_NOT_FOUND. */
 rkyv_status rkyv_map_get_text_of_text(const rkyv_map *map, const char *key, size_t length,
                                       const char **value, size_t *value_length);
 

@@ -154,7 +154,9 @@ static void numbers(void) {
     returns("far behind the end", rkyv_map_next_number(&map, &pair), RKYV_END);
     returns("set", rkyv_map_set_number(&map, 1, 3), RKYV_READ_ONLY);
 
-    returns("get null", rkyv_map_get_number(&map, 1, NULL), RKYV_NULL);
+    returns("get no value", rkyv_map_get_number(&map, 1, NULL), RKYV_OK);
+    returns("get no value", rkyv_map_get_number(&map, 2, NULL), RKYV_NOT_FOUND);
+    returns("get no value of null", rkyv_map_get_number(NULL, 1, NULL), RKYV_NULL);
     returns("get of null", rkyv_map_get_number(NULL, 1, &value), RKYV_NULL);
     returns("count null", rkyv_map_count(&map, NULL), RKYV_NULL);
     returns("next null", rkyv_map_next_number(&map, NULL), RKYV_NULL);
@@ -187,6 +189,8 @@ static void texts(void) {
     returns("get", rkyv_map_get_text(&map, NULL, 0, &value), RKYV_OK);
     same("value", value, 7);
     returns("get another", rkyv_map_get_text(&map, "a", 1, &value), RKYV_NOT_FOUND);
+    returns("get no value", rkyv_map_get_text(&map, "", 0, NULL), RKYV_OK);
+    returns("get no value", rkyv_map_get_text(&map, "a", 1, NULL), RKYV_NOT_FOUND);
     returns("no text", rkyv_map_get_text(&map, "a\xff", 2, &value), RKYV_NOT_TEXT);
     returns("a text that is cut", rkyv_map_get_text(&map, "\xc3\xa9", 1, &value), RKYV_NOT_TEXT);
     returns("null", rkyv_map_get_text(&map, NULL, 1, &value), RKYV_NULL);
@@ -1074,6 +1078,14 @@ static void numbers_to_texts(void) {
     returns("get", rkyv_map_get_text_of_number(&map, 1, &value, &size), RKYV_OK);
     reads("the first value", value, size, "wonderful");
     same("of the archive", value == (const char *)bytes, 1);
+    value = "?";
+    size = 8;
+    returns("get a length", rkyv_map_get_text_of_number(&map, 1, NULL, &size), RKYV_OK);
+    same("length", size, 9);
+    returns("get a text", rkyv_map_get_text_of_number(&map, 1, &value, NULL), RKYV_OK);
+    reads("value", value, 9, "wonderful");
+    returns("get nothing", rkyv_map_get_text_of_number(&map, 1, NULL, NULL), RKYV_OK);
+    returns("get nothing", rkyv_map_get_text_of_number(&map, 2, NULL, NULL), RKYV_NOT_FOUND);
     returns("next", rkyv_map_next_number_text(&map, &pair), RKYV_OK);
     same("key", pair.key, 1);
     reads("value", pair.value, pair.value_length, "wonderful");
@@ -1102,8 +1114,6 @@ static void numbers_to_texts(void) {
     count = 9;
     returns("null", rkyv_map_get_text_of_number(NULL, 1, &value, &size), RKYV_NULL);
     returns("closed", rkyv_map_get_text_of_number(&closed, 1, &value, &size), RKYV_CLOSED);
-    returns("no value", rkyv_map_get_text_of_number(&map, 1, NULL, &size), RKYV_NULL);
-    returns("no length", rkyv_map_get_text_of_number(&map, 1, &value, NULL), RKYV_NULL);
     returns("a number", rkyv_map_get_number(&map, 1, &number), RKYV_WRONG_KIND);
     returns("a text", rkyv_map_get_text(&map, "", 0, &number), RKYV_WRONG_KIND);
     returns("a text key", rkyv_map_get_text_of_text(&map, "", 0, &value, &size), RKYV_WRONG_KIND);
@@ -1148,6 +1158,14 @@ static void texts_to_texts(void) {
     same("count", count, 1);
     returns("get", rkyv_map_get_text_of_text(&map, NULL, 0, &value, &size), RKYV_OK);
     reads("value", value, size, "wonderful");
+    value = "?";
+    size = 8;
+    returns("get a length", rkyv_map_get_text_of_text(&map, "", 0, NULL, &size), RKYV_OK);
+    same("length", size, 9);
+    returns("get a text", rkyv_map_get_text_of_text(&map, "", 0, &value, NULL), RKYV_OK);
+    reads("value", value, size, "wonderful");
+    returns("get nothing", rkyv_map_get_text_of_text(&map, "", 0, NULL, NULL), RKYV_OK);
+    returns("get nothing", rkyv_map_get_text_of_text(&map, "a", 1, NULL, NULL), RKYV_NOT_FOUND);
     returns("get another", rkyv_map_get_text_of_text(&map, "a", 1, &value, &size), RKYV_NOT_FOUND);
     returns("no text", rkyv_map_get_text_of_text(&map, "\xc3", 1, &value, &size), RKYV_NOT_TEXT);
     reads("kept", value, size, "wonderful");
@@ -1170,8 +1188,6 @@ static void texts_to_texts(void) {
     returns("no key", rkyv_map_get_text_of_text(&map, NULL, 1, &value, &size), RKYV_NULL);
     returns("too long", rkyv_map_get_text_of_text(&map, "", SIZE_MAX, &value, &size),
             RKYV_TOO_LONG);
-    returns("no value", rkyv_map_get_text_of_text(&map, "", 0, NULL, &size), RKYV_NULL);
-    returns("no length", rkyv_map_get_text_of_text(&map, "", 0, &value, NULL), RKYV_NULL);
     returns("a number", rkyv_map_get_text(&map, "", 0, &number), RKYV_WRONG_KIND);
     returns("a number key", rkyv_map_get_text_of_number(&map, 1, &value, &size), RKYV_WRONG_KIND);
     returns("set", rkyv_map_set_text(&map, "", 0, 1), RKYV_WRONG_KIND);
@@ -1805,7 +1821,8 @@ static void long_numbers(void) {
     count = 9;
     returns("null", rkyv_map_get_long_number(NULL, key, &value), RKYV_NULL);
     returns("closed", rkyv_map_get_long_number(&closed, key, &value), RKYV_CLOSED);
-    returns("no value", rkyv_map_get_long_number(&map, key, NULL), RKYV_NULL);
+    returns("get no value", rkyv_map_get_long_number(&map, key, NULL), RKYV_OK);
+    returns("get no value", rkyv_map_get_long_number(&map, 1, NULL), RKYV_NOT_FOUND);
     returns("a short key", rkyv_map_get_number(&map, 1, &value), RKYV_WRONG_KIND);
     returns("a short pair", rkyv_map_next_number(&map, &number), RKYV_WRONG_KIND);
     returns("read only", rkyv_map_set_long_number(&map, key, 1), RKYV_READ_ONLY);
@@ -2063,8 +2080,14 @@ static void long_numbers_to_texts(void) {
     same("none", count, 0);
     returns("null", rkyv_map_get_text_of_long_number(NULL, 1, &value, &size), RKYV_NULL);
     returns("closed", rkyv_map_get_text_of_long_number(&closed, 1, &value, &size), RKYV_CLOSED);
-    returns("no value", rkyv_map_get_text_of_long_number(&map, 1, NULL, &size), RKYV_NULL);
-    returns("no length", rkyv_map_get_text_of_long_number(&map, 1, &value, NULL), RKYV_NULL);
+    size = 8;
+    returns("get a length", rkyv_map_get_text_of_long_number(&map, GREAT, NULL, &size), RKYV_OK);
+    same("length", size, 9);
+    value = "?";
+    returns("get a text", rkyv_map_get_text_of_long_number(&map, GREAT, &value, NULL), RKYV_OK);
+    reads("value", value, size, "wonderful");
+    returns("get nothing", rkyv_map_get_text_of_long_number(&map, GREAT, NULL, NULL), RKYV_OK);
+    returns("get nothing", rkyv_map_get_text_of_long_number(&map, 1, NULL, NULL), RKYV_NOT_FOUND);
     returns("a short key", rkyv_map_get_text_of_number(&map, 1, &value, &size), RKYV_WRONG_KIND);
     returns("a short key", rkyv_map_next_number_text(&map, &number), RKYV_WRONG_KIND);
     returns("set", rkyv_map_set_long_number(&map, GREAT, 1), RKYV_WRONG_KIND);
