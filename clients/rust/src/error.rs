@@ -48,6 +48,38 @@ impl Error {
             _ => None,
         }
     }
+
+    /// The numbers of the error, or `None` if it has none. If it has one number, the second is 0.
+    ///
+    /// | [`ErrorKind`] | Numbers |
+    /// |---|---|
+    /// | `OutOfRange` | size in bytes of the part at the position |
+    /// | `Unaligned` | alignment of the part at the position |
+    /// | `InvalidLength` | number of pairs, number of buckets |
+    /// | `WrongNumberOfElements` | number of pairs, number of full buckets |
+    /// | `UnwrappedControlByte` | index of a control byte |
+    /// | `PlaceOutOfRange` | index in the table of an index map, number of pairs |
+    /// | `ContainerTooShort` | number of bytes |
+    /// | `UnsupportedVersion` to `NonzeroReserved` | the number in the header |
+    /// | `WrongCollection` to `WrongWidth` | the expected code, the code in the header |
+    /// | `WrongLength`, `WrongChecksum` | the number in the header, that of the archive |
+    ///
+    /// A number that does not fit in 64 bits is replaced by the nearest one that does. The errors of
+    /// building have no numbers.
+    ///
+    /// ```
+    /// use rkyv_maps::{Map, Width};
+    ///
+    /// let error = Map::<u32, u32>::open(&[0; 13], Width::Narrow).unwrap_err();
+    /// assert_eq!(error.numbers(), Some((4, 0)));
+    /// ```
+    pub fn numbers(&self) -> Option<(u64, u64)> {
+        use ErrorKind::{InvalidValue, WrongMagic};
+        match self.kind {
+            InvalidValue | WrongMagic => None,
+            _ => self.numbers.map(|numbers| (numbers.first, numbers.second)),
+        }
+    }
 }
 
 impl From<ErrorKind> for Error {

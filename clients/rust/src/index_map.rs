@@ -421,9 +421,24 @@ impl<'a, K: Key + ?Sized, V: Number> IndexMapMut<'a, K, V> {
         self.as_map().get_full(key)
     }
 
+    /// Returns the key and the value of a pair, as [`IndexMap::get_key_value`] does.
+    pub fn get_key_value(&self, key: &K) -> Option<(K::Ref<'_>, V)> {
+        self.as_map().get_key_value(key)
+    }
+
     /// Returns the pair at an index, as [`IndexMap::get_index`] does.
     pub fn get_index(&self, index: usize) -> Option<(K::Ref<'_>, V)> {
         self.as_map().get_index(index)
+    }
+
+    /// Returns the first pair, or `None` if the map has no pairs.
+    pub fn first(&self) -> Option<(K::Ref<'_>, V)> {
+        self.as_map().first()
+    }
+
+    /// Returns the last pair, or `None` if the map has no pairs.
+    pub fn last(&self) -> Option<(K::Ref<'_>, V)> {
+        self.as_map().last()
     }
 
     /// Returns the value of a key, as [`IndexMap::at`] does.

@@ -423,23 +423,26 @@ fn errors_of_containers_have_numbers() {
         .build(Width::Narrow)
         .unwrap();
     let container = archive.to_container(Checksum::None);
-    let ends_with = |error: Error, end: &str| {
+    let has = |error: Error, numbers: Option<(u64, u64)>, end: &str| {
         let text = error.to_string();
         assert!(text.ends_with(end), "{text}");
-        assert_eq!(error.position(), None);
+        assert_eq!((error.position(), error.numbers()), (None, numbers));
     };
     let types = Map::<u32, u64>::open_container(&container).unwrap_err();
-    ends_with(types, " (expected 24, found 20)");
+    has(types, Some((24, 20)), " (expected 24, found 20)");
     let width = Map::<u32, u32>::open_container_with_width(&container, Width::Wide);
-    ends_with(width.unwrap_err(), " (expected 8, found 4)");
+    has(width.unwrap_err(), Some((8, 4)), " (expected 8, found 4)");
     let cut = Map::<u32, u32>::open_container(&container[..31]).unwrap_err();
-    ends_with(cut, " (31 bytes)");
+    has(cut, Some((31, 0)), " (31 bytes)");
     let mut damaged = container.clone();
     damaged[8] = 2;
     let version = Map::<u32, u32>::open_container(&damaged).unwrap_err();
-    ends_with(version, " (2)");
+    has(version, Some((2, 0)), " (2)");
+    damaged[0] = 0;
+    let magic = Map::<u32, u32>::open_container(&damaged).unwrap_err();
+    has(magic, None, " are not those of a container");
     let mut longer = container.clone();
     longer.push(0);
     let length = MapMut::<u32, u32>::open_container(&mut longer).unwrap_err();
-    ends_with(length, " (expected 60, found 61)");
+    has(length, Some((60, 61)), " (expected 60, found 61)");
 }

@@ -167,6 +167,9 @@ fn empty_maps_have_no_pairs() {
         let map = archive.open();
         assert!(map.is_empty() && map.iter().next().is_none());
         assert_eq!((map.get(&1), map.first(), map.last()), (None, None, None));
+        let mut archive = archive;
+        let map = archive.open_mut();
+        assert_eq!((map.get(&1), map.first(), map.last()), (None, None, None));
     }
 }
 
@@ -183,8 +186,8 @@ fn invalid_bytes_fail() {
     assert_eq!(error_of(21, 0x29).kind(), ErrorKind::UnwrappedControlByte);
     let error = error_of(0, 3);
     assert_eq!(
-        (error.kind(), error.position()),
-        (ErrorKind::PlaceOutOfRange, None)
+        (error.kind(), error.position(), error.numbers()),
+        (ErrorKind::PlaceOutOfRange, None, Some((3, 3)))
     );
     assert_eq!(
         error.to_string(),
@@ -256,6 +259,14 @@ fn values_are_written_in_place() {
     assert_eq!((map.set(&1, u32::MAX), map.set(&2, 3)), (true, false));
     assert_eq!((map.get(&1), map.at(&5)), (Some(u32::MAX), 6));
     assert_eq!(map.get_full(&1), Some((0, 1, u32::MAX)));
+    assert_eq!(
+        (map.get_key_value(&5), map.get_key_value(&2)),
+        (Some((5, 6)), None)
+    );
+    assert_eq!(
+        (map.first(), map.last()),
+        (Some((1, u32::MAX)), Some((1, 9)))
+    );
     assert_eq!(
         (map.get_index_of(&5), map.get_index(2)),
         (Some(1), Some((1, 9)))

@@ -172,25 +172,34 @@ fn errors_have_a_position_and_numbers() {
         Map::<u32, u32>::open(&bytes, Width::Narrow).unwrap_err()
     };
     let empty = Map::<u32, u32>::open(&[], Width::Narrow).unwrap_err();
-    assert_eq!(empty.position(), Some(-12));
+    assert_eq!(
+        (empty.position(), empty.numbers()),
+        (Some(-12), Some((12, 0)))
+    );
     assert!(empty.to_string().ends_with(" (position -12, 12 bytes)"));
     let unaligned = error_of(48, 0xe1);
-    assert_eq!(unaligned.position(), Some(1));
+    assert_eq!(
+        (unaligned.position(), unaligned.numbers()),
+        (Some(1), Some((4, 0)))
+    );
     assert!(unaligned
         .to_string()
         .ends_with(" (position 1, alignment 4)"));
     let length = error_of(52, 2);
-    assert_eq!(length.position(), None);
+    assert_eq!((length.position(), length.numbers()), (None, Some((2, 2))));
     assert!(length.to_string().ends_with(" (2 pairs, 2 buckets)"));
-    let number = error_of(17, 0xff).to_string();
-    assert!(number.ends_with(" (1 pairs, 0 full buckets)"));
-    let control = error_of(19, 0xff).to_string();
-    assert!(control.ends_with(" (index 3)"));
+    let number = error_of(17, 0xff);
+    assert_eq!(number.numbers(), Some((1, 0)));
+    assert!(number.to_string().ends_with(" (1 pairs, 0 full buckets)"));
+    let control = error_of(19, 0xff);
+    assert_eq!(control.numbers(), Some((3, 0)));
+    assert!(control.to_string().ends_with(" (index 3)"));
     let mut bytes = empty_to_seven();
     bytes[0] = 0xc3;
     let text = MapMut::<str, u64>::open(&mut bytes, Width::Wide).unwrap_err();
-    assert_eq!(text.position(), Some(0));
+    assert_eq!((text.position(), text.numbers()), (Some(0), None));
     assert!(text.to_string().ends_with(" (position 0)"));
+    assert_eq!(Error::from(ErrorKind::NoMemory).numbers(), None);
 }
 
 #[test]
