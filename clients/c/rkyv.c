@@ -7,6 +7,11 @@
 #include <stdbool.h>
 #include <string.h>
 
+/* The library is compiled for types of these sizes. If one has another size, as by the option
+ * -fshort-enums, this array has a negative size, which is an error. */
+typedef char needs_a_64_bit_abi
+    [sizeof(size_t) == 8 && sizeof(bool) == 1 && sizeof(rkyv_status) == 4 ? 1 : -1];
+
 /* The bytes of an archive that the library has built. */
 typedef struct built {
     uint8_t *bytes;

@@ -99,6 +99,36 @@ static void returns(const char *what, rkyv_status got, rkyv_status wanted) {
     }
 }
 
+/* The sizes of the structs of rkyv.h, which the static library and the Rust crate have too. */
+static void sizes(void) {
+    same("table header", sizeof(rkyv_table_header), 40);
+    same("map", sizeof(rkyv_map), 72);
+    same("index map", sizeof(rkyv_index_map), 72);
+    same("error", sizeof(rkyv_error), 32);
+    same("pair", sizeof(rkyv_number_pair), 24);
+    same("pair", sizeof(rkyv_long_number_pair), 24);
+    same("pair", sizeof(rkyv_text_pair), 32);
+    same("pair", sizeof(rkyv_number_text_pair), 32);
+    same("pair", sizeof(rkyv_long_number_text_pair), 32);
+    same("pair", sizeof(rkyv_text_text_pair), 40);
+    same("member", sizeof(rkyv_number_member), 16);
+    same("member", sizeof(rkyv_long_number_member), 16);
+    same("member", sizeof(rkyv_text_member), 24);
+    same("index pair", sizeof(rkyv_index_number_pair), 16);
+    same("index pair", sizeof(rkyv_index_long_number_pair), 16);
+    same("index pair", sizeof(rkyv_index_text_pair), 24);
+    same("index pair", sizeof(rkyv_index_number_text_pair), 24);
+    same("index pair", sizeof(rkyv_index_long_number_text_pair), 24);
+    same("index pair", sizeof(rkyv_index_text_text_pair), 32);
+    same("item", sizeof(rkyv_number_item), 16);
+    same("item", sizeof(rkyv_long_number_item), 16);
+    same("item", sizeof(rkyv_text_item), 24);
+    same("item", sizeof(rkyv_number_text_item), 24);
+    same("item", sizeof(rkyv_long_number_text_item), 24);
+    same("item", sizeof(rkyv_text_text_item), 32);
+    same("item", sizeof(rkyv_set_text), 16);
+}
+
 /* The map of the number 1 to 2: the eight bytes of the pair, an empty bucket of zeros, 31 control
  * bytes, and the header. The hash of 1 is 517cc1b727220a95. It is odd, so the pair is in bucket 1
  * of two, which comes first in the bytes. The tag of the hash is 28. */
@@ -2368,6 +2398,7 @@ static void indexed_texts_to_texts(void) {
 }
 
 int main(void) {
+    sizes();
     numbers();
     texts();
     overlapping_keys();

@@ -123,6 +123,18 @@ pub struct RawError {
     pub second: u64,
 }
 
+// The sizes of the structs of the header, which `../c/test.c` tests too.
+const _: () = {
+    assert!(size_of::<RawTableHeader>() == 40 && size_of::<RawMap>() == 72);
+    assert!(size_of::<RawText>() == 16 && size_of::<RawError>() == 32);
+    assert!(size_of::<Pair<u64, u32>>() == 16 && size_of::<Pair<u64, RawText>>() == 24);
+    assert!(size_of::<Pair<RawText, u32>>() == 24 && size_of::<Pair<RawText, RawText>>() == 32);
+    assert!(size_of::<Pair<(), u32>>() == 4 && size_of::<Pair<(), RawText>>() == 16);
+    assert!(size_of::<Step<Pair<u64, u32>>>() == 24 && size_of::<Step<Pair<(), u32>>>() == 16);
+    assert!(size_of::<Step<Pair<RawText, RawText>>>() == 40);
+    assert!(size_of::<Indexed<u64>>() == 16 && size_of::<Indexed<RawText>>() == 24);
+};
+
 pub const OK: u32 = 0;
 pub const NOT_FOUND: u32 = 1;
 pub const UNKNOWN_CODES: u32 = 7;
