@@ -6,8 +6,11 @@
  * item of a set is a line with a space in front. A line has at most 65,535 bytes, and none is zero.
  * A key of 32 bits is taken modulo 4294967296. The file has the archive, or its container with a
  * checksum. The last status is printed. It is RKYV_TOO_LONG for a longer line, or for more than 2,048
- * lines if no builder is used. The file is written only if it is RKYV_OK. If the lines can't be read
- * or the file can't be written, the program exits with 1. */
+ * lines if no builder is used. The file is written only if it is RKYV_OK. One that can't be written
+ * whole is left in part.
+ *
+ * The program exits with 1 if the lines can't be read or the file can't be written, with 2 if the
+ * arguments are wrong, and else with 0. */
 #include "rkyv.h"
 
 #include <stdio.h>
@@ -68,9 +71,12 @@ static rkyv_status put(rkyv_builder *builder, uint32_t kind, char *line) {
 static int written(const char *path, const uint8_t *header, size_t header_length,
                    const uint8_t *bytes, size_t length) {
     FILE *file = fopen(path, "wb");
-    size_t count = file != NULL ? fwrite(header, 1, header_length, file) : 0;
-    count += file != NULL ? fwrite(bytes, 1, length, file) : 0;
-    return file != NULL && fclose(file) == 0 && count == header_length + length;
+    if (file == NULL) {
+        return 0;
+    }
+    size_t count = fwrite(header, 1, header_length, file);
+    count += fwrite(bytes, 1, length, file);
+    return fclose(file) == 0 && count == header_length + length;
 }
 
 /* Builds the archive of the pairs of all lines by a builder. */

@@ -7,8 +7,10 @@
  * command is a line `get KEY`, `set KEY VALUE`, `count` or `list`, and for an index map `at INDEX`.
  * Each but `list` prints its status and, if that is RKYV_OK, its result on a line. `list` prints a line
  * for each pair. An unknown command prints RKYV_NOT_FOUND. A key of 32 bits is taken modulo
- * 4294967296. `set` writes numbers, and doesn't change the file. If the file can't be read, the program
- * exits with 1. */
+ * 4294967296. `set` writes numbers, and doesn't change the file.
+ *
+ * The program exits with 1 if the file can't be read, with 2 if the arguments are wrong, and else with
+ * 0. */
 #include "rkyv.h"
 
 #include <stdio.h>
