@@ -327,7 +327,7 @@ rkyv_status rkyv_container_explain(const void *bytes, size_t length, uint32_t ki
                                    rkyv_error *error);
 
 /* Validates the bytes and opens the map whose archive they are, to read. `kind` is a `rkyv_kind` of
- * hash maps, `width` is 32 or 64. `bytes` may be null if `length` is 0.
+ * hash maps or sets, `width` is 32 or 64. `bytes` may be null if `length` is 0.
  *
  * Errors, after which the handle is not of an open map:
  *   - RKYV_NULL: `map` is null;
@@ -865,7 +865,8 @@ typedef struct rkyv_long_number_item {
     uint64_t key;
 } rkyv_long_number_item;
 
-/* A pair with a text key of `key_length` bytes that is to be archived. `key` is not null. */
+/* A pair with a text key of `key_length` bytes that is to be archived. `key` is not null, also for an
+ * empty text: pass "". */
 typedef struct rkyv_text_item {
     uint64_t value;
     const char *key;
@@ -905,21 +906,24 @@ rkyv_status rkyv_build_long_numbers(const rkyv_long_number_item *items, size_t c
 rkyv_status rkyv_build_texts(const rkyv_text_item *items, size_t count, uint32_t kind,
                              uint32_t width, uint8_t **bytes, size_t *length);
 
-/* A pair of a number and a text that is to be archived. `value` is not null. */
+/* A pair of a number and a text that is to be archived. `value` is not null, also for an empty text:
+ * pass "". */
 typedef struct rkyv_number_text_item {
     const char *value;
     size_t value_length;
     uint32_t key;
 } rkyv_number_text_item;
 
-/* A pair of a number of 64 bits and a text that is to be archived. `value` is not null. */
+/* A pair of a number of 64 bits and a text that is to be archived. `value` is not null, also for an
+ * empty text: pass "". */
 typedef struct rkyv_long_number_text_item {
     const char *value;
     size_t value_length;
     uint64_t key;
 } rkyv_long_number_text_item;
 
-/* A pair of two texts that is to be archived. `key` and `value` are not null. */
+/* A pair of two texts that is to be archived. `key` and `value` are not null, also for empty texts:
+ * pass "". */
 typedef struct rkyv_text_text_item {
     const char *value;
     size_t value_length;
@@ -984,7 +988,8 @@ rkyv_status rkyv_build_number_set(const uint32_t *items, size_t count, uint32_t 
 rkyv_status rkyv_build_long_number_set(const uint64_t *items, size_t count, uint32_t width,
                                        uint8_t **bytes, size_t *length);
 
-/* A text of `length` bytes that is to be archived in a set. `text` is not null. */
+/* A text of `length` bytes that is to be archived in a set. `text` is not null, also for an empty text:
+ * pass "". */
 typedef struct rkyv_set_text {
     const char *text;
     size_t length;
