@@ -4,7 +4,9 @@
 //! leaves it, in `../../crates/ffi_rkyv/out`. If it isn't there, `cargo check`, `cargo clippy` and
 //! `cargo doc` work, building fails, and a warning says how to give the path.
 //!
-//! `CC` and `AR` are the C compiler and the archiver, `cc` and `ar` by default.
+//! `CC` and `AR` are the commands of the C compiler and the archiver, `cc` and `ar` by default.
+//! `CFLAGS` has options of the compiler. The words of each are separated by spaces. A build for
+//! another target than this machine needs `CC`.
 
 use std::env;
 use std::fmt::Display;
@@ -26,10 +28,36 @@ fn run(command: &mut Command) {
     }
 }
 
-/// The program that the variable names, or the default one.
-fn program(variable: &str, default: &str) -> Command {
+/// The words of an environment variable. There are none if it isn't set.
+fn words(variable: &str) -> Vec<String> {
     println!("cargo::rerun-if-env-changed={variable}");
-    Command::new(env::var_os(variable).unwrap_or_else(|| default.into()))
+    match env::var(variable) {
+        Ok(text) => text.split_whitespace().map(String::from).collect(),
+        Err(env::VarError::NotPresent) => Vec::new(),
+        Err(error) => fail(format_args!("{variable}: {error}")),
+    }
+}
+
+/// The command in the variable, or the default one.
+fn command(variable: &str, default: &str) -> Command {
+    let words = words(variable);
+    let (program, arguments) = match words.split_first() {
+        Some((program, arguments)) => (program.as_str(), arguments),
+        None => (default, &[][..]),
+    };
+    let mut command = Command::new(program);
+    command.args(arguments);
+    command
+}
+
+/// Fails if the default compiler would compile for another target than that of the crate.
+fn check_target() {
+    let target = env::var("TARGET").unwrap();
+    if target != env::var("HOST").unwrap() && words("CC").is_empty() {
+        fail(format_args!(
+            "the target is {target}: set CC to the command of a C compiler for it, and AR if needed"
+        ));
+    }
 }
 
 /// The library's absolute path, or `None` if it isn't given and isn't built.
@@ -52,8 +80,9 @@ fn library(here: &Path) -> Option<PathBuf> {
 
 /// Compiles the C functions to a static library in `out`.
 fn compile(sources: &Path, out: &Path) {
+    check_target();
     let archive = out.join("librkyv_calls.a");
-    let mut archiver = program("AR", "ar");
+    let mut archiver = command("AR", "ar");
     archiver.arg("crs").arg(&archive);
     for name in ["rkyv", "memory"] {
         let source = sources.join(name).with_extension("c");
@@ -63,9 +92,10 @@ fn compile(sources: &Path, out: &Path) {
             "cargo::rerun-if-changed={}",
             source.with_extension("h").display()
         );
-        let mut compiler = program("CC", "cc");
-        compiler.args(["-std=c11", "-O2", "-fPIC", "-c"]);
-        run(compiler.arg(&source).arg("-o").arg(&object));
+        let mut compiler = command("CC", "cc");
+        compiler.args(["-std=c11", "-O2", "-fPIC"]);
+        compiler.args(words("CFLAGS"));
+        run(compiler.arg("-c").arg(&source).arg("-o").arg(&object));
         archiver.arg(&object);
     }
     let _ = std::fs::remove_file(&archive);
