@@ -164,7 +164,7 @@ static void numbers(void) {
     uint8_t bytes[64];
     size_t length = one_to_two(bytes), count = 9;
     uint64_t value = 9;
-    rkyv_map map;
+    rkyv_map map, closed = {NULL, NULL, 0, 0, 0, {0, 0, 0, 0, 0}};
     rkyv_number_pair pair = {0, 0, 0};
     rkyv_text_pair text = {0, 0, NULL, 0};
 
@@ -193,6 +193,8 @@ static void numbers(void) {
     returns("get a text", rkyv_map_get_text(&map, "a", 1, &value), RKYV_WRONG_KIND);
     returns("next text", rkyv_map_next_text(&map, &text), RKYV_WRONG_KIND);
     returns("set a text", rkyv_map_set_text(&map, "a", 1, 2), RKYV_WRONG_KIND);
+    returns("set of null", rkyv_map_set_number(NULL, 1, 3), RKYV_NULL);
+    returns("set of no map", rkyv_map_set_number(&closed, 1, 3), RKYV_CLOSED);
 
     returns("open to write", rkyv_map_open_writable(bytes, length, RKYV_NUMBER_TO_U32, 32, &map),
             RKYV_OK);
@@ -210,7 +212,7 @@ static void texts(void) {
     uint8_t bytes[104];
     size_t length = empty_to_seven(bytes), count = 9;
     uint64_t value = 9;
-    rkyv_map map;
+    rkyv_map map, closed = {NULL, NULL, 0, 0, 0, {0, 0, 0, 0, 0}};
     rkyv_text_pair pair = {0, 0, NULL, 9};
 
     returns("open", rkyv_map_open_writable(bytes, length, RKYV_TEXT_TO_U64, 64, &map), RKYV_OK);
@@ -228,6 +230,9 @@ static void texts(void) {
     returns("set no text", rkyv_map_set_text(&map, "\x80", 1, 8), RKYV_NOT_TEXT);
     returns("set another", rkyv_map_set_text(&map, "b", 1, 8), RKYV_NOT_FOUND);
     returns("set too long", rkyv_map_set_text(&map, "b", SIZE_MAX, 8), RKYV_TOO_LONG);
+    returns("set null", rkyv_map_set_text(&map, NULL, 1, 8), RKYV_NULL);
+    returns("set of null", rkyv_map_set_text(NULL, "", 0, 8), RKYV_NULL);
+    returns("set of no map", rkyv_map_set_text(&closed, "", 0, 8), RKYV_CLOSED);
     returns("set", rkyv_map_set_text(&map, "", 0, UINT64_MAX), RKYV_OK);
     returns("next", rkyv_map_next_text(&map, &pair), RKYV_OK);
     same("no key", pair.key_length, 0);
@@ -237,6 +242,13 @@ static void texts(void) {
     returns("next null", rkyv_map_next_text(&map, NULL), RKYV_NULL);
     returns("a number", rkyv_map_get_number(&map, 1, &value), RKYV_WRONG_KIND);
     returns("set a number", rkyv_map_set_number(&map, 1, 1), RKYV_WRONG_KIND);
+
+    returns("open", rkyv_map_open(bytes, length, RKYV_TEXT_TO_U64, 64, &map), RKYV_OK);
+    returns("set", rkyv_map_set_text(&map, "", 0, 8), RKYV_READ_ONLY);
+    length = empty_to_seven(bytes);
+    returns("open", rkyv_map_open_writable(bytes, length, RKYV_TEXT_TO_U32, 64, &map), RKYV_OK);
+    returns("set too much", rkyv_map_set_text(&map, "", 0, 1ull << 32), RKYV_VALUE_TOO_LARGE);
+    same("kept", bytes[16], 7);
 }
 
 /* A write fails with a key that has a byte of the archive, and changes no byte. */
@@ -839,6 +851,7 @@ static void built_numbers(void) {
     returns("new", rkyv_builder_new(RKYV_NUMBER_TO_U32, 32, &builder), RKYV_OK);
     returns("put too much", rkyv_builder_put_number(builder, 1, 1ull << 32), RKYV_VALUE_TOO_LARGE);
     returns("put a text", rkyv_builder_put_text(builder, "a", 1, 2), RKYV_WRONG_KIND);
+    returns("put a long number", rkyv_builder_put_long_number(builder, 1, 2), RKYV_WRONG_KIND);
     makes(builder, empty, sizeof empty);
     returns("put", rkyv_builder_put_number(builder, 1, 2), RKYV_OK);
     makes(builder, wanted, length);
@@ -872,6 +885,7 @@ static void built_texts(void) {
     returns("new", rkyv_builder_new(RKYV_TEXT_TO_U32, 32, &builder), RKYV_OK);
     returns("put too much", rkyv_builder_put_text(builder, "a", 1, 1ull << 32),
             RKYV_VALUE_TOO_LARGE);
+    returns("put a long number", rkyv_builder_put_long_number(builder, 1, 2), RKYV_WRONG_KIND);
     rkyv_builder_free(builder);
     same("blocks", blocks, 0);
 }
@@ -1301,26 +1315,71 @@ static void built_to_texts(void) {
     same("blocks", blocks, 0);
 }
 
-/* Each request of memory fails in turn, and then the build. */
-static void failing_builds_to_texts(void) {
-    const rkyv_text_text_item texts[] = {{"wonderful", 9, "", 0}, {"b", 1, "a", 1}};
-    uint8_t *bytes = NULL;
-    size_t length = 9, all;
-    requests = 0;
-    returns("build", rkyv_build_text_texts(texts, 2, RKYV_TEXT_TO_TEXT, 32, &bytes, &length),
-            RKYV_OK);
-    all = requests;
-    rkyv_bytes_free(bytes);
-    bytes = NULL;
-    for (size_t one = 0; one < all; one++) {
-        requests = 0;
-        failing = one;
-        returns("fail", rkyv_build_text_texts(texts, 2, RKYV_TEXT_TO_TEXT, 32, &bytes, &length),
-                RKYV_NO_MEMORY);
-        same("none", bytes == NULL, 1);
-        same("blocks", blocks, 0);
+/* The number of cases of `build_case`. */
+#define BUILDS 15
+
+/* Builds a small archive by one call: each call that builds is a case, of hash maps and of index
+ * maps. */
+static rkyv_status build_case(size_t index, uint8_t **bytes, size_t *length) {
+    const rkyv_number_item numbers[] = {{2, 1}, {6, 5}};
+    const rkyv_long_number_item long_numbers[] = {{2, 1}, {6, 5}};
+    const rkyv_text_item texts[] = {{2, "a key that is out of line", 25}, {3, "", 0}};
+    const rkyv_number_text_item number_texts[] = {{"wonderful", 9, 1}, {"x", 1, 5}};
+    const rkyv_long_number_text_item long_number_texts[] = {{"wonderful", 9, 1}, {"x", 1, 5}};
+    const rkyv_text_text_item text_texts[] = {{"wonderful", 9, "", 0}, {"b", 1, "a", 1}};
+    const uint32_t set_numbers[] = {1, 5};
+    const uint64_t set_long_numbers[] = {1, 5};
+    const rkyv_set_text set_texts[] = {{"wonderful", 9}, {"x", 1}};
+    switch (index) {
+    case 0: return rkyv_build_numbers(numbers, 2, RKYV_NUMBER_TO_U32, 32, bytes, length);
+    case 1: return rkyv_build_numbers(numbers, 2, RKYV_INDEX_NUMBER_TO_U64, 64, bytes, length);
+    case 2:
+        return rkyv_build_long_numbers(long_numbers, 2, RKYV_LONG_NUMBER_TO_U64, 64, bytes, length);
+    case 3:
+        return rkyv_build_long_numbers(long_numbers, 2, RKYV_INDEX_LONG_NUMBER_TO_U32, 32, bytes,
+                                       length);
+    case 4: return rkyv_build_texts(texts, 2, RKYV_TEXT_TO_U32, 32, bytes, length);
+    case 5: return rkyv_build_texts(texts, 2, RKYV_INDEX_TEXT_TO_U64, 64, bytes, length);
+    case 6: return rkyv_build_number_texts(number_texts, 2, RKYV_NUMBER_TO_TEXT, 64, bytes, length);
+    case 7:
+        return rkyv_build_number_texts(number_texts, 2, RKYV_INDEX_NUMBER_TO_TEXT, 32, bytes,
+                                       length);
+    case 8:
+        return rkyv_build_long_number_texts(long_number_texts, 2, RKYV_LONG_NUMBER_TO_TEXT, 32,
+                                            bytes, length);
+    case 9:
+        return rkyv_build_long_number_texts(long_number_texts, 2, RKYV_INDEX_LONG_NUMBER_TO_TEXT,
+                                            64, bytes, length);
+    case 10: return rkyv_build_text_texts(text_texts, 2, RKYV_TEXT_TO_TEXT, 32, bytes, length);
+    case 11:
+        return rkyv_build_text_texts(text_texts, 2, RKYV_INDEX_TEXT_TO_TEXT, 64, bytes, length);
+    case 12: return rkyv_build_number_set(set_numbers, 2, 32, bytes, length);
+    case 13: return rkyv_build_long_number_set(set_long_numbers, 2, 64, bytes, length);
+    default: return rkyv_build_text_set(set_texts, 2, 32, bytes, length);
     }
-    failing = SIZE_MAX;
+}
+
+/* Each request of memory fails in turn, and then the build. */
+static void failing_builds(void) {
+    for (size_t index = 0; index < BUILDS; index++) {
+        uint8_t *bytes = NULL;
+        size_t length = 9;
+        requests = 0;
+        returns("build", build_case(index, &bytes, &length), RKYV_OK);
+        const size_t all = requests;
+        same("some requests", all > 0, 1);
+        rkyv_bytes_free(bytes);
+        bytes = NULL;
+        length = 9;
+        for (size_t one = 0; one < all; one++) {
+            requests = 0;
+            failing = one;
+            returns("fail", build_case(index, &bytes, &length), RKYV_NO_MEMORY);
+            same("kept", bytes == NULL && length == 9, 1);
+            same("blocks", blocks, 0);
+        }
+        failing = SIZE_MAX;
+    }
 }
 
 /* The container of a map to texts opens as its own kind and width alone. */
@@ -1860,6 +1919,7 @@ static void long_numbers(void) {
     returns("of null", rkyv_map_next_long_number(NULL, &pair), RKYV_NULL);
     returns("closed", rkyv_map_next_long_numbers(&closed, 0, pairs, 2, &count), RKYV_CLOSED);
     returns("to null", rkyv_map_next_long_numbers(&map, 0, NULL, 1, &count), RKYV_NULL);
+    returns("no count", rkyv_map_next_long_numbers(&map, 0, pairs, 1, NULL), RKYV_NULL);
     returns("too many", rkyv_map_next_long_numbers(&map, 0, pairs, SIZE_MAX, &count),
             RKYV_TOO_LONG);
     same("kept", count, 9);
@@ -2054,6 +2114,7 @@ static void long_number_sets(void) {
     returns("next null", rkyv_set_next_long_number(&set, NULL), RKYV_NULL);
     returns("of null", rkyv_set_next_long_number(NULL, &member), RKYV_NULL);
     returns("to null", rkyv_set_next_long_numbers(&set, 0, NULL, 1, &count), RKYV_NULL);
+    returns("no count", rkyv_set_next_long_numbers(&set, 0, members, 1, NULL), RKYV_NULL);
     returns("too many", rkyv_set_next_long_numbers(&set, 0, members, SIZE_MAX, &count),
             RKYV_TOO_LONG);
 
@@ -2122,7 +2183,12 @@ static void long_numbers_to_texts(void) {
     returns("a short key", rkyv_map_next_number_text(&map, &number), RKYV_WRONG_KIND);
     returns("set", rkyv_map_set_long_number(&map, GREAT, 1), RKYV_WRONG_KIND);
     returns("next null", rkyv_map_next_long_number_text(&map, NULL), RKYV_NULL);
+    count = 9;
     returns("to null", rkyv_map_next_long_number_texts(&map, 0, NULL, 1, &count), RKYV_NULL);
+    returns("no count", rkyv_map_next_long_number_texts(&map, 0, pairs, 1, NULL), RKYV_NULL);
+    returns("too many", rkyv_map_next_long_number_texts(&map, 0, pairs, SIZE_MAX, &count),
+            RKYV_TOO_LONG);
+    same("kept", count, 9);
 
     returns("build", rkyv_build_long_number_texts(items, 1, kind, 32, &built, &count), RKYV_OK);
     is_built("a map", built, count, bytes, length);
@@ -2178,7 +2244,12 @@ static void indexed_long_numbers(void) {
     returns("a short key", rkyv_index_get_number(&map, 1, &index, &value), RKYV_WRONG_KIND);
     returns("a short key", rkyv_index_number_at(&map, 0, &number), RKYV_WRONG_KIND);
     returns("at null", rkyv_index_long_number_at(&map, 0, NULL), RKYV_NULL);
+    returns("no room", rkyv_index_long_numbers_from(&map, 0, NULL, 0, &count), RKYV_OK);
+    same("none", count, 0);
     returns("to null", rkyv_index_long_numbers_from(&map, 0, NULL, 1, &count), RKYV_NULL);
+    returns("no count", rkyv_index_long_numbers_from(&map, 0, pairs, 1, NULL), RKYV_NULL);
+    returns("too many", rkyv_index_long_numbers_from(&map, 0, pairs, SIZE_MAX, &count),
+            RKYV_TOO_LONG);
     returns("read only", rkyv_index_set_long_number(&map, GREAT, 1), RKYV_READ_ONLY);
 
     returns("build", rkyv_build_long_numbers(items, 1, kind, 32, &built, &count), RKYV_OK);
@@ -2197,6 +2268,9 @@ static void indexed_long_numbers(void) {
     returns("set", rkyv_index_set_long_number(&map, GREAT, UINT64_MAX), RKYV_OK);
     returns("get", rkyv_index_get_long_number(&map, GREAT, &index, &value), RKYV_OK);
     same("written", index == 0 && value == UINT64_MAX, 1);
+    returns("write", rkyv_index_open_writable(bytes, length, kind, 32, &map), RKYV_OK);
+    returns("set too much", rkyv_index_set_long_number(&map, GREAT, 1ull << 32),
+            RKYV_VALUE_TOO_LARGE);
     returns("set a short key", rkyv_index_set_number(&map, 1, 1), RKYV_WRONG_KIND);
     returns("set null", rkyv_index_set_long_number(NULL, 1, 1), RKYV_NULL);
     returns("set closed", rkyv_index_set_long_number(&closed, 1, 1), RKYV_CLOSED);
@@ -2258,8 +2332,15 @@ static void written_indexed(void) {
     returns("set null", rkyv_index_set_text(&map, NULL, 1, 1), RKYV_NULL);
     returns("set too long", rkyv_index_set_text(&map, "a", SIZE_MAX, 1), RKYV_TOO_LONG);
     returns("a number", rkyv_index_set_number(&map, 1, 1), RKYV_WRONG_KIND);
+    returns("of null", rkyv_index_set_text(NULL, "", 0, 1), RKYV_NULL);
+    returns("set closed", rkyv_index_set_text(&closed, "", 0, 1), RKYV_CLOSED);
     returns("open", rkyv_index_open(bytes, length, RKYV_INDEX_TEXT_TO_U64, 64, &map), RKYV_OK);
     returns("read only", rkyv_index_set_text(&map, "", 0, 1), RKYV_READ_ONLY);
+    length = indexed_empty(bytes);
+    returns("write", rkyv_index_open_writable(bytes, length, RKYV_INDEX_TEXT_TO_U32, 64, &map),
+            RKYV_OK);
+    returns("set too much", rkyv_index_set_text(&map, "", 0, 1ull << 32), RKYV_VALUE_TOO_LARGE);
+    same("kept", bytes[64], 7);
 }
 
 static void indexed_numbers_to_texts(void) {
@@ -2347,6 +2428,15 @@ static void indexed_long_numbers_to_texts(void) {
     returns("from", rkyv_index_long_number_texts_from(&map, 0, pairs, 2, &count), RKYV_OK);
     same("one", count == 1 && pairs[0].key == GREAT, 1);
     reads("value", pairs[0].value, pairs[0].value_length, "wonderful");
+    returns("no room", rkyv_index_long_number_texts_from(&map, 0, NULL, 0, &count), RKYV_OK);
+    same("none", count, 0);
+    count = 9;
+    returns("at null", rkyv_index_long_number_text_at(&map, 0, NULL), RKYV_NULL);
+    returns("to null", rkyv_index_long_number_texts_from(&map, 0, NULL, 1, &count), RKYV_NULL);
+    returns("no count", rkyv_index_long_number_texts_from(&map, 0, pairs, 1, NULL), RKYV_NULL);
+    returns("too many", rkyv_index_long_number_texts_from(&map, 0, pairs, SIZE_MAX, &count),
+            RKYV_TOO_LONG);
+    same("kept", count, 9);
     returns("null", rkyv_index_get_text_of_long_number(NULL, 1, &index, &value, &size), RKYV_NULL);
     returns("a short key", rkyv_index_get_text_of_number(&map, 1, &index, &value, &size),
             RKYV_WRONG_KIND);
@@ -2384,6 +2474,15 @@ static void indexed_texts_to_texts(void) {
     same("one", count, 1);
     reads("key", pairs[0].key, pairs[0].key_length, "");
     reads("value", pairs[0].value, pairs[0].value_length, "wonderful");
+    returns("no room", rkyv_index_text_texts_from(&map, 0, NULL, 0, &count), RKYV_OK);
+    same("none", count, 0);
+    count = 9;
+    returns("at null", rkyv_index_text_text_at(&map, 0, NULL), RKYV_NULL);
+    returns("to null", rkyv_index_text_texts_from(&map, 0, NULL, 1, &count), RKYV_NULL);
+    returns("no count", rkyv_index_text_texts_from(&map, 0, pairs, 1, NULL), RKYV_NULL);
+    returns("too many", rkyv_index_text_texts_from(&map, 0, pairs, SIZE_MAX, &count),
+            RKYV_TOO_LONG);
+    same("kept", count, 9);
     returns("a number", rkyv_index_get_text_of_number(&map, 1, &index, &value, &size),
             RKYV_WRONG_KIND);
     returns("set", rkyv_index_set_text(&map, "", 0, 1), RKYV_WRONG_KIND);
@@ -2395,6 +2494,481 @@ static void indexed_texts_to_texts(void) {
     bytes[64] = 'w';
     bytes[48] = 0xc3;
     returns("a key", rkyv_index_open(bytes, length, kind, 64, &map), RKYV_INVALID_VALUE);
+}
+
+/* The calls that open a map, with one type: the handle of an index map has a handle of a map. */
+typedef rkyv_status open_call(void *bytes, size_t length, uint32_t kind, uint32_t width,
+                              rkyv_map *map);
+
+static rkyv_status open_to_read(void *bytes, size_t length, uint32_t kind, uint32_t width,
+                                rkyv_map *map) {
+    return rkyv_map_open(bytes, length, kind, width, map);
+}
+
+static rkyv_status open_container_to_read(void *bytes, size_t length, uint32_t kind, uint32_t width,
+                                          rkyv_map *map) {
+    return rkyv_map_open_container(bytes, length, kind, width, map);
+}
+
+/* Defines such a call of one that opens an index map. */
+#define INDEX_CALL(name, call)                                                                     \
+    static rkyv_status name(void *bytes, size_t length, uint32_t kind, uint32_t width,             \
+                            rkyv_map *map) {                                                       \
+        rkyv_index_map opened;                                                                     \
+        if (map == NULL) {                                                                         \
+            return call(bytes, length, kind, width, NULL);                                         \
+        }                                                                                          \
+        opened.map = *map;                                                                         \
+        rkyv_status status = call(bytes, length, kind, width, &opened);                            \
+        *map = opened.map;                                                                         \
+        return status;                                                                             \
+    }
+
+INDEX_CALL(index_open_to_read, rkyv_index_open)
+INDEX_CALL(index_open_to_write, rkyv_index_open_writable)
+INDEX_CALL(index_open_container_to_read, rkyv_index_open_container)
+INDEX_CALL(index_open_container_to_write, rkyv_index_open_container_writable)
+
+/* Tests that opening fails with a status, and that the handle, which was of an open map, is not of
+ * one then. */
+static void fails_to_open(const char *what, open_call *open, void *bytes, size_t length,
+                          uint32_t kind, uint32_t width, rkyv_status wanted) {
+    uint8_t archive[64];
+    size_t count = 9;
+    rkyv_map map;
+    returns("open", rkyv_map_open(archive, one_to_two(archive), RKYV_NUMBER_TO_U32, 32, &map),
+            RKYV_OK);
+    returns(what, open(bytes, length, kind, width, &map), wanted);
+    returns("closed", rkyv_map_count(&map, &count), RKYV_CLOSED);
+}
+
+/* The errors of a call that opens, each alone and each with the next one. The bytes are not valid. */
+static void opening_errors(open_call *open, bool index, bool container) {
+    const uint32_t kind = index ? RKYV_INDEX_NUMBER_TO_U32 : RKYV_NUMBER_TO_U32;
+    const uint32_t other = index ? RKYV_NUMBER_TO_U32 : RKYV_INDEX_NUMBER_TO_U32;
+    uint8_t bytes[120];
+    memset(bytes, 0xff, sizeof bytes);
+    returns("no map", open(bytes, sizeof bytes, kind, 32, NULL), RKYV_NULL);
+    returns("no map, kind 0", open(bytes, sizeof bytes, 0, 32, NULL), RKYV_NULL);
+    fails_to_open("kind 0", open, bytes, sizeof bytes, 0, 32, RKYV_UNKNOWN_KIND);
+    fails_to_open("kind 22", open, bytes, sizeof bytes, 22, 32, RKYV_UNKNOWN_KIND);
+    fails_to_open("kind 0, width 16", open, bytes, sizeof bytes, 0, 16, RKYV_UNKNOWN_KIND);
+    fails_to_open("width 16", open, bytes, sizeof bytes, kind, 16, RKYV_UNKNOWN_WIDTH);
+    fails_to_open("width 16, other", open, bytes, sizeof bytes, other, 16, RKYV_UNKNOWN_WIDTH);
+    fails_to_open("other", open, bytes, sizeof bytes, other, 32, RKYV_WRONG_KIND);
+    fails_to_open("other, null", open, NULL, 1, other, 32, RKYV_WRONG_KIND);
+    fails_to_open("null", open, NULL, 1, kind, 32, RKYV_NULL);
+    fails_to_open("null, too long", open, NULL, SIZE_MAX, kind, 32, RKYV_NULL);
+    fails_to_open("too long, invalid", open, bytes, SIZE_MAX, kind, 32, RKYV_TOO_LONG);
+    fails_to_open("nothing", open, NULL, 0, kind, 32,
+                  container ? RKYV_CONTAINER_TOO_SHORT : RKYV_OUT_OF_RANGE);
+    fails_to_open("any width", open, bytes, sizeof bytes, kind, RKYV_ANY_WIDTH,
+                  container ? RKYV_CONTAINER_WRONG_MAGIC : RKYV_UNKNOWN_WIDTH);
+}
+
+/* The calls of hash maps with a handle for which they fail. */
+static void calls_of_maps(const rkyv_map *map, rkyv_status wanted) {
+    uint64_t number = 9;
+    size_t length = 9, count = 9;
+    const char *text = NULL;
+    rkyv_number_pair numbers = {0, 0, 0};
+    rkyv_long_number_pair long_numbers = {0, 0, 0};
+    rkyv_text_pair texts = {0, 0, NULL, 0};
+    rkyv_number_text_pair number_texts = {0, NULL, 0, 0};
+    rkyv_long_number_text_pair long_number_texts = {0, NULL, 0, 0};
+    rkyv_text_text_pair text_texts = {0, NULL, 0, NULL, 0};
+    returns("get", rkyv_map_get_number(map, 1, &number), wanted);
+    returns("get", rkyv_map_get_long_number(map, 1, &number), wanted);
+    returns("get", rkyv_map_get_text(map, "", 0, &number), wanted);
+    returns("get", rkyv_map_get_text_of_number(map, 1, &text, &length), wanted);
+    returns("get", rkyv_map_get_text_of_long_number(map, 1, &text, &length), wanted);
+    returns("get", rkyv_map_get_text_of_text(map, "", 0, &text, &length), wanted);
+    returns("set", rkyv_map_set_number(map, 1, 1), wanted);
+    returns("set", rkyv_map_set_long_number(map, 1, 1), wanted);
+    returns("set", rkyv_map_set_text(map, "", 0, 1), wanted);
+    returns("next", rkyv_map_next_number(map, &numbers), wanted);
+    returns("next", rkyv_map_next_long_number(map, &long_numbers), wanted);
+    returns("next", rkyv_map_next_text(map, &texts), wanted);
+    returns("next", rkyv_map_next_number_text(map, &number_texts), wanted);
+    returns("next", rkyv_map_next_long_number_text(map, &long_number_texts), wanted);
+    returns("next", rkyv_map_next_text_text(map, &text_texts), wanted);
+    returns("several", rkyv_map_next_numbers(map, 0, &numbers, 1, &count), wanted);
+    returns("several", rkyv_map_next_long_numbers(map, 0, &long_numbers, 1, &count), wanted);
+    returns("several", rkyv_map_next_texts(map, 0, &texts, 1, &count), wanted);
+    returns("several", rkyv_map_next_number_texts(map, 0, &number_texts, 1, &count), wanted);
+    returns("several", rkyv_map_next_long_number_texts(map, 0, &long_number_texts, 1, &count),
+            wanted);
+    returns("several", rkyv_map_next_text_texts(map, 0, &text_texts, 1, &count), wanted);
+    same("kept", number == 9 && length == 9 && count == 9 && text == NULL, 1);
+}
+
+/* The calls of sets with a handle for which they fail. */
+static void calls_of_sets(const rkyv_map *set, rkyv_status wanted) {
+    size_t count = 9;
+    rkyv_number_member numbers = {0, 0};
+    rkyv_long_number_member long_numbers = {0, 0};
+    rkyv_text_member texts = {0, NULL, 0};
+    returns("contains", rkyv_set_contains_number(set, 1), wanted);
+    returns("contains", rkyv_set_contains_long_number(set, 1), wanted);
+    returns("contains", rkyv_set_contains_text(set, "", 0), wanted);
+    returns("next", rkyv_set_next_number(set, &numbers), wanted);
+    returns("next", rkyv_set_next_long_number(set, &long_numbers), wanted);
+    returns("next", rkyv_set_next_text(set, &texts), wanted);
+    returns("several", rkyv_set_next_numbers(set, 0, &numbers, 1, &count), wanted);
+    returns("several", rkyv_set_next_long_numbers(set, 0, &long_numbers, 1, &count), wanted);
+    returns("several", rkyv_set_next_texts(set, 0, &texts, 1, &count), wanted);
+    same("kept", count, 9);
+}
+
+/* The calls of index maps to numbers with a handle for which they fail. */
+static void calls_of_index_maps(const rkyv_index_map *map, rkyv_status wanted) {
+    uint64_t value = 9;
+    size_t index = 9, count = 9;
+    rkyv_index_number_pair numbers = {0, 0};
+    rkyv_index_long_number_pair long_numbers = {0, 0};
+    rkyv_index_text_pair texts = {0, NULL, 0};
+    returns("get", rkyv_index_get_number(map, 1, &index, &value), wanted);
+    returns("get", rkyv_index_get_long_number(map, 1, &index, &value), wanted);
+    returns("get", rkyv_index_get_text(map, "", 0, &index, &value), wanted);
+    returns("set", rkyv_index_set_number(map, 1, 1), wanted);
+    returns("set", rkyv_index_set_long_number(map, 1, 1), wanted);
+    returns("set", rkyv_index_set_text(map, "", 0, 1), wanted);
+    returns("at", rkyv_index_number_at(map, 0, &numbers), wanted);
+    returns("at", rkyv_index_long_number_at(map, 0, &long_numbers), wanted);
+    returns("at", rkyv_index_text_at(map, 0, &texts), wanted);
+    returns("from", rkyv_index_numbers_from(map, 0, &numbers, 1, &count), wanted);
+    returns("from", rkyv_index_long_numbers_from(map, 0, &long_numbers, 1, &count), wanted);
+    returns("from", rkyv_index_texts_from(map, 0, &texts, 1, &count), wanted);
+    same("kept", index == 9 && value == 9 && count == 9, 1);
+}
+
+/* The calls of index maps to texts with a handle for which they fail. */
+static void calls_of_index_maps_to_texts(const rkyv_index_map *map, rkyv_status wanted) {
+    const char *value = NULL;
+    size_t index = 9, length = 9, count = 9;
+    rkyv_index_number_text_pair numbers = {NULL, 0, 0};
+    rkyv_index_long_number_text_pair long_numbers = {NULL, 0, 0};
+    rkyv_index_text_text_pair texts = {NULL, 0, NULL, 0};
+    returns("get", rkyv_index_get_text_of_number(map, 1, &index, &value, &length), wanted);
+    returns("get", rkyv_index_get_text_of_long_number(map, 1, &index, &value, &length), wanted);
+    returns("get", rkyv_index_get_text_of_text(map, "", 0, &index, &value, &length), wanted);
+    returns("at", rkyv_index_number_text_at(map, 0, &numbers), wanted);
+    returns("at", rkyv_index_long_number_text_at(map, 0, &long_numbers), wanted);
+    returns("at", rkyv_index_text_text_at(map, 0, &texts), wanted);
+    returns("from", rkyv_index_number_texts_from(map, 0, &numbers, 1, &count), wanted);
+    returns("from", rkyv_index_long_number_texts_from(map, 0, &long_numbers, 1, &count), wanted);
+    returns("from", rkyv_index_text_texts_from(map, 0, &texts, 1, &count), wanted);
+    same("kept", index == 9 && length == 9 && count == 9 && value == NULL, 1);
+}
+
+/* Each call fails with a handle that is null, that is of no open map, and that is of a map of another
+ * kind. */
+static void handles(void) {
+    const rkyv_map closed = {NULL, NULL, 0, 0, 0, {0, 0, 0, 0, 0}};
+    const rkyv_index_map closed_index = {{NULL, NULL, 0, 0, 0, {0, 0, 0, 0, 0}}};
+    uint8_t bytes[64], set_bytes[88], index_bytes[104], index_text_bytes[112];
+    const size_t length = one_to_two(bytes), set_length = set_of_empty(set_bytes);
+    const size_t index_length = indexed_empty(index_bytes);
+    const size_t index_text_length = indexed_empty_to_text(index_text_bytes);
+    uint32_t width = 9;
+    rkyv_map map, set;
+    rkyv_index_map index_map, index_map_to_texts;
+    returns("open", rkyv_map_open_writable(bytes, length, RKYV_NUMBER_TO_U32, 32, &map), RKYV_OK);
+    returns("open", rkyv_map_open_writable(set_bytes, set_length, RKYV_SET_OF_TEXTS, 64, &set),
+            RKYV_OK);
+    returns("open",
+            rkyv_index_open_writable(index_bytes, index_length, RKYV_INDEX_TEXT_TO_U64, 64,
+                                     &index_map),
+            RKYV_OK);
+    returns("open",
+            rkyv_index_open_writable(index_text_bytes, index_text_length, RKYV_INDEX_TEXT_TO_TEXT,
+                                     64, &index_map_to_texts),
+            RKYV_OK);
+    calls_of_maps(NULL, RKYV_NULL);
+    calls_of_maps(&closed, RKYV_CLOSED);
+    calls_of_maps(&set, RKYV_WRONG_KIND);
+    calls_of_sets(NULL, RKYV_NULL);
+    calls_of_sets(&closed, RKYV_CLOSED);
+    calls_of_sets(&map, RKYV_WRONG_KIND);
+    calls_of_index_maps(NULL, RKYV_NULL);
+    calls_of_index_maps(&closed_index, RKYV_CLOSED);
+    calls_of_index_maps(&index_map_to_texts, RKYV_WRONG_KIND);
+    calls_of_index_maps_to_texts(NULL, RKYV_NULL);
+    calls_of_index_maps_to_texts(&closed_index, RKYV_CLOSED);
+    calls_of_index_maps_to_texts(&index_map, RKYV_WRONG_KIND);
+    returns("width", rkyv_index_width(&closed_index, &width), RKYV_CLOSED);
+}
+
+/* The calls with a text key, with one type. Those that write have a value that is too large for 32
+ * bits. */
+typedef rkyv_status key_call(const rkyv_map *map, const char *key, size_t length);
+
+static rkyv_status get_by_key(const rkyv_map *map, const char *key, size_t length) {
+    return rkyv_map_get_text(map, key, length, NULL);
+}
+
+static rkyv_status get_text_by_key(const rkyv_map *map, const char *key, size_t length) {
+    return rkyv_map_get_text_of_text(map, key, length, NULL, NULL);
+}
+
+static rkyv_status set_by_key(const rkyv_map *map, const char *key, size_t length) {
+    return rkyv_map_set_text(map, key, length, 1ull << 32);
+}
+
+static rkyv_status index_get_by_key(const rkyv_map *map, const char *key, size_t length) {
+    const rkyv_index_map of = {*map};
+    return rkyv_index_get_text(&of, key, length, NULL, NULL);
+}
+
+static rkyv_status index_get_text_by_key(const rkyv_map *map, const char *key, size_t length) {
+    const rkyv_index_map of = {*map};
+    return rkyv_index_get_text_of_text(&of, key, length, NULL, NULL, NULL);
+}
+
+static rkyv_status index_set_by_key(const rkyv_map *map, const char *key, size_t length) {
+    const rkyv_index_map of = {*map};
+    return rkyv_index_set_text(&of, key, length, 1ull << 32);
+}
+
+/* The archive of one pair or item with the key "abcd". */
+static uint8_t *text_archive(uint32_t kind, size_t *length) {
+    const rkyv_text_item numbers[] = {{7, "abcd", 4}};
+    const rkyv_text_text_item texts[] = {{"x", 1, "abcd", 4}};
+    const rkyv_set_text items[] = {{"abcd", 4}};
+    uint8_t *bytes = NULL;
+    returns("build",
+            kind == RKYV_SET_OF_TEXTS ? rkyv_build_text_set(items, 1, 32, &bytes, length)
+                : kind == RKYV_TEXT_TO_TEXT || kind == RKYV_INDEX_TEXT_TO_TEXT
+                ? rkyv_build_text_texts(texts, 1, kind, 32, &bytes, length)
+                : rkyv_build_texts(numbers, 1, kind, 32, &bytes, length),
+            RKYV_OK);
+    return bytes;
+}
+
+/* Calls of one function with a key, each with two errors. */
+static void key_orders(key_call *call, open_call *open, uint32_t kind) {
+    const rkyv_map closed = {NULL, NULL, 0, 0, 0, {0, 0, 0, 0, 0}};
+    uint8_t other_bytes[64];
+    size_t length = 0;
+    uint8_t *bytes = text_archive(kind, &length);
+    rkyv_map map, other;
+    returns("open", open(bytes, length, kind, 32, &map), RKYV_OK);
+    returns("open", rkyv_map_open(other_bytes, one_to_two(other_bytes), RKYV_NUMBER_TO_U32, 32,
+                                  &other),
+            RKYV_OK);
+    returns("closed, null", call(&closed, NULL, 1), RKYV_CLOSED);
+    returns("another kind, null", call(&other, NULL, 1), RKYV_WRONG_KIND);
+    returns("null, too long", call(&map, NULL, SIZE_MAX), RKYV_NULL);
+    returns("too long, no text", call(&map, "\xff", SIZE_MAX), RKYV_TOO_LONG);
+    rkyv_bytes_free(bytes);
+}
+
+/* Calls of one function that writes, each with two errors. */
+static void write_orders(key_call *call, open_call *read, open_call *write, uint32_t kind) {
+    size_t length = 0;
+    uint8_t *bytes = text_archive(kind, &length);
+    const char *no_text = (const char *)memchr(bytes, 0xff, length);
+    rkyv_map map, read_only;
+    returns("open", read(bytes, length, kind, 32, &read_only), RKYV_OK);
+    returns("open", write(bytes, length, kind, 32, &map), RKYV_OK);
+    returns("too long, read only", call(&read_only, "a", SIZE_MAX), RKYV_TOO_LONG);
+    returns("read only, overlap", call(&read_only, no_text, 1), RKYV_READ_ONLY);
+    returns("overlap, no text", call(&map, no_text, 1), RKYV_OVERLAP);
+    returns("no text, too large", call(&map, "\xff", 1), RKYV_NOT_TEXT);
+    returns("too large, not found", call(&map, "a", 1), RKYV_VALUE_TOO_LARGE);
+    rkyv_bytes_free(bytes);
+}
+
+static void orders_of_lookups(void) {
+    const rkyv_map closed = {NULL, NULL, 0, 0, 0, {0, 0, 0, 0, 0}};
+    const rkyv_index_map closed_index = {closed};
+    uint8_t bytes[64], index_bytes[88];
+    const size_t length = one_to_two(bytes), index_length = three_pairs(index_bytes);
+    rkyv_map map;
+    rkyv_index_map index_map;
+    rkyv_number_pair pair = {0, 0, 0};
+    rkyv_text_pair text = {0, 0, NULL, 0};
+    rkyv_index_number_pair index_pair = {0, 0};
+    rkyv_index_text_pair index_text = {0, NULL, 0};
+    size_t count = 9;
+
+    key_orders(get_by_key, open_to_read, RKYV_TEXT_TO_U32);
+    key_orders(get_text_by_key, open_to_read, RKYV_TEXT_TO_TEXT);
+    key_orders(rkyv_set_contains_text, open_to_read, RKYV_SET_OF_TEXTS);
+    key_orders(set_by_key, rkyv_map_open_writable, RKYV_TEXT_TO_U32);
+    key_orders(index_get_by_key, index_open_to_read, RKYV_INDEX_TEXT_TO_U32);
+    key_orders(index_get_text_by_key, index_open_to_read, RKYV_INDEX_TEXT_TO_TEXT);
+    key_orders(index_set_by_key, index_open_to_write, RKYV_INDEX_TEXT_TO_U32);
+    write_orders(set_by_key, open_to_read, rkyv_map_open_writable, RKYV_TEXT_TO_U32);
+    write_orders(index_set_by_key, index_open_to_read, index_open_to_write, RKYV_INDEX_TEXT_TO_U32);
+
+    returns("open", rkyv_map_open(bytes, length, RKYV_NUMBER_TO_U32, 32, &map), RKYV_OK);
+    returns("another kind, read only", rkyv_map_set_long_number(&map, 1, 1), RKYV_WRONG_KIND);
+    returns("read only, too large", rkyv_map_set_number(&map, 1, 1ull << 32), RKYV_READ_ONLY);
+    returns("closed, null", rkyv_map_width(&closed, NULL), RKYV_CLOSED);
+    returns("closed, null", rkyv_map_count(&closed, NULL), RKYV_CLOSED);
+    returns("closed, null", rkyv_map_next_number(&closed, NULL), RKYV_CLOSED);
+    returns("another kind, null", rkyv_map_next_text(&map, NULL), RKYV_WRONG_KIND);
+    returns("closed, null", rkyv_map_next_numbers(&closed, 0, &pair, 1, NULL), RKYV_CLOSED);
+    returns("another kind, too many", rkyv_map_next_texts(&map, 0, &text, SIZE_MAX, &count),
+            RKYV_WRONG_KIND);
+    returns("null, too many", rkyv_map_next_numbers(&map, 0, &pair, SIZE_MAX, NULL), RKYV_NULL);
+    returns("null, too many", rkyv_map_next_numbers(&map, 0, NULL, SIZE_MAX, &count), RKYV_NULL);
+    returns("open", rkyv_map_open_writable(bytes, length, RKYV_NUMBER_TO_U32, 32, &map), RKYV_OK);
+    returns("too large, not found", rkyv_map_set_number(&map, 2, 1ull << 32),
+            RKYV_VALUE_TOO_LARGE);
+
+    returns("open", rkyv_index_open(index_bytes, index_length, RKYV_INDEX_NUMBER_TO_U32, 32,
+                                    &index_map),
+            RKYV_OK);
+    returns("another kind, read only", rkyv_index_set_long_number(&index_map, 1, 1),
+            RKYV_WRONG_KIND);
+    returns("read only, too large", rkyv_index_set_number(&index_map, 1, 1ull << 32),
+            RKYV_READ_ONLY);
+    returns("closed, null", rkyv_index_width(&closed_index, NULL), RKYV_CLOSED);
+    returns("closed, null", rkyv_index_count(&closed_index, NULL), RKYV_CLOSED);
+    returns("closed, null", rkyv_index_number_at(&closed_index, 0, NULL), RKYV_CLOSED);
+    returns("another kind, null", rkyv_index_text_at(&index_map, 0, NULL), RKYV_WRONG_KIND);
+    returns("null, end", rkyv_index_number_at(&index_map, 3, NULL), RKYV_NULL);
+    returns("another kind, too many",
+            rkyv_index_texts_from(&index_map, 0, &index_text, SIZE_MAX, &count), RKYV_WRONG_KIND);
+    returns("null, too many",
+            rkyv_index_numbers_from(&index_map, 0, &index_pair, SIZE_MAX, NULL), RKYV_NULL);
+    returns("open", rkyv_index_open_writable(index_bytes, index_length, RKYV_INDEX_NUMBER_TO_U32,
+                                             32, &index_map),
+            RKYV_OK);
+    returns("too large, not found", rkyv_index_set_number(&index_map, 2, 1ull << 32),
+            RKYV_VALUE_TOO_LARGE);
+    same("kept", count, 9);
+}
+
+static void orders_of_building(void) {
+    const uint32_t kind = RKYV_TEXT_TO_U32;
+    const rkyv_number_item numbers[] = {{1ull << 32, 1}};
+    const rkyv_text_item no_text[] = {{1ull << 32, "\xff", 1}, {2, NULL, 1}, {2, "", SIZE_MAX}};
+    const rkyv_text_item too_large[] = {{1ull << 32, "a", 1}, {2, "\xff", 1}};
+    const rkyv_text_item too_long[] = {{2, "", SIZE_MAX}, {2, NULL, 0}};
+    const rkyv_text_text_item null_value[] = {{NULL, 0, "\xff", 1}, {"", SIZE_MAX, "", 0}};
+    uint8_t *bytes = NULL;
+    size_t length = 9;
+    rkyv_builder *builder = NULL;
+
+    returns("kind 0, width 8", rkyv_builder_new(0, 8, &builder), RKYV_UNKNOWN_KIND);
+    returns("width 8, a set", rkyv_builder_new(RKYV_SET_OF_TEXTS, 8, &builder), RKYV_UNKNOWN_WIDTH);
+    requests = failing = 0;
+    returns("a set, no memory", rkyv_builder_new(RKYV_SET_OF_TEXTS, 32, &builder), RKYV_WRONG_KIND);
+    failing = SIZE_MAX;
+    returns("new", rkyv_builder_new(kind, 32, &builder), RKYV_OK);
+    returns("a number, too large", rkyv_builder_put_number(builder, 1, 1ull << 32),
+            RKYV_WRONG_KIND);
+    returns("too large, null", rkyv_builder_put_text(builder, NULL, 1, 1ull << 32),
+            RKYV_VALUE_TOO_LARGE);
+    returns("null, too long", rkyv_builder_put_text(builder, NULL, SIZE_MAX, 1), RKYV_NULL);
+    returns("too long, no text", rkyv_builder_put_text(builder, "\xff", SIZE_MAX, 1),
+            RKYV_TOO_LONG);
+    requests = failing = 0;
+    returns("no text, no memory", rkyv_builder_put_text(builder, "\xff", 1, 1), RKYV_NOT_TEXT);
+    returns("null, no memory", rkyv_builder_finish(builder, NULL, &length), RKYV_NULL);
+    failing = SIZE_MAX;
+    rkyv_builder_free(builder);
+
+    returns("kind 0, width 8", rkyv_build_texts(no_text, 3, 0, 8, &bytes, &length),
+            RKYV_UNKNOWN_KIND);
+    returns("width 8, of numbers",
+            rkyv_build_texts(no_text, 3, RKYV_NUMBER_TO_U32, 8, &bytes, &length),
+            RKYV_UNKNOWN_WIDTH);
+    returns("of numbers, null", rkyv_build_texts(NULL, 3, RKYV_NUMBER_TO_U32, 32, &bytes, &length),
+            RKYV_WRONG_KIND);
+    returns("null, too many", rkyv_build_texts(NULL, SIZE_MAX, kind, 32, &bytes, &length),
+            RKYV_NULL);
+    returns("null, too many", rkyv_build_texts(no_text, SIZE_MAX, kind, 32, NULL, &length),
+            RKYV_NULL);
+    returns("too many, null", rkyv_build_texts(no_text + 1, SIZE_MAX, kind, 32, &bytes, &length),
+            RKYV_TOO_LONG);
+    returns("no text, null", rkyv_build_texts(no_text, 2, kind, 32, &bytes, &length), RKYV_NULL);
+    returns("null, too long", rkyv_build_texts(no_text, 3, kind, 32, &bytes, &length), RKYV_NULL);
+    returns("too long, null", rkyv_build_texts(too_long, 2, kind, 32, &bytes, &length),
+            RKYV_TOO_LONG);
+    returns("no text, too large", rkyv_build_texts(no_text, 1, kind, 32, &bytes, &length),
+            RKYV_NOT_TEXT);
+    returns("too large, no text", rkyv_build_texts(too_large, 2, kind, 32, &bytes, &length),
+            RKYV_VALUE_TOO_LARGE);
+    returns("null, no text, too long",
+            rkyv_build_text_texts(null_value, 2, RKYV_TEXT_TO_TEXT, 32, &bytes, &length), RKYV_NULL);
+    returns("width 8, null", rkyv_build_text_set(NULL, 1, 8, &bytes, &length), RKYV_UNKNOWN_WIDTH);
+    returns("null, too many", rkyv_build_number_set(NULL, SIZE_MAX, 32, &bytes, &length),
+            RKYV_NULL);
+
+    requests = failing = 0;
+    returns("null, no memory", rkyv_build_texts(no_text, 2, kind, 32, &bytes, &length), RKYV_NULL);
+    returns("no memory, no text", rkyv_build_texts(no_text, 1, kind, 32, &bytes, &length),
+            RKYV_NO_MEMORY);
+    requests = 0;
+    returns("no memory, too large",
+            rkyv_build_numbers(numbers, 1, RKYV_NUMBER_TO_U32, 32, &bytes, &length),
+            RKYV_NO_MEMORY);
+    failing = SIZE_MAX;
+    same("kept", bytes == NULL && length == 9, 1);
+    same("blocks", blocks, 0);
+}
+
+static void orders_of_containers(void) {
+    const uint32_t kind = RKYV_NUMBER_TO_U32;
+    uint8_t archive[64], bytes[CONTAINER] = {0};
+    const size_t length = one_to_two(archive);
+    rkyv_error error = {9, 9, 9, 9};
+
+    returns("kind 0, width 0", rkyv_container_header(archive, length, 0, 0, true, bytes),
+            RKYV_UNKNOWN_KIND);
+    returns("width 0, null", rkyv_container_header(NULL, length, kind, 0, true, bytes),
+            RKYV_UNKNOWN_WIDTH);
+    returns("null, too long", rkyv_container_header(NULL, SIZE_MAX, kind, 32, true, bytes),
+            RKYV_NULL);
+    returns("too long, null", rkyv_container_header(archive, SIZE_MAX, kind, 32, true, NULL),
+            RKYV_TOO_LONG);
+    returns("kind 0, width 0", rkyv_container_write(archive, length, 0, 0, true, bytes, CONTAINER),
+            RKYV_UNKNOWN_KIND);
+    returns("width 0, null", rkyv_container_write(NULL, length, kind, 0, true, bytes, CONTAINER),
+            RKYV_UNKNOWN_WIDTH);
+    returns("null, too long", rkyv_container_write(NULL, SIZE_MAX, kind, 32, true, bytes, 0),
+            RKYV_NULL);
+    returns("too long, null", rkyv_container_write(archive, SIZE_MAX, kind, 32, true, NULL, 0),
+            RKYV_TOO_LONG);
+    returns("null, a size", rkyv_container_write(archive, length, kind, 32, true, NULL, 0),
+            RKYV_NULL);
+    returns("null, too long", rkyv_container_size(SIZE_MAX, NULL), RKYV_NULL);
+    returns("null, too long", rkyv_container_update(NULL, SIZE_MAX), RKYV_NULL);
+    returns("too long, no container", rkyv_container_update(bytes, SIZE_MAX), RKYV_TOO_LONG);
+    returns("null, kind 0", rkyv_map_explain(archive, length, 0, 32, NULL), RKYV_NULL);
+    returns("kind 0, width 16", rkyv_map_explain(archive, length, 0, 16, &error),
+            RKYV_UNKNOWN_KIND);
+    returns("width 16, null", rkyv_map_explain(NULL, 1, kind, 16, &error), RKYV_UNKNOWN_WIDTH);
+    returns("null, too long", rkyv_map_explain(NULL, SIZE_MAX, kind, 32, &error), RKYV_NULL);
+    returns("null, kind 0", rkyv_container_explain(bytes, CONTAINER, 0, 32, NULL), RKYV_NULL);
+    returns("kind 0, width 16", rkyv_container_explain(bytes, CONTAINER, 0, 16, &error),
+            RKYV_UNKNOWN_KIND);
+    returns("width 16, null", rkyv_container_explain(NULL, 1, kind, 16, &error),
+            RKYV_UNKNOWN_WIDTH);
+    returns("null, too long", rkyv_container_explain(NULL, SIZE_MAX, kind, 32, &error), RKYV_NULL);
+    is_error("kept", error, 9, 9, 9, 9);
+    for (size_t i = 0; i < CONTAINER; i++) {
+        same("kept", bytes[i], 0);
+    }
+}
+
+/* A call with two errors returns the one that rkyv.h lists first. */
+static void orders(void) {
+    opening_errors(open_to_read, false, false);
+    opening_errors(rkyv_map_open_writable, false, false);
+    opening_errors(open_container_to_read, false, true);
+    opening_errors(rkyv_map_open_container_writable, false, true);
+    opening_errors(index_open_to_read, true, false);
+    opening_errors(index_open_to_write, true, false);
+    opening_errors(index_open_container_to_read, true, true);
+    opening_errors(index_open_container_to_write, true, true);
+    orders_of_lookups();
+    orders_of_building();
+    orders_of_containers();
 }
 
 int main(void) {
@@ -2427,7 +3001,7 @@ int main(void) {
     numbers_to_texts();
     texts_to_texts();
     built_to_texts();
-    failing_builds_to_texts();
+    failing_builds();
     text_value_containers();
     number_sets();
     text_sets();
@@ -2447,6 +3021,8 @@ int main(void) {
     indexed_numbers_to_texts();
     indexed_long_numbers_to_texts();
     indexed_texts_to_texts();
+    handles();
+    orders();
     if (faults == 0) {
         printf("all as expected\n");
     }
