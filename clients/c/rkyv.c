@@ -696,6 +696,37 @@ rkyv_status rkyv_container_explain(const void *bytes, size_t length, uint32_t ki
     return RKYV_OK;
 }
 
+/* The positions of three codes in the header of a container. */
+enum { COLLECTION_AT = 10, KEY_AT = 11, VALUE_AT = 12 };
+
+rkyv_status rkyv_container_kind(const void *bytes, size_t length, uint32_t *kind, uint32_t *width) {
+    bool wide = false;
+    uint32_t found = 1;
+    const uint8_t *header = bytes_of(bytes);
+    rkyv_status status = check_bytes(bytes, length);
+    if (status == RKYV_OK) {
+        status = (rkyv_status)rkyv_c_container_width(header, length, &wide);
+    }
+    if (status != RKYV_OK) {
+        return status;
+    }
+    while (is_kind(found)
+           && (kinds[found].collection != header[COLLECTION_AT] || kinds[found].key != header[KEY_AT]
+               || kinds[found].value != header[VALUE_AT])) {
+        found++;
+    }
+    if (!is_kind(found)) {
+        return RKYV_UNKNOWN_KIND;
+    }
+    if (kind != NULL) {
+        *kind = found;
+    }
+    if (width != NULL) {
+        *width = wide ? 64 : 32;
+    }
+    return RKYV_OK;
+}
+
 rkyv_status rkyv_map_width(const rkyv_map *map, uint32_t *width) {
     rkyv_status status = first(check_open(map), check_output(width));
     if (status == RKYV_OK) {

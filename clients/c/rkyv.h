@@ -67,7 +67,7 @@ typedef enum rkyv_status {
     RKYV_NULL = 5,
     /* A length is greater than PTRDIFF_MAX. */
     RKYV_TOO_LONG = 6,
-    /* The kind is not one of `rkyv_kind`. */
+    /* The kind, or that of a container, is not one of `rkyv_kind`. */
     RKYV_UNKNOWN_KIND = 7,
     /* The width is neither 32 nor 64, nor RKYV_ANY_WIDTH where a container is opened or explained. */
     RKYV_UNKNOWN_WIDTH = 8,
@@ -355,8 +355,7 @@ rkyv_status rkyv_map_open_writable(void *bytes, size_t length, uint32_t kind, ui
  * A container detects a wrong kind and an accident, not an attacker. So validation is as that of
  * `rkyv_map_open`.
  *
- * To read the kind of a container: its bytes 10 to 13 are the codes of its collection, of the types
- * of its keys and of its values, and of its width. `rkyv_error` lists them.
+ * `rkyv_container_kind` reads the kind and the width.
  *
  * Errors, after which the handle is not of an open map:
  *   - RKYV_NULL: `map` is null;
@@ -372,6 +371,17 @@ rkyv_status rkyv_map_open_container(const void *bytes, size_t length, uint32_t k
  * place. A write does not change the checksum in the header: see `rkyv_container_update`. */
 rkyv_status rkyv_map_open_container_writable(void *bytes, size_t length, uint32_t kind,
                                              uint32_t width, rkyv_map *map);
+
+/* Stores the kind of a container, a `rkyv_kind`, and the width of its archive, 32 or 64, as its header
+ * has them. Neither the length, the checksum nor the archive is checked. An output that is null is not
+ * stored. `bytes` may be null if `length` is 0.
+ *
+ * Errors:
+ *   - RKYV_NULL: `bytes` is null;
+ *   - RKYV_TOO_LONG;
+ *   - the first error of the header: RKYV_CONTAINER_TOO_SHORT to RKYV_CONTAINER_NONZERO_RESERVED;
+ *   - RKYV_UNKNOWN_KIND: no `rkyv_kind` has the collection and the types in the header. */
+rkyv_status rkyv_container_kind(const void *bytes, size_t length, uint32_t *kind, uint32_t *width);
 
 /* Stores the width of the map's archive: 32 or 64.
  *

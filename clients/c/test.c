@@ -697,6 +697,66 @@ static rkyv_status header_status(size_t index, uint8_t byte, bool checked) {
     return RKYV_CONTAINER_NONZERO_RESERVED;
 }
 
+/* The kind and the width of each container are those that it was written with. */
+static void container_kinds(void) {
+    uint8_t archive[64], bytes[CONTAINER];
+    const size_t length = one_to_two(archive);
+    uint32_t kind = 9, width = 9;
+
+    for (uint32_t wanted = RKYV_NUMBER_TO_U32; wanted <= RKYV_INDEX_LONG_NUMBER_TO_TEXT; wanted++) {
+        for (uint32_t wanted_width = 32; wanted_width <= 64; wanted_width += 32) {
+            returns("write", rkyv_container_write(archive, length, wanted, wanted_width, true, bytes,
+                                                  CONTAINER),
+                    RKYV_OK);
+            returns("kind", rkyv_container_kind(bytes, CONTAINER, &kind, &width), RKYV_OK);
+            same("kind", kind, wanted);
+            same("width", width, wanted_width);
+        }
+    }
+    returns("kind of the header", rkyv_container_kind(bytes, 32, &kind, NULL), RKYV_OK);
+    same("kind", kind, RKYV_INDEX_LONG_NUMBER_TO_TEXT);
+    returns("width of the header", rkyv_container_kind(bytes, 32, NULL, &width), RKYV_OK);
+    same("width", width, 64);
+    returns("nothing", rkyv_container_kind(bytes, 32, NULL, NULL), RKYV_OK);
+
+    container_of(bytes, false);
+    kind = width = 9;
+    returns("null", rkyv_container_kind(NULL, 1, &kind, &width), RKYV_NULL);
+    returns("null, too long", rkyv_container_kind(NULL, SIZE_MAX, &kind, &width), RKYV_NULL);
+    returns("too long", rkyv_container_kind(bytes, SIZE_MAX, &kind, &width), RKYV_TOO_LONG);
+    returns("nothing", rkyv_container_kind(NULL, 0, &kind, &width), RKYV_CONTAINER_TOO_SHORT);
+    returns("cut", rkyv_container_kind(bytes, 31, &kind, &width), RKYV_CONTAINER_TOO_SHORT);
+    for (size_t index = 0; index < 32; index++) {
+        const uint8_t kept = bytes[index];
+        for (unsigned byte = 0; byte < 256; byte++) {
+            const rkyv_status found = header_status(index, (uint8_t)byte, false);
+            const bool of_header = found < RKYV_CONTAINER_WRONG_COLLECTION;
+            bytes[index] = (uint8_t)byte;
+            if (byte != kept && of_header) {
+                returns("a header", rkyv_container_kind(bytes, CONTAINER, &kind, &width), found);
+            }
+        }
+        bytes[index] = kept;
+    }
+    bytes[10] = 4;
+    returns("an index set", rkyv_container_kind(bytes, CONTAINER, &kind, &width),
+            RKYV_UNKNOWN_KIND);
+    bytes[10] = 2;
+    returns("a set with values", rkyv_container_kind(bytes, CONTAINER, &kind, &width),
+            RKYV_UNKNOWN_KIND);
+    bytes[10] = 1;
+    bytes[11] = 0x12;
+    returns("short keys", rkyv_container_kind(bytes, CONTAINER, &kind, &width), RKYV_UNKNOWN_KIND);
+    bytes[11] = 0x14;
+    bytes[12] = 0x12;
+    returns("short values", rkyv_container_kind(bytes, CONTAINER, &kind, &width),
+            RKYV_UNKNOWN_KIND);
+    same("kept", kind == 9 && width == 9, 1);
+    bytes[12] = 0x14;
+    returns("kind", rkyv_container_kind(bytes, CONTAINER, &kind, &width), RKYV_OK);
+    same("kind", kind == RKYV_NUMBER_TO_U32 && width == 32, 1);
+}
+
 static void damaged_containers(void) {
     uint8_t bytes[CONTAINER + 1] = {0};
     rkyv_map map;
@@ -2985,6 +3045,7 @@ int main(void) {
     containers();
     container_explanations();
     text_container();
+    container_kinds();
     damaged_containers();
     written_containers();
     container_errors();
