@@ -93,14 +93,15 @@ text_key_found e text b =
     (map_root w32 (text_spec w32) (scalar_spec e) b)
     (hash_of (fx_hasher low_halves) text_calls text) (λ q. same_bytes text (text_at w32 b q))
 
--- the value of the pair that such a lookup finds
+-- the value of the pair that a lookup of `text` finds in the map at the root of the archive `b`,
+-- which may represent no list
 abbrev pub text_found : {N : Type 0} → Encoding N → List ℕ → List ℕ → Option N
 text_found e text b =
     option_map (λ q. value_at e b (q + value_offset (text_spec w32) (scalar_spec e)))
     (text_key_found e text b)
 
--- `c`: the archive `b` with `value` written over the value that such a lookup finds, and `found`
--- is `true`. If it finds none, `c` is `b`, and `found` is `false`
+-- `c`: the archive `b` with `value` written over the value that a lookup of `text` finds, and
+-- `found` is `true`. If it finds none, `c` is `b`, and `found` is `false`
 abbrev pub SetsValueOfText : {N : Type 0} → Encoding N → List ℕ → N → List ℕ → List ℕ → Bool
     → Type 0
 SetsValueOfText e text value b c found =
