@@ -129,6 +129,45 @@ static void sizes(void) {
     same("item", sizeof(rkyv_set_text), 16);
 }
 
+/* A status and its name. */
+#define NAMED(status) {status, #status}
+
+/* Each status has its name, and other numbers have none. */
+static void names(void) {
+    static const struct named {
+        uint32_t status;
+        const char *name;
+    } named[] = {
+        NAMED(RKYV_OK), NAMED(RKYV_NOT_FOUND), NAMED(RKYV_END), NAMED(RKYV_VALUE_TOO_LARGE),
+        NAMED(RKYV_NOT_TEXT), NAMED(RKYV_NULL), NAMED(RKYV_TOO_LONG), NAMED(RKYV_UNKNOWN_KIND),
+        NAMED(RKYV_UNKNOWN_WIDTH), NAMED(RKYV_WRONG_KIND), NAMED(RKYV_CLOSED),
+        NAMED(RKYV_READ_ONLY), NAMED(RKYV_NO_MEMORY), NAMED(RKYV_WRONG_SIZE), NAMED(RKYV_OVERLAP),
+        NAMED(RKYV_OUT_OF_RANGE), NAMED(RKYV_UNALIGNED), NAMED(RKYV_INVALID_LENGTH),
+        NAMED(RKYV_WRONG_NUMBER_OF_ELEMENTS), NAMED(RKYV_UNWRAPPED_CONTROL_BYTE),
+        NAMED(RKYV_PLACE_OUT_OF_RANGE), NAMED(RKYV_INVALID_VALUE), NAMED(RKYV_REFUSED),
+        NAMED(RKYV_CAPACITY_TOO_LARGE), NAMED(RKYV_POSITION_TOO_LARGE),
+        NAMED(RKYV_DISTANCE_TOO_LARGE), NAMED(RKYV_TEXT_TOO_LONG), NAMED(RKYV_INVALID_LOAD_FACTOR),
+        NAMED(RKYV_ITERATOR_LENGTH_MISMATCH), NAMED(RKYV_CONTAINER_TOO_SHORT),
+        NAMED(RKYV_CONTAINER_WRONG_MAGIC), NAMED(RKYV_CONTAINER_UNSUPPORTED_VERSION),
+        NAMED(RKYV_CONTAINER_UNKNOWN_COLLECTION), NAMED(RKYV_CONTAINER_UNKNOWN_KEY_TYPE),
+        NAMED(RKYV_CONTAINER_UNKNOWN_VALUE_TYPE), NAMED(RKYV_CONTAINER_UNKNOWN_WIDTH),
+        NAMED(RKYV_CONTAINER_UNKNOWN_FLAGS), NAMED(RKYV_CONTAINER_UNEXPECTED_CHECKSUM),
+        NAMED(RKYV_CONTAINER_NONZERO_RESERVED), NAMED(RKYV_CONTAINER_WRONG_COLLECTION),
+        NAMED(RKYV_CONTAINER_WRONG_KEY_TYPE), NAMED(RKYV_CONTAINER_WRONG_VALUE_TYPE),
+        NAMED(RKYV_CONTAINER_WRONG_WIDTH), NAMED(RKYV_CONTAINER_WRONG_LENGTH),
+        NAMED(RKYV_CONTAINER_WRONG_CHECKSUM),
+    };
+    const size_t count = sizeof named / sizeof *named;
+    size_t next = 0;
+    for (uint32_t status = 0; status < 64; status++) {
+        const bool is_named = next < count && named[next].status == status;
+        const char *wanted = is_named ? named[next].name : "unknown";
+        same(wanted, strcmp(rkyv_status_name(status), wanted) == 0, 1);
+        next += is_named;
+    }
+    same("all", next, count);
+}
+
 /* The map of the number 1 to 2: the eight bytes of the pair, an empty bucket of zeros, 31 control
  * bytes, and the header. The hash of 1 is 517cc1b727220a95. It is odd, so the pair is in bucket 1
  * of two, which comes first in the bytes. The tag of the hash is 28. */
@@ -3033,6 +3072,7 @@ static void orders(void) {
 
 int main(void) {
     sizes();
+    names();
     numbers();
     texts();
     overlapping_keys();
