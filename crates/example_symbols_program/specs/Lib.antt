@@ -9,4 +9,4 @@ unfoldable pub use ByAddress.{pairs_format, turned}
 pub use ByAddress.{IsAscending}
 unfoldable pub use Commands.{command_of, least_count}
 unfoldable pub use Errors.{IsFileError, IsValidationError, IsWriteError}
-unfoldable pub use Outcomes.{outcome_of}
+unfoldable pub use Outcomes.{IsOutcomeFor, LooksUpAll, outcome_of, outcome_of_names}

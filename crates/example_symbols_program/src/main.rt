@@ -1,9 +1,13 @@
 //! A symbol table of the output of `nm`: written to files, read back, looked up and listed.
 #![tactic(auto)]
 
-ghost use Rattle.std.specs.Prelude.{IfOk, None, Ok, OnOk, length, ◌↔◌, ◌≡◌, ◌≢◌};
-ghost use Rattle.example_symbols.specs.{IsTable, address_found};
-ghost use Rattle.example_symbols_program.specs.{command_of, outcome_of};
+ghost use Rattle.std.specs.Iterator.{IsFinite};
+ghost use Rattle.std.specs.Prelude.{IfOk, IsTrue, List, None, Ok, OnOk, false, length, map};
+ghost use Rattle.std.specs.Prelude.{string_bytes, ℕ, ◌<◌, ◌↔◌, ◌≡◌, ◌≢◌};
+ghost use Rattle.std.specs.Str.Lines.{lines};
+ghost use Rattle.example_symbols.specs.{IsTable, address_found, symbols_of};
+ghost use Rattle.example_symbols_program.specs.{IsOutcomeFor, LooksUpAll, command_of, outcome_of};
+ghost use Rattle.example_symbols_program.specs.{outcome_of_names};
 
 mod by_address;
 mod command;
@@ -78,31 +82,72 @@ fn validate(rt: &HostRuntime, file: &str, table: &[u8]) -> Result<(), SymbolsErr
     check(table).map_err(|error| invalid_error(rt.alloc(), file, error))
 }
 
+/// Writes the address of each name in a table, or a line with `none`.
+///
+/// # Requires
+///
+/// - The bytes are a valid table.
+/// - The iterator ends.
+fn write_addresses<'a, W: Write, I: Iterator<Item = &'a str> + Drop>(
+    out: &mut W,
+    table: &[u8],
+    names: I,
+) -> Result<Outcome, SymbolsError>
+    requires valid { IsTable table.now }
+    requires ready { I.can_next names }
+    requires ends { IsFinite (I.remaining names) }
+    ensures { IfOk result (λ outcome. LooksUpAll I.next_gives names table.now outcome) }
+{
+    let mut missing = false;
+    for name in names {
+        if let Outcome::Missing = write_address(out, table, name)? {
+            missing = true;
+        }
+    }
+    Ok(Outcome::of_lookups(missing))
+}
+
+/// Writes the addresses of the arguments, or of the lines of standard input if there are none.
+///
+/// # Requires
+///
+/// - The bytes are a valid table.
+fn write_requested<W: Write>(
+    rt: &HostRuntime,
+    out: &mut W,
+    table: &[u8],
+    names: &[String],
+) -> Result<Outcome, SymbolsError>
+    requires { IsTable table.now }
+    ensures names { 0 < length names.now → IfOk result (λ outcome.
+        outcome ≡ outcome_of_names table.now (map string_bytes names.now)) }
+    ensures lines { length names.now ≡ 0 → IfOk result (λ outcome.
+        (text : List ℕ) × (outcome ≡ outcome_of_names table.now (lines text))) }
+{
+    if names.is_empty() {
+        let text = read_input(rt)?;
+        write_addresses(out, table, text.as_str().lines())
+    } else {
+        write_addresses(out, table, names.iter().map(|name| name.as_str()))
+    }
+}
+
 /// Prints the addresses of names in the table of a file.
 ///
 /// The names are the arguments, or the lines of standard input if there are no arguments.
 fn get(rt: &HostRuntime, table: &str, names: &[String]) -> Result<Outcome, SymbolsError>
-    ensures { IfOk result (λ outcome. outcome ≢ Outcome.Misused) }
+    ensures names { 0 < length names.now
+        → IfOk result (IsOutcomeFor (map string_bytes names.now)) }
+    ensures lines { length names.now ≡ 0
+        → IfOk result (λ outcome. (text : List ℕ) × IsOutcomeFor (lines text) outcome) }
+    ensures no_misuse { IfOk result (λ outcome. outcome ≢ Outcome.Misused) }
 {
     let bytes = read_file(rt, table)?;
     validate(rt, table, bytes.as_slice())?;
     let mut out = BufWriter::new(rt.alloc(), io::writer(rt))?;
-    let mut missing = false;
-    for name in names {
-        if let Outcome::Missing = write_address(&mut out, bytes.as_slice(), name.as_str())? {
-            missing = true;
-        }
-    }
-    if names.is_empty() {
-        let text = read_input(rt)?;
-        for name in text.lines() {
-            if let Outcome::Missing = write_address(&mut out, bytes.as_slice(), name)? {
-                missing = true;
-            }
-        }
-    }
+    let outcome = write_requested(rt, &mut out, bytes.as_slice(), names)?;
     out.flush()?;
-    Ok(Outcome::of_lookups(missing))
+    Ok(outcome)
 }
 
 /// Prints the names in the index of a file, by ascending address.
@@ -141,26 +186,26 @@ fn cut_short(rt: &HostRuntime, table: &[u8]) -> Result<(), SymbolsError> {
 /// - the entries of the index,
 /// - the validation error of the table without its last byte.
 fn build(rt: &HostRuntime, table: &str, index: &str, all: bool) -> Result<Outcome, SymbolsError>
-    ensures { IfOk result (λ outcome. outcome ≢ Outcome.Misused) }
+    ensures all { IsTrue all → IfOk result (λ outcome. (text : List ℕ)
+        × IsOutcomeFor (map (λ symbol. symbol.0) (symbols_of text)) outcome) }
+    ensures write { all ≡ false → IfOk result (λ outcome. outcome ≡ Outcome.Complete) }
+    ensures no_misuse { IfOk result (λ outcome. outcome ≢ Outcome.Misused) }
 {
     let text = read_input(rt)?;
     let symbols = parse(rt.alloc(), text.as_str())?;
     write(rt, symbols.as_slice(), table, index)?;
-    let mut missing = false;
-    if all {
-        let bytes = read_file(rt, table)?;
-        validate(rt, table, bytes.as_slice())?;
-        let mut out = BufWriter::new(rt.alloc(), io::writer(rt))?;
-        for (name, _) in symbols.iter() {
-            if let Outcome::Missing = write_address(&mut out, bytes.as_slice(), name)? {
-                missing = true;
-            }
-        }
-        out.flush()?;
-        list(rt, index)?;
-        cut_short(rt, bytes.as_slice())?;
+    if !all {
+        return Ok(Outcome::Complete);
     }
-    Ok(Outcome::of_lookups(missing))
+    let bytes = read_file(rt, table)?;
+    validate(rt, table, bytes.as_slice())?;
+    let mut out = BufWriter::new(rt.alloc(), io::writer(rt))?;
+    let names = symbols.as_slice().iter().map(|symbol| symbol.0);
+    let outcome = write_addresses(&mut out, bytes.as_slice(), names)?;
+    out.flush()?;
+    list(rt, index)?;
+    cut_short(rt, bytes.as_slice())?;
+    Ok(outcome)
 }
 
 /// Prints the usage to standard error.
