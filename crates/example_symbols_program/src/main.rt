@@ -2,8 +2,8 @@
 #![tactic(auto)]
 
 ghost use Rattle.std.specs.Iterator.{IsFinite};
-ghost use Rattle.std.specs.Prelude.{IfOk, IsTrue, List, None, Ok, OnOk, false, length, map};
-ghost use Rattle.std.specs.Prelude.{string_bytes, ℕ, ◌<◌, ◌↔◌, ◌≡◌, ◌≢◌};
+ghost use Rattle.std.specs.Prelude.{IfOk, IsTrue, List, None, Ok, OnOk, Some, drop, false, length};
+ghost use Rattle.std.specs.Prelude.{map, string_bytes, ℕ, ◌<◌, ◌↔◌, ◌≡◌, ◌≢◌};
 ghost use Rattle.std.specs.Str.Lines.{lines};
 ghost use Rattle.example_symbols.specs.{IsTable, address_found, symbols_of};
 ghost use Rattle.example_symbols_program.specs.{IsOutcomeFor, LooksUpAll, command_of, outcome_of};
@@ -220,7 +220,11 @@ fn print_usage(rt: &HostRuntime) -> Outcome
 ///
 /// If they are no command, it prints the usage to standard error.
 fn execute(rt: &HostRuntime, name: &str, arguments: &[String]) -> Result<Outcome, SymbolsError>
-    ensures { (result ≡ Ok Outcome.Misused) ↔ (command_of name.now (length arguments.now) ≡ None) }
+    ensures misused { (result ≡ Ok Outcome.Misused)
+        ↔ (command_of name.now (length arguments.now) ≡ None) }
+    ensures get { command_of name.now (length arguments.now) ≡ Some Command.Get
+        → 1 < length arguments.now
+        → IfOk result (IsOutcomeFor (map string_bytes (drop 1 arguments.now))) }
 {
     match command_of(name, arguments.len()) {
         Some(Command::Help) => {
