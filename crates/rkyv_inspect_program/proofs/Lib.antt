@@ -1,4 +1,5 @@
 pub mod Adding
 pub mod Arguments
+pub mod MappedErrors
 pub mod Parsing
 pub mod Uniqueness

@@ -2,6 +2,7 @@
 pub mod Options
 pub mod CommandLines
 pub mod Outcomes
+pub mod Inspections
 unfoldable pub use Options.{IsBare, NamesNoContents, kind_named, name_of, type_named, unit_value}
 unfoldable pub use Options.{value_of, width_named}
 pub use Options.{IsIncomplete, NamesContents}
@@ -12,5 +13,8 @@ unfoldable pub use CommandLines.{option_argument, pair_argument, value_in, whole
 unfoldable pub use CommandLines.{word_argument}
 pub use CommandLines.{Argument, EndsWithName, MakeUp, NamesOptions, SetOptions, as_svg, in_color}
 pub use CommandLines.{of_file, with_help, with_key, with_kind, with_value, with_width}
-unfoldable pub use Outcomes.{HasInspection, IsCausedBy, IsContainerError, IsFileError, IsOtherError}
-unfoldable pub use Outcomes.{status_of}
+unfoldable pub use Outcomes.{IsCausedBy, IsContainerError, IsFileError, IsOtherError, IsOutputError}
+unfoldable pub use Outcomes.{IsReadError, status_of}
+unfoldable pub use Inspections.{ContainerFails, FileFails, InspectsFile, IsInspectable, RunFails}
+unfoldable pub use Inspections.{stride_limit}
+pub use Inspections.{ArchiveFails, InspectsBare, InspectsContainer, OpeningFails}

@@ -1,16 +1,14 @@
 -- The outcomes of the program, and their exit statuses.
 use Rattle.std.specs.Prelude.{Err, List, Ok, Result, string_bytes, ℕ, ◌≡◌}
 use Rattle.std.specs.declared.io.Error.{Error}
-use Rattle.rkyv_container.specs.declared.contents.Contents.{Contents}
 use Rattle.rkyv_container.specs.declared.errors.ContainerError.{ContainerError}
-use Rattle.rkyv_inspect.specs.{InspectsContents}
 use Rattle.rkyv_inspect.specs.declared.errors.InspectError.{InspectError}
 use Rattle.rkyv_inspect.specs.declared.errors.InspectError.TheVariants.{Invalid as InvalidArchive}
-use Rattle.rkyv_inspect.specs.declared.inspection.Inspection.{Inspection}
 use Rattle.rkyv_inspect_program.specs.declared.errors.ProgramError.{ProgramError}
 use Rattle.rkyv_inspect_program.specs.declared.errors.ProgramError.TheVariants.{Container, File}
 use Rattle.rkyv_inspect_program.specs.declared.errors.ProgramError.TheVariants.{Inspection as Other}
 use Rattle.rkyv_inspect_program.specs.declared.errors.ProgramError.TheVariants.{Invalid, Memory}
+use Rattle.rkyv_inspect_program.specs.declared.errors.ProgramError.TheVariants.{Output}
 use Rattle.rkyv_inspect_program.specs.declared.outcome.Outcome.{Outcome}
 use Rattle.rkyv_inspect_program.specs.declared.outcome.Outcome.TheVariants.{Complete, Misused}
 
@@ -51,8 +49,11 @@ IsContainerError name cause (Container file error) = (string_bytes file ≡ name
 IsContainerError _ _ (Memory _) = Unit {0}
 IsContainerError _ _ _ = ⊥
 
--- the archive `bytes` has an inspection with these contents, so it is valid. `limit`: limit of
--- strides
-abbrev pub HasInspection : Contents → List ℕ → ℕ → Type 0
-HasInspection contents bytes limit =
-    (inspection : Inspection) × InspectsContents contents bytes limit (Ok inspection)
+-- the error of the program for a failed read of the file `name`
+abbrev pub IsReadError : List ℕ → ProgramError → Type 0
+IsReadError name error = (cause : Error) × IsFileError name cause error
+
+-- the error of the program for a failed write to standard output
+abbrev pub IsOutputError : ProgramError → Type 0
+IsOutputError (Output _) = Unit {0}
+IsOutputError _ = ⊥

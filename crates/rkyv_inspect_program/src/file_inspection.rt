@@ -1,0 +1,104 @@
+//! Inspections of the bytes of a file, which are a container or a bare archive.
+ghost use Rattle.std.specs.Prelude.{MatchResult, Ok};
+ghost use Rattle.rkyv_container.specs.{IsContainer};
+ghost use Rattle.rkyv_inspect.specs.{InspectsContents};
+ghost use Rattle.rkyv_inspect_program.specs.{ArchiveFails, ContainerFails, FileFails};
+ghost use Rattle.rkyv_inspect_program.specs.{InspectsBare, InspectsContainer, InspectsFile};
+ghost use Rattle.rkyv_inspect_program.specs.{OpeningFails, stride_limit};
+
+use crate::errors::{ProgramError, container_error, inspect_error};
+use rkyv_container::contents::Contents;
+use rkyv_container::{Header, open};
+use rkyv_inspect::{Inspection, inspect};
+use std::alloc::Global;
+
+/// The greatest number of strides that the lookups of all keys may read.
+const STRIDES: u64 = 16_777_216;
+
+/// The inspection of the bytes of a file.
+#[derive(Debug, Drop)]
+pub struct FileInspection<'a> {
+    /// The header of a container, or `None` for a bare archive.
+    pub header: Option<Header>,
+    /// The archive.
+    pub archive: &'a [u8],
+    /// The inspection of the archive.
+    pub inspection: Inspection,
+}
+
+/// Returns the inspection of an archive, whose lookups read at most `STRIDES` strides.
+fn inspect_archive(
+    alloc: Global,
+    file: &str,
+    archive: &[u8],
+    contents: Contents,
+) -> Result<Inspection, ProgramError>
+    ensures { MatchResult result
+        (λ inspection. InspectsContents contents archive.now stride_limit (Ok inspection))
+        (λ error. ArchiveFails file.now archive.now contents error) }
+{
+    inspect(alloc, archive, contents, STRIDES).map_err(|error| inspect_error(alloc, file, error))
+}
+
+/// Returns the inspection of a bare archive with these contents.
+fn inspect_bare<'a>(
+    alloc: Global,
+    file: &str,
+    bytes: &'a [u8],
+    contents: Contents,
+) -> Result<FileInspection<'a>, ProgramError>
+    ensures { MatchResult result (InspectsBare bytes.now contents)
+        (ArchiveFails file.now bytes.now contents) }
+{
+    let inspection = inspect_archive(alloc, file, bytes, contents)?;
+    Ok(FileInspection {
+        header: None,
+        archive: bytes,
+        inspection,
+    })
+}
+
+/// Returns the header and the archive of a container.
+fn open_container<'a>(
+    alloc: Global,
+    file: &str,
+    bytes: &'a [u8],
+) -> Result<(Header, &'a [u8]), ProgramError>
+    ensures { MatchResult result (λ opened. IsContainer opened.0 opened.1.now bytes.now)
+        (OpeningFails file.now bytes.now) }
+{
+    open(bytes).map_err(|error| container_error(alloc, file, error))
+}
+
+/// Returns the inspection of a container.
+fn inspect_container<'a>(
+    alloc: Global,
+    file: &str,
+    bytes: &'a [u8],
+) -> Result<FileInspection<'a>, ProgramError>
+    ensures { MatchResult result (InspectsContainer bytes.now) (ContainerFails file.now bytes.now) }
+{
+    let (header, archive) = open_container(alloc, file, bytes)?;
+    let inspection = inspect_archive(alloc, file, archive, header.contents)?;
+    Ok(FileInspection {
+        header: Some(header),
+        archive,
+        inspection,
+    })
+}
+
+/// Returns the inspection of a bare archive with these contents, or else of a container.
+pub fn inspect_bytes<'a>(
+    alloc: Global,
+    file: &str,
+    bytes: &'a [u8],
+    contents: Option<Contents>,
+) -> Result<FileInspection<'a>, ProgramError>
+    ensures { MatchResult result (InspectsFile bytes.now contents)
+        (FileFails file.now bytes.now contents) }
+{
+    match contents {
+        Some(contents) => inspect_bare(alloc, file, bytes, contents),
+        None => inspect_container(alloc, file, bytes),
+    }
+}
