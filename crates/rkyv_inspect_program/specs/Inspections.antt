@@ -37,32 +37,32 @@ abbrev pub InspectsFile : List ℕ → Option Contents → FileInspection → Ty
 InspectsFile bytes (Some contents) inspected = InspectsBare bytes contents inspected
 InspectsFile bytes None inspected = InspectsContainer bytes inspected
 
--- the error of the program for the file `name`, whose archive `bytes` with these contents has
--- no inspection, or a failed allocation
-pub record ArchiveFails (name bytes : List ℕ) (contents : Contents) (error : ProgramError)
+-- the error of the program for the file `name`, whose archive `bytes` has no inspection with these
+-- contents, or a failed allocation
+pub record InspectFails (name bytes : List ℕ) (contents : Contents) (error : ProgramError)
     : Type 0 where
   pub cause : InspectError
   pub fails : InspectsContents contents bytes stride_limit (Err cause)
   pub is_caused : IsCausedBy name cause error
 
--- the error of the program for the file `name`, whose bytes can't be opened as a container, or
--- a failed allocation
-pub record OpeningFails (name bytes : List ℕ) (error : ProgramError) : Type 0 where
+-- the error of the program for the file `name`, whose `bytes` can't be opened as a container,
+-- or a failed allocation
+pub record OpenFileFails (name bytes : List ℕ) (error : ProgramError) : Type 0 where
   pub cause : ContainerError
   pub fails : OpenFails bytes cause
   pub is_caused : IsContainerError name cause error
 
 -- the same, or for a container, whose archive with the contents of its header has no inspection
-abbrev pub ContainerFails : List ℕ → List ℕ → ProgramError → Type 0
-ContainerFails name bytes error = OpeningFails name bytes error
+abbrev pub InspectContainerFails : List ℕ → List ℕ → ProgramError → Type 0
+InspectContainerFails name bytes error = OpenFileFails name bytes error
     ⊎ ((header : Header) × (archive : List ℕ) × IsContainer header archive bytes
-    × ArchiveFails name archive header.contents error)
+    × InspectFails name archive header.contents error)
 
--- the error of the program for the bytes of the file `name`, which are no valid bare archive with
--- these contents, or else no container of a valid archive
-abbrev pub FileFails : List ℕ → List ℕ → Option Contents → ProgramError → Type 0
-FileFails name bytes (Some contents) error = ArchiveFails name bytes contents error
-FileFails name bytes None error = ContainerFails name bytes error
+-- the error of the program for the file `name`, whose bytes have no inspection as a bare archive
+-- with these contents, or else as a container, or a failed allocation
+abbrev pub InspectFileFails : List ℕ → List ℕ → Option Contents → ProgramError → Type 0
+InspectFileFails name bytes (Some contents) error = InspectFails name bytes contents error
+InspectFileFails name bytes None error = InspectContainerFails name bytes error
 
 -- some bytes have an inspection: they are a valid bare archive with these contents, or else
 -- a container of a valid archive
@@ -74,4 +74,4 @@ IsInspectable contents =
 -- a failed write to standard output
 abbrev pub RunFails : List ℕ → Option Contents → ProgramError → Type 0
 RunFails name contents error = IsReadError name error ⊎ IsOutputError error
-    ⊎ ((bytes : List ℕ) × FileFails name bytes contents error)
+    ⊎ ((bytes : List ℕ) × InspectFileFails name bytes contents error)

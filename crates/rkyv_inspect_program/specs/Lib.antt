@@ -3,6 +3,7 @@ pub mod Options
 pub mod CommandLines
 pub mod Outcomes
 pub mod Inspections
+pub mod Executions
 unfoldable pub use Options.{IsBare, NamesNoContents, kind_named, name_of, type_named, unit_value}
 unfoldable pub use Options.{value_of, width_named}
 pub use Options.{IsIncomplete, NamesContents}
@@ -15,6 +16,8 @@ pub use CommandLines.{Argument, EndsWithName, MakeUp, NamesOptions, SetOptions, 
 pub use CommandLines.{of_file, with_help, with_key, with_kind, with_value, with_width}
 unfoldable pub use Outcomes.{IsCausedBy, IsContainerError, IsFileError, IsOtherError, IsOutputError}
 unfoldable pub use Outcomes.{IsReadError, status_of}
-unfoldable pub use Inspections.{ContainerFails, FileFails, InspectsFile, IsInspectable, RunFails}
-unfoldable pub use Inspections.{stride_limit}
-pub use Inspections.{ArchiveFails, InspectsBare, InspectsContainer, OpeningFails}
+unfoldable pub use Inspections.{InspectContainerFails, InspectFileFails, InspectsFile}
+unfoldable pub use Inspections.{IsInspectable, RunFails, stride_limit}
+pub use Inspections.{InspectFails, InspectsBare, InspectsContainer, OpenFileFails}
+unfoldable pub use Executions.{IsExecutionOf, NamesFormat}
+pub use Executions.{AsksForUsage, ExecutionFails, ExecutionInspects, NamesFile}

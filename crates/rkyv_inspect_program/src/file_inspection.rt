@@ -2,9 +2,9 @@
 ghost use Rattle.std.specs.Prelude.{MatchResult, Ok};
 ghost use Rattle.rkyv_container.specs.{IsContainer};
 ghost use Rattle.rkyv_inspect.specs.{InspectsContents};
-ghost use Rattle.rkyv_inspect_program.specs.{ArchiveFails, ContainerFails, FileFails};
+ghost use Rattle.rkyv_inspect_program.specs.{InspectContainerFails, InspectFails, InspectFileFails};
 ghost use Rattle.rkyv_inspect_program.specs.{InspectsBare, InspectsContainer, InspectsFile};
-ghost use Rattle.rkyv_inspect_program.specs.{OpeningFails, stride_limit};
+ghost use Rattle.rkyv_inspect_program.specs.{OpenFileFails, stride_limit};
 
 use crate::errors::{ProgramError, container_error, inspect_error};
 use rkyv_container::contents::Contents;
@@ -35,7 +35,7 @@ fn inspect_archive(
 ) -> Result<Inspection, ProgramError>
     ensures { MatchResult result
         (λ inspection. InspectsContents contents archive.now stride_limit (Ok inspection))
-        (λ error. ArchiveFails file.now archive.now contents error) }
+        (λ error. InspectFails file.now archive.now contents error) }
 {
     inspect(alloc, archive, contents, STRIDES).map_err(|error| inspect_error(alloc, file, error))
 }
@@ -48,7 +48,7 @@ fn inspect_bare<'a>(
     contents: Contents,
 ) -> Result<FileInspection<'a>, ProgramError>
     ensures { MatchResult result (InspectsBare bytes.now contents)
-        (ArchiveFails file.now bytes.now contents) }
+        (InspectFails file.now bytes.now contents) }
 {
     let inspection = inspect_archive(alloc, file, bytes, contents)?;
     Ok(FileInspection {
@@ -65,7 +65,7 @@ fn open_container<'a>(
     bytes: &'a [u8],
 ) -> Result<(Header, &'a [u8]), ProgramError>
     ensures { MatchResult result (λ opened. IsContainer opened.0 opened.1.now bytes.now)
-        (OpeningFails file.now bytes.now) }
+        (OpenFileFails file.now bytes.now) }
 {
     open(bytes).map_err(|error| container_error(alloc, file, error))
 }
@@ -76,7 +76,8 @@ fn inspect_container<'a>(
     file: &str,
     bytes: &'a [u8],
 ) -> Result<FileInspection<'a>, ProgramError>
-    ensures { MatchResult result (InspectsContainer bytes.now) (ContainerFails file.now bytes.now) }
+    ensures { MatchResult result (InspectsContainer bytes.now)
+        (InspectContainerFails file.now bytes.now) }
 {
     let (header, archive) = open_container(alloc, file, bytes)?;
     let inspection = inspect_archive(alloc, file, archive, header.contents)?;
@@ -95,7 +96,7 @@ pub fn inspect_bytes<'a>(
     contents: Option<Contents>,
 ) -> Result<FileInspection<'a>, ProgramError>
     ensures { MatchResult result (InspectsFile bytes.now contents)
-        (FileFails file.now bytes.now contents) }
+        (InspectFileFails file.now bytes.now contents) }
 {
     match contents {
         Some(contents) => inspect_bare(alloc, file, bytes, contents),

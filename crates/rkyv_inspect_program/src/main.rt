@@ -2,7 +2,8 @@
 #![tactic(auto)]
 
 ghost use Rattle.std.specs.Prelude.{IfErr, MatchResult, Ok, map, string_bytes, ◌↔◌, ◌≡◌};
-ghost use Rattle.rkyv_inspect_program.specs.{IsInspectable, IsMisused, IsReadError, RunFails};
+ghost use Rattle.rkyv_inspect_program.specs.{IsExecutionOf, IsInspectable, IsMisused};
+ghost use Rattle.rkyv_inspect_program.specs.{IsReadError, RunFails};
 
 mod errors;
 mod file_inspection;
@@ -77,14 +78,15 @@ fn print_usage(rt: &HostRuntime) -> Outcome
 ///
 /// If they are misused, it prints the usage to standard error.
 fn execute(rt: &HostRuntime, words: &[String]) -> Result<Outcome, ProgramError>
-    ensures { (result ≡ Ok Outcome.Misused) ↔ IsMisused (map string_bytes words.now) }
+    ensures misused { (result ≡ Ok Outcome.Misused) ↔ IsMisused (map string_bytes words.now) }
+    ensures result { IsExecutionOf (map string_bytes words.now) result }
 {
     let options = match Options::parse(words) {
         Some(options) => options,
         None => return Ok(print_usage(rt)),
     };
     if options.help {
-        println!(rt; "{USAGE}")?;
+        println!(rt; "{USAGE}").map_err(ProgramError::Output)?;
         return Ok(Outcome::Complete);
     }
     let file = match options.file {
