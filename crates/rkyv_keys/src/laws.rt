@@ -2,7 +2,7 @@
 //!
 //! Those of native keys and of queries are proved from the laws of their traits. The others are
 //! about the types of this crate: by which calls their values are hashed, which native values they
-//! equal, with which errors they are deserialized, and what a clone is.
+//! equal, with which errors they are deserialized, and that a clone is equal.
 
 ghost use Rattle.std.specs.Prelude.{[], string_bytes, ◌++◌, ◌∷◌, ◌≡◌, ◌↔◌};
 ghost use Rattle.rkyv_scan.specs.{I16, I32, I64, I8, Isize, U16, U32, U64, U8, Usize};
