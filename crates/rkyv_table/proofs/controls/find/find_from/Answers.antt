@@ -1,25 +1,11 @@
-use Rattle.std.proofs.Common.{arith, ◌≡◌, ℕ, ◌+◌, ◌/◌, ◌<◌, sym, ap, ◌∙◌, Bool, List, Option, length, drop, length-take, length-drop, []}
-use Rattle.rkyv_table.specs.{AreValidControls, ComparesByBucket, IsFullBucket, IsFullInStride, ReadsWithin, found, probe_capacity, probe_length, strides, tag}
+use Rattle.std.proofs.Common.{arith, ◌≡◌, ℕ, ◌+◌, ◌/◌, ◌<◌, sym, ap, ◌∙◌, Bool, Option, length, drop, length-take, length-drop, []}
+use Rattle.rkyv_table.specs.{AreValidControls, ComparesByBucket, IsFullBucket, IsFullInStride, ReadsWithin, found, probe_capacity, probe_length, tag}
 use Rattle.rkyv_table.proofs.Coverage.{count_strides, stride_below}
 use Rattle.rkyv_table.proofs.FirstFree.{member_front, member_rest}
 use Rattle.rkyv_table.proofs.Search.{found_along}
 use Rattle.rkyv_table.proofs.Lookup.{end_index, end_is, ends_by_empty, ends_by_item, ends_somewhere, few_strides, found_is, goes_on, shown_full, stride_full}
 use Rattle.rkyv_table.proofs.controls.find.find_from.Goals as goal
 use Rattle.rkyv_table.proofs.controls.find.find_from.Goals.{After-cmp-1}
-
-pub loop-pos-init : goal.loop-pos-init
-loop-pos-init g c =
-    let a : AreValidControls c.args.cap c.args.len c.args.controls.now = c.requires.accepted (omega (arith, c.if-len-eq0.false)) in
-    let room = a.room in
-    let all : c.starting_at-pos-items.result ≡ strides c.args.hash c.args.cap = c.starting_at-pos-items.ensures c.args.hash (c.requires.start (omega arith)) in
-    let same : c.into_iter-pos-iterator.result ≡ strides c.args.hash c.args.cap = cc in
-    record {
-      room = ap (λ (ps : List ℕ). c.args.strides.now + length ps) same;
-      members = λ p m. rw (← same) m;
-      up = omega arith;
-      same = λ accept compares. ap (found_along g.G.GroupKind.kind c.args.controls.now c.args.cap (tag c.args.hash) accept) (sym same);
-      counted = λ accept compares. ap (λ ps. c.args.strides.now + end_index g.G.GroupKind.kind c.args.controls.now c.args.cap (tag c.args.hash) accept ps) same;
-    }
 
 -- a stride that was read
 module _ (g : _) (c : After-cmp-1 g) where

@@ -1,4 +1,4 @@
-use Rattle.std.proofs.Common.{◌≡◌, ℕ, List, ◌+◌, ◌%◌, ◌<◌, sym, ap, ◌∙◌, arith, true, false, map, drop, length, get_or, Some}
+use Rattle.std.proofs.Common.{◌≡◌, ℕ, List, ◌+◌, ◌%◌, ◌<◌, sym, ap, ◌∙◌, true, false, map, drop, length, get_or, Some}
 use Rattle.std.specs.List.{find, slice_get}
 use Rattle.std.proofs.lemmas.List.{drop-drop}
 use Rattle.rkyv_table.specs.{IsMarked}
@@ -11,27 +11,6 @@ at_head indices rest n j e h = head_at indices n j (h ∙ ap (λ xs. slice_get x
 
 marked_head : (at cap : ℕ) (indices rest : List ℕ) (n j : ℕ) → rest ≡ drop n indices → Some j ≡ slice_get rest 0 → IsMarked at cap indices ((at + j) % cap)
 marked_head at cap indices rest n j e h = let w = at_head indices rest n j e h in (n, w.0, ap (λ z. (at + z) % cap) (sym w.1))
-
-pub overflow_add-at : goal.overflow_add-at
-overflow_add-at g c =
-    let gone = c.loop-j.invariant.gone in
-    let w = at_head (g.M.Marks.indices c.args.marks) (g.M.Marks.indices c.loop-j.rest) gone.0 c.in-Some.j gone.1 c.in-Some.ensures in
-    let b = c.requires.below gone.0 w.0 in
-    let e = w.1 in
-    let s = c.requires.small in
-    record { fits = omega arith }
-
-pub bucket_of-bucket-requires : goal.bucket_of-bucket-requires
-bucket_of-bucket-requires g c =
-    let gone = c.loop-j.invariant.gone in
-    let w = at_head (g.M.Marks.indices c.args.marks) (g.M.Marks.indices c.loop-j.rest) gone.0 c.in-Some.j gone.1 c.in-Some.ensures in
-    record { below = rw w.1 at (c.requires.below gone.0 w.0) }
-
-pub cmp-requires : goal.cmp-requires
-cmp-requires g c =
-    let gone = c.loop-j.invariant.gone in
-    let m = marked_head c.args.at c.args.cap (g.M.Marks.indices c.args.marks) (g.M.Marks.indices c.loop-j.rest) gone.0 c.in-Some.j gone.1 c.in-Some.ensures in
-    c.requires.callable c.bucket_of-bucket.result (rw c.bucket_of-bucket.ensures m)
 
 pub returns-then-cmp-clause-first : goal.returns-then-cmp-clause-first
 returns-then-cmp-clause-first g c = λ accept compares.

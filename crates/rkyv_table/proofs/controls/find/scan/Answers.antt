@@ -21,12 +21,6 @@ module _ (g : _) (c : After-match_byte-in-loop-i g) where
   shown : (b : ℕ) → IsMarked (c.args.pos + c.loop-i.i * c.WIDTH-in-loop-i.result) c.args.cap (g.G.Mask.Marks.indices c.match_byte-in-loop-i.result) b → IsFullInStride c.args.stride.now c.args.pos c.args.cap b
   shown = marked_bucket_full g.G.GroupKind.kind g.met.G.GroupKind.lawful c.args.tag c.args.pos c.args.cap (c.loop-i.i * c.WIDTH-in-loop-i.result) c.args.stride.now (g.G.GroupKind.controls c.read-group.result) (g.G.Mask.Marks.indices c.match_byte-in-loop-i.result) c.requires.tag (rw width_is fits) c.read-group.ensures c.match_byte-in-loop-i.ensures
 
-pub overflow_add-pos : goal.overflow_add-pos
-overflow_add-pos g c =
-    let after = (goal.at.overflow_add-pos g c).After-match_byte-in-loop-i in
-    let e : c.loop-i.i * c.WIDTH-in-loop-i.result ≡ c.loop-i.i * g.G.GroupKind.kind.width = ap (λ x. c.loop-i.i * x) (width_is g after) in
-    record { fits = omega (arith, fits g after, c.requires.fits) }
-
 pub loop-i-init : goal.loop-i-init
 loop-i-init g c =
     let kind : Kind = g.G.GroupKind.kind in

@@ -2,7 +2,7 @@ use Rattle.std.proofs.Common.{arith, ◌≡◌, ◌+◌, ◌*◌, ◌<◌, ◌�
 use Rattle.std.specs.List.{find, range_with_len}
 use Rattle.rkyv_table.specs.{is_empty_at}
 use Rattle.rkyv_table.proofs.Groups.{group_fits, groups_end, indices_are, width_divides}
-use Rattle.rkyv_table.proofs.FirstFree.{empty_index_is, index_inside, more_indices, no_range, whole_stride}
+use Rattle.rkyv_table.proofs.FirstFree.{empty_index_is, index_inside, more_indices, whole_stride}
 use Rattle.rkyv_table.proofs.controls.place.first_empty.Goals as goal
 
 pub overflow_add-result : goal.overflow_add-result
@@ -28,9 +28,6 @@ returns-in-Some g c =
     let le : (i + 1) * g.G.GroupKind.kind.width ≤ 16 = omega arith in
     let r = whole_stride (is_empty_at c.args.controls.now) c.args.pos ((i + 1) * g.G.GroupKind.kind.width) (c.args.pos + i * g.G.GroupKind.kind.width + c.in-Some.j) le m in
     rw (c.WIDTH.ensures, g.met.G.GroupKind.width) (sym (empty_index_is c.args.controls.now c.args.pos ∙ r))
-
-pub loop-i-init : goal.loop-i-init
-loop-i-init g c = no_range (is_empty_at c.args.controls.now) c.args.pos (0 * g.G.GroupKind.kind.width) (omega arith)
 
 pub loop-i-preserved : goal.loop-i-preserved
 loop-i-preserved g c =

@@ -1,10 +1,7 @@
 use Rattle.std.proofs.Common.{arith, ℕ, List, take, get_or, length-take}
 use Rattle.std.proofs.lemmas.List.{take_more}
-use Rattle.rkyv_table.proofs.WrittenStep.{all_fit, fresh, one_more, room_left}
+use Rattle.rkyv_table.proofs.WrittenStep.{all_fit, one_more, room_left}
 use Rattle.rkyv_table.proofs.controls.place.place.Goals as goal
-
-pub loop-hash-init : goal.loop-hash-init
-loop-hash-init g c = rw (c.requires.fresh, c.in_ok-homes.ensures.items) (fresh c.args.cap (let r = c.requires.room in omega arith))
 
 pub place_one-bucket-requires-clause-room : goal.place_one-bucket-requires-clause-room
 place_one-bucket-requires-clause-room g c =

@@ -1,9 +1,9 @@
-use Rattle.std.proofs.Common.{arith, ◌≡◌, ◌*◌, ◌%◌, ◌<◌, get_or, set, length, inr, ℕ, sym, ap, ◌∙◌, Some, length-set}
+use Rattle.std.proofs.Common.{arith, ◌≡◌, ◌*◌, ◌%◌, ◌<◌, get_or, length, inr, sym, ap, ◌∙◌, Some}
 use Rattle.std.specs.List.{find}
 use Rattle.std.proofs.lemmas.Bool.{le-leb}
-use Rattle.rkyv_table.specs.{is_empty_at, probed, tag, with_control}
+use Rattle.rkyv_table.specs.{is_empty_at, probed}
 use Rattle.rkyv_table.proofs.Coverage.{stride_below}
-use Rattle.rkyv_table.proofs.FirstFree.{begun, empty_index_is, first_at, later_started, member_front, member_rest, none_shown, one_write, passes_on, runs_out, some_shown}
+use Rattle.rkyv_table.proofs.FirstFree.{begun, empty_index_is, first_at, later_started, member_front, member_rest, none_shown, passes_on, runs_out, some_shown}
 use Rattle.rkyv_table.proofs.controls.place.place_from.Goals as goal
 use Rattle.rkyv_table.proofs.controls.place.place_from.Goals.{In-Some-first_empty}
 
@@ -45,17 +45,6 @@ returns-then-bucket-controls-clause-first g c = (found_here g (goal.at.returns-t
 
 pub returns-else-bucket-controls-clause-first : goal.returns-else-bucket-controls-clause-first
 returns-else-bucket-controls-clause-first g c = (found_here g (goal.at.returns-else-bucket-controls-clause-first g c).In-Some-first_empty).1 ∙ ap Some (sym c.bucket_of-bucket.ensures)
-
-pub returns-then-bucket-controls-clause-after : goal.returns-then-bucket-controls-clause-after
-returns-then-bucket-controls-clause-after g c =
-    ap (λ z. with_control c.loop-pos.controls c.args.cap c.bucket_of-bucket.result z) c.tag-tag.ensures
-    ∙ ap (λ z. with_control z c.args.cap c.bucket_of-bucket.result (tag c.args.hash)) c.loop-pos.invariant.kept
-
-pub returns-else-bucket-controls-clause-after : goal.returns-else-bucket-controls-clause-after
-returns-else-bucket-controls-clause-after g c =
-    ap (λ z. set c.loop-pos.controls c.bucket_of-bucket.result z) c.tag-tag.ensures
-    ∙ one_write c.loop-pos.controls c.args.cap c.bucket_of-bucket.result (tag c.args.hash) (omega (arith, length-set {A = ℕ}, c.if-bucket-controls.false))
-    ∙ ap (λ z. with_control z c.args.cap c.bucket_of-bucket.result (tag c.args.hash)) c.loop-pos.invariant.kept
 
 pub loop-pos-preserved : goal.loop-pos-preserved
 loop-pos-preserved g c =

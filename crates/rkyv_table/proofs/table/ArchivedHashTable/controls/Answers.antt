@@ -9,8 +9,3 @@ controls_from-requires g c =
     let some : 0 < t.header.cap = omega (arith, c.if-header-eq0.false) in
     let u = controls_inside g.W.Word.word g.T.HasSpec.spec g.T.HasSpec.laws t.view.archive.now t.view.pos t.valid (omega (arith, c.if-header-eq0.false, h.cap)) in
     rw (c.bytes.ensures, h.controls_pos some, h.cap) u.0
-
-pub returns : goal.returns
-returns g c = λ some.
-    let h = c.args.self.decoded in
-    rw (h.controls_pos some, h.cap, c.bytes.ensures) at c.controls_from.ensures

@@ -1,16 +1,8 @@
 use Rattle.std.proofs.Common.{◌∙◌, refl, ap, arith, length, Some, None, subst, sym}
 use Rattle.rkyv_scan.specs.{generic_kind}
 use Rattle.rkyv_base.specs.{Viewable}
-use Rattle.rkyv_table.proofs.Bare.{can_compare, item_at_found, looks_up_none, looks_up_some}
+use Rattle.rkyv_table.proofs.Bare.{item_at_found, looks_up_none, looks_up_some}
 use Rattle.rkyv_table.proofs.table.ArchivedHashTable.found_with.Goals as goal
-
-pub get_pos_with-requires : goal.get_pos_with-requires
-get_pos_with-requires g c κs =
-    let bytes = ap (λ v. v.archive.now) c.of-table.ensures.view ∙ ap (λ v. v.now) c.new.ensures.0 in
-    let pos = ap (λ v. v.pos) c.of-table.ensures.view ∙ c.new.ensures.1 in (
-      (refl, tt),
-      can_compare c.args.archive.now c.args.pos c.of-table.result bytes pos _ c.requires.callable,
-    )
 
 pub lend_seal-requires : goal.lend_seal-requires
 lend_seal-requires g c =

@@ -1,37 +1,11 @@
-use Rattle.std.proofs.Common.{refl, ap, ◌∙◌, ◌+◌, ◌≤◌, length, Some, None}
-use Rattle.rkyv_base.specs.{archive_in, pos_in}
-use Rattle.rkyv_table.proofs.Bare.{accepted_of, can_compare}
-use Rattle.rkyv_table.proofs.SealedLookup.{item_seal, pos_viewable, read_there, seals_first, seals_found}
+use Rattle.std.proofs.Common.{ap, ◌∙◌, Some, None}
+use Rattle.rkyv_table.proofs.SealedLookup.{item_seal, read_there, seals_first, seals_found}
 use Rattle.rkyv_table.proofs.table.ArchivedHashTable.get_seal_with.Goals as goal
-
-pub get_pos_with-requires : goal.get_pos_with-requires
-get_pos_with-requires g c κs =
-    let read = read_there c.args.this c.of.result c.as_view.result c.of.ensures.view c.as_view.ensures.bytes c.as_view.ensures.pos in (
-      (refl, tt),
-      can_compare _ _ c.of.result read.0 read.1 _ c.requires.callable,
-    )
-
-pub seal_at-requires : goal.seal_at-requires
-seal_at-requires g c =
-    let read = read_there c.args.this c.of.result c.as_view.result c.of.ensures.view c.as_view.ensures.bytes c.as_view.ensures.pos in
-    pos_viewable g.T.HasSpec.laws c.args.this c.of.result read c.requires.table c.in_ok-pos.pos c.in_ok-pos.ensures.walked
-
-pub returns-clause-inside : goal.returns-clause-inside
-returns-clause-inside g c =
-    let read = read_there c.args.this c.of.result c.as_view.result c.of.ensures.view c.as_view.ensures.bytes c.as_view.ensures.pos in
-    let there = pos_viewable g.T.HasSpec.laws c.args.this c.of.result read c.requires.table c.in_ok-pos.pos c.in_ok-pos.ensures.walked in
-    let inside : c.in_ok-pos.pos + g.T.HasSpec.spec.size ≤ length c.args.this.archive.now = there.inside in
-    rw (c.seal_at.ensures.at.bytes, c.seal_at.ensures.at.pos) inside
 
 pub returns-clause-walked : goal.returns-clause-walked
 returns-clause-walked g c =
     let read = read_there c.args.this c.of.result c.as_view.result c.of.ensures.view c.as_view.ensures.bytes c.as_view.ensures.pos in
     item_seal g.T.HasSpec.laws c.args.this c.of.result read c.requires.table c.in_ok-pos.pos c.seal_at.result c.in_ok-pos.ensures.walked c.seal_at.ensures.at
-
-pub returns-clause-accepted : goal.returns-clause-accepted
-returns-clause-accepted g c =
-    let read = read_there c.args.this c.of.result c.as_view.result c.of.ensures.view c.as_view.ensures.bytes c.as_view.ensures.pos in
-    rw c.seal_at.ensures.at.pos (accepted_of (archive_in c.args.this) (pos_in c.args.this) c.of.result read.0 read.1 (goal.F-post g c.args.cmp) c.in_ok-pos.pos c.in_ok-pos.ensures.accepted)
 
 pub returns-clause-finds : goal.returns-clause-finds
 returns-clause-finds g c =

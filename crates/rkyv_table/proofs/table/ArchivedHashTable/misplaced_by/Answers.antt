@@ -59,6 +59,3 @@ returns-clause-counts g c = λ hash_of same hash_as same_as.
     let n = ap (λ xs. length (filter Q xs)) c.in-None.ensures.steps.0 in
     let counting = c.loop-bucket.invariant.counting hash_of same hash_as same_as in
     omega (arith, n, counting)
-
-pub returns-clause-within : goal.returns-clause-within
-returns-clause-within g c = omega (arith, c.loop-bucket.invariant.few)

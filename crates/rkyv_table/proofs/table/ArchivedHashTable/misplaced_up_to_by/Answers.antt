@@ -2,7 +2,7 @@ use Rattle.std.proofs.Common.{◌≡◌, ◌∙◌, ◌+◌, ◌<◌, ◌^◌, �
 use Rattle.std.specs.List.{All, sum_by}
 use Rattle.rkyv_scan.specs.{generic_kind}
 use Rattle.rkyv_table.specs.{IsWalked, bucket_misplaced, bucket_strides, cap_at, table_bytes, table_controls, table_pos, table_strides, walk}
-use Rattle.rkyv_table.proofs.MisplacedIn.{Spending, counted_none, counted_one, left_walked, next_walked, past_all, past_cut, reads_on, spent_one, within_cut}
+use Rattle.rkyv_table.proofs.MisplacedIn.{Spending, counted_none, counted_one, left_walked, next_walked, past_all, past_cut, reads_on, spent_one}
 use Rattle.rkyv_table.proofs.RawWalks.{walk_count, walked_all}
 use Rattle.rkyv_table.proofs.Walks.{walk_small}
 use Rattle.rkyv_table.proofs.table.ArchivedHashTable.misplaced_up_to_by.Goals as goal
@@ -39,9 +39,6 @@ module _ (g : _) (c : After-is_misplaced-is_misplaced g) where
 
 pub item-item-requires : goal.item-item-requires
 item-item-requires g c = next_walked c.args.self c.in-Some.bucket c.loop-bucket.bucket-iterator c.next.new.self c.in-Some.ensures.steps c.loop-bucket.invariant.walked
-
-pub is_past-requires : goal.is_past-requires
-is_past-requires g c = omega (arith, reads_on _ _ _ _ c.is_misplaced-is_misplaced.ensures.counts.bounded, c.loop-bucket.invariant.within.0, c.count.ensures)
 
 pub returns-then-is_past-clause-counts : goal.returns-then-is_past-clause-counts
 returns-then-is_past-clause-counts g c = λ hash_of same hash_as same_as.
@@ -105,9 +102,3 @@ returns-clause-counted g c = λ hash_of same hash_as same_as.
     let none = c.in-None.ensures.steps.0 in
     let rest = ap (sum_by (bucket_strides generic_kind c.args.self hash_of same)) none in
     omega (arith, rest, c.loop-bucket.invariant.spent hash_of same hash_as same_as, c.count-before.ensures)
-
-pub returns-clause-bounded : goal.returns-clause-bounded
-returns-clause-bounded g c = within_cut c.count-before.ensures c.loop-bucket.invariant.within
-
-pub returns-clause-within : goal.returns-clause-within
-returns-clause-within g c = omega (arith, c.loop-bucket.invariant.few)

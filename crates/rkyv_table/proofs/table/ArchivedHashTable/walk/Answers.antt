@@ -1,6 +1,6 @@
-use Rattle.std.proofs.Common.{◌≡◌, ◌∙◌, ◌<◌, ap, arith, length, sym}
-use Rattle.rkyv_table.specs.{control_count, table_bytes, table_controls, table_pos, walk}
-use Rattle.rkyv_table.proofs.ValidTable.{controls_count, controls_length}
+use Rattle.std.proofs.Common.{◌∙◌, ◌<◌, ap, arith, length, sym}
+use Rattle.rkyv_table.specs.{table_bytes, table_controls, table_pos, walk}
+use Rattle.rkyv_table.proofs.ValidTable.{controls_count}
 use Rattle.rkyv_table.proofs.Walks.{walk_none}
 use Rattle.rkyv_table.proofs.table.ArchivedHashTable.walk.Goals as goal
 
@@ -16,12 +16,3 @@ new-requires-clause-some g c =
     let some : 0 < c.args.self.header.cap = omega arith in
     let n = controls_count g.W.Word.word g.T.HasSpec.spec g.T.HasSpec.laws (table_bytes t) (table_pos t) c.args.self.valid (omega (arith, some, c.args.self.decoded.cap)) in
     omega (arith, ap length (c.controls.ensures some), n)
-
-pub new-requires-clause-count : goal.new-requires-clause-count
-new-requires-clause-count g c =
-    let t = c.args.self in
-    let some : 0 < c.args.self.header.cap = omega arith in
-    let n = controls_length g.W.Word.word g.T.HasSpec.spec g.T.HasSpec.laws (table_bytes t) (table_pos t) c.args.self.valid (omega (arith, some, c.args.self.decoded.cap)) in
-    let e : control_count c.args.self.header.cap ≡ length c.controls.result.now =
-    ap control_count c.args.self.decoded.cap ∙ sym n ∙ sym (ap length (c.controls.ensures some)) in
-    omega (arith, e)

@@ -1,7 +1,7 @@
 use Rattle.std.proofs.Common.{arith, ◌≡◌, ◌+◌, ◌-◌}
 use Rattle.std.proofs.lemmas.Result.{err_from_is_err_and}
 use Rattle.rkyv_base.specs.{written_as}
-use Rattle.rkyv_table.proofs.BucketSteps.{BucketsWritten, bucket_fails, down_end, down_init, down_read, down_rooms, down_step, overflow_fails}
+use Rattle.rkyv_table.proofs.BucketSteps.{BucketsWritten, bucket_fails, down_init, down_read, down_rooms, down_step, overflow_fails}
 use Rattle.rkyv_table.proofs.table.buckets.write_by.Goals as goal
 use Rattle.rkyv_table.proofs.table.buckets.write_by.Goals.{In-loop-above}
 
@@ -46,8 +46,3 @@ loop-above-preserved g c =
       down = down_step g.U.Archived.HasSpec.spec.size g.W.Width.LIMIT (written_as g.X.Lend.lent g.U.Archive.format) c.args.slots.now c.args.resolvers.items (g.S.Writer.output c.args.serializer.now) (c.loop-above.above - 1) c.loop-above.rest.items (g.S.Writer.output c.loop-above.serializer) (g.S.Writer.output c.append_in.new.serializer) d c.index-slots-above.result c.fill_bucket.new.rest.items c.fill_bucket.new.bucket e (rw c.pos.ensures at c.in_ok-fill_bucket.ensures.writes) c.in_ok-fill_bucket.ensures.kept c.in_ok-append_in.ensures.0 c.in_ok-append_in.ensures.1;
       room = c.in_ok-fill_bucket.ensures.kept;
     }
-
-pub returns-clause-writes : goal.returns-clause-writes
-returns-clause-writes g c =
-    let z : c.loop-above.above ≡ 0 = omega (arith, c.loop-above-test.false) in
-    down_end g.U.Archived.HasSpec.spec.size g.W.Width.LIMIT (written_as g.X.Lend.lent g.U.Archive.format) c.args.slots.now c.args.resolvers.items (g.S.Writer.output c.args.serializer.now) c.loop-above.rest.items (g.S.Writer.output c.loop-above.serializer) (rw z at c.loop-above.invariant.down)

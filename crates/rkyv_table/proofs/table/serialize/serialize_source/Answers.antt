@@ -1,17 +1,9 @@
-use Rattle.std.proofs.Common.{arith, refl}
+use Rattle.std.proofs.Common.{arith}
 use Rattle.std.proofs.lemmas.Result.{err_from_is_err_and}
 use Rattle.rkyv_base.specs.{written_as}
-use Rattle.rkyv_table.proofs.TableResults.{capacity_fits, fails_some, wrote_none, wrote_some}
+use Rattle.rkyv_table.proofs.TableResults.{capacity_fits, fails_some, wrote_some}
 use Rattle.rkyv_table.specs.{HasCapacity}
 use Rattle.rkyv_table.proofs.table.serialize.serialize_source.Goals as goal
-
-pub returns-in-Ok : goal.returns-in-Ok
-returns-in-Ok g c =
-    let cap = c.in_ok-cap.ensures in
-    let has : HasCapacity c.args.len c.args.load_factor g.W.Width.MAX_CAPACITY = (cap.0, rw (cap.1, c.MAX_CAPACITY.ensures) at cap.2) in
-    let fits = capacity_fits c.args.len c.args.load_factor g.W.Width.MAX_CAPACITY g.met.W.Width.layout has in
-    let o = g.S.Writer.output c.args.serializer.now in
-    wrote_none (g.H.ItemSource.input c.args.given).yields c.args.len c.args.load_factor g.W.Width.MAX_CAPACITY g.W.Word.word g.U.Archived.HasSpec.spec (written_as g.X.Lend.lent g.U.Archive.format) o o g.W.Width.LIMIT has c.if-len-eq0.true c.in-Ok.ensures refl fits
 
 pub returns : goal.returns
 returns g c =

@@ -2,9 +2,6 @@ use Rattle.std.proofs.Common.{arith, ◌<◌, ◌^◌, rules}
 use Rattle.rkyv_table.proofs.PlacingSteps.{bucket_inside, placed_more, placed_room}
 use Rattle.rkyv_table.proofs.table.take.place_item.Goals as goal
 
-pub place_from-bucket-requires-clause-wrapped : goal.place_from-bucket-requires-clause-wrapped
-place_from-bucket-requires-clause-wrapped g c = c.requires.room.2.written.wrapped
-
 pub place_from-bucket-requires-clause-room : goal.place_from-bucket-requires-clause-room
 place_from-bucket-requires-clause-room g c = placed_room c.args.cap c.requires.room.0 c.args.slots.now c.args.controls.now c.requires.room.2 c.requires.room.1
 

@@ -9,13 +9,6 @@ loop-count-init g c = record {
   taken = ([], refl, refl, rw (c.requires.fresh, c.requires.empty) (placed_none c.args.cap (let r = c.requires.room in omega arith)));
 }
 
-pub place_item-requires-clause-room : goal.place_item-requires-clause-room
-place_item-requires-clause-room g c =
-    let i = c.loop-count.invariant.taken in
-    let r = c.requires.room in
-    let t = c.loop-count-test.true in
-    (i.0, omega (arith, i.2), i.3)
-
 pub loop-count-preserved : goal.loop-count-preserved
 loop-count-preserved g c =
     let i = c.loop-count.invariant.taken in

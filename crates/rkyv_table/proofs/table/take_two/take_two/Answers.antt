@@ -11,13 +11,6 @@ loop-count-init g c = record {
   taken = ([], refl, refl, refl, rw (c.requires.fresh, c.requires.empty) (placed_none c.args.cap (let r = c.requires.room in omega arith)));
 }
 
-pub place_item-requires-clause-room : goal.place_item-requires-clause-room
-place_item-requires-clause-room g c =
-    let i = c.loop-count.invariant.taken in
-    let r = c.requires.room in
-    let t = c.loop-count-test.true in
-    (i.0, omega (arith, i.3), i.4)
-
 pub loop-count-preserved : goal.loop-count-preserved
 loop-count-preserved g c =
     let i = c.loop-count.invariant.taken in
@@ -53,12 +46,6 @@ items_count {A = A} xs = length-map xs (λ (y : ℕ × A). y.1)
 
 hashes_count : {A : Type 0} (xs : List (ℕ × A)) → length (hashes_of xs) ≡ length xs
 hashes_count {A = A} xs = length-map xs (λ (y : ℕ × A). y.0)
-
-pub returns-in_default : goal.returns-in_default
-returns-in_default g c =
-    let i = c.loop-count.invariant.taken in
-    let n = items_count i.0 in
-    inl ((items_of i.0, omega (arith, n, i.3), inl (omega (arith, c.loop-count-test.true), (_, (_, i.1, c.in_default.ensures.steps)))), λ z. omega (arith, z, c.loop-count-test.true))
 
 pub returns-then-count_of_items-len : goal.returns-then-count_of_items-len
 returns-then-count_of_items-len g c =

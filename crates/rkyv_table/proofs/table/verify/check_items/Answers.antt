@@ -1,8 +1,7 @@
 use Rattle.std.proofs.Common.{◌≡◌, ◌∙◌, ◌+◌, ◌≤◌, ◌∷◌, List, ap, arith, drop, ℕ, sym}
 use Rattle.std.proofs.lemmas.Result.{err_from_is_err_and}
 use Rattle.rkyv_table.specs.{full_from}
-use Rattle.rkyv_table.proofs.ItemSteps.{IsPartlyChecked, below_head, below_rest, checked_end, checked_fails, checked_init, checked_same, checked_small, checked_step, fewer, marks_and_rest, marks_below, rest_group, rest_head, rest_none}
-use Rattle.rkyv_table.proofs.Search.{width_some}
+use Rattle.rkyv_table.proofs.ItemSteps.{IsPartlyChecked, below_head, checked_end, checked_fails, checked_init, checked_same, checked_small, checked_step, marks_and_rest, marks_below, rest_group, rest_head, rest_none}
 use Rattle.rkyv_table.proofs.SealedItems.{full_skipped, full_taken}
 use Rattle.rkyv_table.proofs.table.verify.check_items.Goals as goal
 use Rattle.rkyv_table.proofs.table.verify.check_items.Goals.{In-Some, then-controls-bucket-lt128+in_ok-low-2, else-controls-bucket-lt128}
@@ -66,15 +65,6 @@ overflow_add-count g c =
     let r = c.ranges.cap.fits in
     record { fits = omega arith }
 
-pub loop-j-preserved : goal.loop-j-preserved
-loop-j-preserved g c =
-    let arm = (goal.at.loop-j-preserved g c).In-Some in
-    let step = checked_step g.T.HasSpec.spec c.args.begin c.args.cap c.args.bytes.now c.args.controls.now c.args.lo (c.loop-base.base + c.in-Some.j) (rest g arm) c.loop-j.low c.loop-j.count c.in_ok-low.low (here g arm) c.in_ok-low.ensures.1 c.in_ok-low.ensures.2 in
-    rw c.remove_lowest_bit-marks.ensures (record { inside = c.loop-j.invariant.inside; below = below_rest g.G.GroupKind.kind.width (g.G.Mask.Marks.indices c.loop-j.marks) c.loop-j.invariant.below; checked = step })
-
-pub loop-j-smaller : goal.loop-j-smaller
-loop-j-smaller g c = rw c.remove_lowest_bit-marks.ensures (fewer (g.G.Mask.Marks.indices c.loop-j.marks) c.in-Some.j c.in-Some.ensures)
-
 pub loop-base-preserved : goal.loop-base-preserved
 loop-base-preserved g c =
     let w = g.G.GroupKind.kind.width in
@@ -86,13 +76,6 @@ loop-base-preserved g c =
       checked = checked_same g.T.HasSpec.spec c.args.begin c.args.cap c.args.bytes.now c.args.controls.now c.args.lo _ _ c.loop-j.low c.loop-j.count
           (rest_none c.args.controls.now c.args.cap b w (g.G.Mask.Marks.indices c.loop-j.marks) c.in_default.ensures ∙ ap (λ z. full_from c.args.controls.now c.args.cap (b + z)) (sym e)) c.loop-j.invariant.checked;
     }
-
-pub loop-base-smaller : goal.loop-base-smaller
-loop-base-smaller g c =
-    let e : c.WIDTH-base.result ≡ g.G.GroupKind.kind.width = c.WIDTH-base.ensures ∙ g.met.G.GroupKind.width in
-    let some = width_some g.G.GroupKind.kind g.met.G.GroupKind.lawful in
-    let i = c.loop-j.invariant.inside in
-    omega arith
 
 pub returns-in_err-low-2-clause-fails : goal.returns-in_err-low-2-clause-fails
 returns-in_err-low-2-clause-fails g c =

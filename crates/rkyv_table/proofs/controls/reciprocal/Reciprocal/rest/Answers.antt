@@ -1,14 +1,5 @@
-use Rattle.std.proofs.Common.{arith}
 use Rattle.rkyv_table.proofs.Reciprocals.{quotient_below, rest_below, rest_is, rest_less}
 use Rattle.rkyv_table.proofs.controls.reciprocal.Reciprocal.rest.Goals as goal
-
-pub overflow_mul-rest : goal.overflow_mul-rest
-overflow_mul-rest c =
-    let self = c.args.self in
-    let q = c.high_half-quotient in
-    let below = quotient_below self.divisor self.inverse c.args.number q.result self.some self.is q.ensures.low q.ensures.high c.ranges.number.fits in
-    let fits = c.ranges.number.fits in
-    record { fits = omega arith }
 
 pub overflow_sub-rest : goal.overflow_sub-rest
 overflow_sub-rest c =

@@ -1,7 +1,7 @@
 use Rattle.std.proofs.Common.{◌∙◌, ◌+◌, ◌-◌, ◌*◌, ◌∷◌, ap, arith, get_or, length, List, ltb, ℕ, rules, sym}
 use Rattle.rkyv_scan.specs.{indices_where, mask_indices}
 use Rattle.rkyv_table.specs.{positions_left}
-use Rattle.rkyv_table.proofs.RawSteps.{end_positions, head_before, head_keeps, head_positions, next_inside, next_keeps, next_positions}
+use Rattle.rkyv_table.proofs.RawSteps.{head_before, head_keeps, head_positions, next_inside, next_keeps, next_positions}
 use Rattle.rkyv_table.proofs.table.raw_iter.RawIterIterator.next.Goals as goal
 
 pub overflow_add-result : goal.overflow_add-result
@@ -78,13 +78,4 @@ loop-self-preserved g c =
       archive = c.loop-self.invariant.archive;
       value = c.loop-self.invariant.value
           ∙ next_positions s.buckets_end s.size s.count s.controls.now s.base (mask_indices 8 7 8 s.marks.bits) c.loop-self.invariant.is (omega (arith, c.loop-self-test.true)) c.in_default.ensures marks read;
-    }
-
-pub returns-clause-steps : goal.returns-clause-steps
-returns-clause-steps g c =
-    let s = c.loop-self.self-inside in
-    let e = end_positions s.buckets_end s.size s.count s.controls.now s.base (mask_indices 8 7 8 s.marks.bits) (omega (arith, c.loop-self-test.false)) in
-    record {
-      takes = (sym (ap (λ v. v.positions) c.self.view_is) ∙ c.loop-self.invariant.value ∙ e, e);
-      archive = c.loop-self.invariant.archive ∙ ap (λ v. v.archive) c.self.view_is;
     }
