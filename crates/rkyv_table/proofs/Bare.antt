@@ -6,7 +6,7 @@ use Rattle.std.specs.List.{find}
 use Rattle.rkyv_base.specs.{IsElement, Viewable}
 use Rattle.rkyv_base.specs.declared.view.View.{View}
 use Rattle.rkyv_scan.specs.{Kind}
-use Rattle.rkyv_table.specs.{AcceptedOf, CanCompare, CanCompareOf, ComparesBy, ComparesByOf, CountsEnd, FindsFirst, FindsFound, IsAcceptedAt, IsItem, IsItemAt, IsItemOf, IsItemPos, IsUnderHash, IsWalked, LooksUp, ReadsExactly, WrittenAt, home_positions, item_at, pos_found, probe_length_at, table_spec}
+use Rattle.rkyv_table.specs.{AcceptedOf, ComparesBy, ComparesByOf, CountsEnd, FindsFirst, FindsFound, IsAcceptedAt, IsItem, IsItemAt, IsItemOf, IsItemPos, IsUnderHash, IsWalked, LooksUp, ReadsExactly, WrittenAt, home_positions, item_at, pos_found, probe_length_at, table_spec}
 use Rattle.rkyv_table.proofs.ValidTable.{item_viewable}
 use Rattle.rkyv_table.proofs.SealedTable.{table_kept}
 use Rattle.rkyv_table.specs.declared.table.ArchivedHashTable.{ArchivedHashTable}
@@ -26,9 +26,6 @@ module _ {T W : Type 0} {ts : Specs T} {wt : Words W} (b : List ℕ) (p : ℕ) (
         pos = there.1;
         viewable = subst (λ (c : List ℕ). Viewable ts.spec c v.pos) archive is.1.viewable;
       }
-
-  pub can_compare : (pre : View T → Type 0) → CanCompareOf pre wt.word ts.spec b p → CanCompare pre t
-  can_compare pre callable v is = callable v (item_of v is)
 
   module _ (post : View T → Bool → Type 0) where
     pub compares_by_of : (accept : ℕ → Bool) → ComparesByOf post wt.word ts.spec b p accept → ComparesBy post t accept

@@ -1,12 +1,11 @@
 -- Placing: the first empty index of a stride, and the first of all strides.
-use Rattle.std.proofs.Common.{◌≡◌, ℕ, zero, suc, ◌+◌, ◌*◌, ◌-◌, ◌%◌, ◌<◌, ◌≤◌, ◌⊎◌, inl, inr, refl, sym, ap, ◌∙◌, arith, List, [], ◌∷◌, Bool, true, false, ◌&&◌, eqb, leb, ltb, length, get_or, take, drop, set, filter, Option, Some, None}
+use Rattle.std.proofs.Common.{◌≡◌, ℕ, zero, suc, ◌+◌, ◌*◌, ◌-◌, ◌%◌, ◌<◌, ◌≤◌, ◌⊎◌, inl, inr, refl, sym, ap, ◌∙◌, arith, List, [], ◌∷◌, Bool, true, false, ◌&&◌, eqb, leb, ltb, get_or, take, drop, filter, Option, Some, None}
 use Rattle.std.specs.List.{find, flat_map, list_any, range_with_len, slice_get}
 use Rattle.std.specs.Option.{option_map}
 use Rattle.std.proofs.lemmas.List.Folds.{find-append}
-use Rattle.std.proofs.lemmas.List.{length-set, set_past}
 use Rattle.std.proofs.lemmas.Bool.{and_from, and_left, and_right, both_ways, cases_Bool, cases_lt, eq-eqb, false_from_ne_true, le-leb, le-ltb, lt-ltb, or_left, or_right}
 use Rattle.rkyv_scan.specs.{indices_where}
-use Rattle.rkyv_table.specs.{HasRoom, IsWrapped, buckets_at, control_count, empty_index, is_empty_at, probe_capacity, probed, start, stride_has_empty, strides, with_control}
+use Rattle.rkyv_table.specs.{HasRoom, IsWrapped, buckets_at, control_count, empty_index, is_empty_at, probe_capacity, probed, start, stride_has_empty, strides}
 use Rattle.rkyv_table.proofs.Coverage.{covered, stride_below}
 use Rattle.rkyv_table.proofs.Search.{cases_option, control_of, strides_head, tail_shows_all}
 use Rattle.rkyv_table.proofs.Groups.{range_append, same_control}
@@ -170,13 +169,6 @@ runs_out h cap b free qs hb fb e same =
 pub empty_index_is : (controls : List ℕ) (p : ℕ) → empty_index controls p ≡ find (is_empty_at controls) (range_with_len p 16)
 unfolding empty_index
 empty_index_is controls p = refl
-
-pub no_range : (P : ℕ → Bool) (p n : ℕ) → n ≡ 0 → find P (range_with_len p n) ≡ None
-no_range P p n e = rw e refl
-
--- without a mirrored index, one write of a control byte is enough
-pub one_write : (controls : List ℕ) (cap b t : ℕ) → length controls ≤ cap + b → set controls b t ≡ with_control controls cap b t
-one_write controls cap b t h = let l = length-set controls b t in sym (set_past (set controls b t) (cap + b) t (omega arith))
 
 -- ---- the first empty index of all strides
 

@@ -66,10 +66,6 @@ pub below_head : (width j : ℕ) (marks : List ℕ) → AllBelow width marks →
 below_head width j [] h e = absurd (none-some j (sym e))
 below_head width j (x ∷ xs) h e = subst (λ k. k < width) (sym (same_Some j x e)) h.0
 
-pub below_rest : (width : ℕ) (marks : List ℕ) → AllBelow width marks → AllBelow width (drop 1 marks)
-below_rest width [] h = h
-below_rest width (x ∷ xs) h = h.1
-
 pub fewer : (marks : List ℕ) (j : ℕ) → Some j ≡ slice_get marks 0 → length (drop 1 marks) < length marks
 fewer [] j e = absurd (none-some j (sym e))
 fewer (x ∷ xs) j e = omega arith

@@ -22,7 +22,6 @@ pub mod SealedTable
 pub mod NestedItems
 pub mod NestedTables
 pub mod NestedEntries
-pub mod RootWrites
 pub mod Misplaced
 pub mod FirstFound
 pub mod PlacingSteps

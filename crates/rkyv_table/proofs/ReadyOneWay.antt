@@ -3,7 +3,7 @@ use Rattle.std.proofs.Common.{◌≡◌, ℕ, ◌+◌, ◌<◌, ◌∙◌, inl, 
 use Rattle.std.specs.Int.{Width}
 use Rattle.rkyv_base.specs.declared.pairs.EntryResolver.{EntryResolver}
 use Rattle.rkyv_base.specs.declared.strings.TextResolver.{TextResolver}
-use Rattle.rkyv_base.specs.{ElementSpec, Encoding, Format, IsArchiveWord, PairImage, PairParts, TextImage, TextParts, pair_bytes, pair_format, scalar_format, text_format, text_limit, text_size, unit_format, value_offset, whole_size, written_as}
+use Rattle.rkyv_base.specs.{ElementSpec, Encoding, Format, IsArchiveWord, PairImage, PairParts, TextImage, TextParts, pair_bytes, pair_format, scalar_format, text_format, text_limit, text_size, value_offset, whole_size, written_as}
 use Rattle.rkyv_base.specs.Lemmas.Text.{by_archive_word}
 use Rattle.rkyv_table.specs.{WritesOneWay}
 
@@ -11,12 +11,6 @@ pub scalars_one_way : {V : Type 0} (e : Encoding V) → WritesOneWay (scalar_for
 scalars_one_way e = record {
   parts = λ v p part part' r r' h h'. (h ∙ sym h', refl);
   image = λ v begin p part out out' r t h h'. h.bytes ∙ sym h'.bytes;
-}
-
-pub units_one_way : WritesOneWay unit_format
-units_one_way = record {
-  parts = λ v p part part' r r' h h'. (h ∙ sym h', refl);
-  image = λ v begin p part out out' r t h h'. h ∙ sym h';
 }
 
 pub written_as_one_way : {X V R : Type 0} (value_of : X → V) (f : Format V R) → WritesOneWay f → WritesOneWay (written_as value_of f)

@@ -1,11 +1,11 @@
 -- The result of writing a table, by the results of placing and writing.
 use Rattle.std.proofs.Common.{arith, inl, inr, refl, sym}
-use Rattle.std.specs.Prelude.{◌≡◌, ℕ, ◌^◌, ◌<◌, List, [], length}
+use Rattle.std.specs.Prelude.{◌≡◌, ℕ, ◌^◌, ◌<◌, List, length}
 use Rattle.std.specs.Int.{Width}
 use mir.Val.{bits}
 use Rattle.rkyv_base.specs.declared.errors.WriteError.{WriteError}
 use Rattle.rkyv_base.specs.declared.errors.WriteError.TheVariants.{CapacityTooLarge, DistanceTooLarge, InvalidLoadFactor, IteratorLengthMismatch, Memory, PositionTooLarge, Refused, TextTooLong, Writer}
-use Rattle.rkyv_base.proofs.WritingSteps.{fails_under, none_appended}
+use Rattle.rkyv_base.proofs.WritingSteps.{fails_under}
 use Rattle.rkyv_base.specs.{ElementSpec, Format, IsLayout, Output, end_of}
 use Rattle.rkyv_table.specs.{ArePlaced, HasCapacity, InBuckets, OwnCause, PairsNext, PlacingFails, TableNext, WriteItemsFails, WriteNonemptyFails, WroteItems, WroteNonempty, capacity, table_format}
 
@@ -16,14 +16,6 @@ capacity_fits len load_factor max l has = omega (arith, has.1, l.capacity_small,
 
 module _ {X R : Type 0} (yields : List (ℕ × X) → Type 0) (len : ℕ) (load_factor : ℕ × ℕ) (max : ℕ) (w : Width) (s : ElementSpec) (f : Format X R) (o o' : Output) (limit : ℕ)
     (has : HasCapacity len load_factor max) where
-  -- nothing was written for no pairs
-  pub wrote_none : len ≡ 0 → yields [] → o' ≡ o → capacity len load_factor < 2 ^ bits w → WroteItems yields len load_factor max (table_format w s f load_factor) o o' limit (record { pos = 0; len = len; load_factor = load_factor })
-  wrote_none none g same fits = (
-    has,
-    [],
-    (g, sym none),
-    ([], rw same (none_appended o), record { len = none; factor = refl; fits = fits; written = inl (refl, refl, refl) }, inl refl),
-  )
 
   module _ (some : 0 < len) where
     pub wrote_some : (z : ℕ) → capacity len load_factor < 2 ^ bits w → WroteNonempty yields len (capacity len load_factor) s f o o' limit z
