@@ -1,7 +1,8 @@
 -- Lookups in a table that is read are lookups in its bytes.
 use Rattle.rkyv_base.specs.declared.element.HasSpec.{Ghosts as Specs}
 use Rattle.rkyv_base.specs.declared.width.Word.{Ghosts as Words}
-use Rattle.std.proofs.Common.{◌≡◌, ℕ, ◌+◌, zero-add, sym, ap, subst, ◌∙◌, Bool, List, Option, None, Some}
+use Rattle.std.proofs.Common.{arith, ◌≡◌, ℕ, ◌+◌, zero-add, sym, ap, subst, ◌∙◌, Bool, List, Option, None, Some}
+use Rattle.std.proofs.lemmas.Grind.{common_steps}
 use Rattle.std.specs.List.{find}
 use Rattle.rkyv_base.specs.{IsElement, Viewable}
 use Rattle.rkyv_base.specs.declared.view.View.{View}
@@ -14,18 +15,7 @@ use Rattle.rkyv_table.specs.declared.table.ArchivedHashTable.{ArchivedHashTable}
 module _ {T W : Type 0} {ts : Specs T} {wt : Words W} (b : List ℕ) (p : ℕ) (t : ArchivedHashTable T W ts wt) (bytes : t.view.archive.now ≡ b) (pos : t.view.pos ≡ p) where
   -- an item of the table is one of the bytes
   pub item_of : (v : View T) → IsItem t v → IsItemOf wt.word ts.spec b p v
-  item_of v is =
-      let i = is.0 in
-      let archive : v.archive.now ≡ b = ap (λ a. a.now) is.1.archive ∙ bytes in
-      let P = λ (c : List ℕ) (q : ℕ). IsWalked wt.word c q i × (v.pos ≡ item_at wt.word ts.spec.size c q i) in
-      let there : P b p = subst (P b) pos (subst (λ (c : List ℕ). P c t.view.pos) bytes (is.1.walked, is.1.pos)) in
-      record {
-        archive = archive;
-        bucket = i;
-        walked = there.0;
-        pos = there.1;
-        viewable = subst (λ (c : List ℕ). Viewable ts.spec c v.pos) archive is.1.viewable;
-      }
+  item_of v is = grind (arith, common_steps)
 
   module _ (post : View T → Bool → Type 0) where
     pub compares_by_of : (accept : ℕ → Bool) → ComparesByOf post wt.word ts.spec b p accept → ComparesBy post t accept

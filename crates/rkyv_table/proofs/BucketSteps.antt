@@ -1,7 +1,8 @@
 -- One bucket more written.
 use Rattle.std.proofs.Common.{◌≡◌, ℕ, ◌+◌, ◌-◌, ◌<◌, ◌≤◌, refl, sym, ap, ◌∙◌, subst, arith, inl, inr, List, [], ◌∷◌, ◌++◌, length, get_or, take, drop, Option, Some, None, append-nil, append_assoc}
+use Rattle.std.proofs.lemmas.Grind.{common_steps}
 use Rattle.std.specs.Prelude.{IfSome, slice_get}
-use Rattle.std.proofs.lemmas.List.{drop_all, drop_more, get_or_default, length-replicate, length_push, nil_from_length, take_all, take_more}
+use Rattle.std.proofs.lemmas.List.{drop_all, drop_more, get_or_default, length-replicate, length_push, take_all, take_more}
 use Rattle.std.proofs.lemmas.Option.{slice_get-get_or}
 use Rattle.rkyv_base.specs.declared.errors.WriteError.{WriteError}
 use Rattle.rkyv_base.specs.declared.errors.WriteError.TheVariants.{DistanceTooLarge}
@@ -130,6 +131,4 @@ module _ {X R : Type 0} (size limit : ℕ) (f : Format X R) (slots : List (Optio
   }
 
   pub down_end : (left : List R) (o1 : Output) → BucketsWritten 0 left o1 → WroteBuckets size f limit slots rs o o1
-  down_end left o1 d =
-      let e : left ≡ [] = nil_from_length left d.count in
-      (d.out, (d.appended, d.within), subst (λ z. SlotImages size f slots z (end_of o1) d.out) (sym (d.all ∙ ap (λ (z : List R). z ++ d.done) e)) d.images)
+  down_end left o1 d = grind (arith, common_steps)

@@ -1,7 +1,8 @@
 -- A lookup in a written table finds the first accepted item of the list.
-use Rattle.std.proofs.Common.{◌≡◌, ℕ, suc, ◌∙◌, inl, inr, refl, sym, ap, subst, arith, Bool, true, false, ltb, List, [], ◌∷◌, length, slice_get, slice_index, Option, Some, None}
+use Rattle.std.proofs.Common.{◌≡◌, ℕ, suc, ◌∙◌, inl, inr, refl, sym, ap, subst, arith, Bool, true, false, List, [], ◌∷◌, length, slice_get, slice_index, Option, Some, None}
+use Rattle.std.proofs.lemmas.Grind.{common_steps}
 use Rattle.std.specs.Int.{Width}
-use Rattle.std.specs.List.{find, position, position_or_len}
+use Rattle.std.specs.List.{find, position}
 use Rattle.std.specs.Option.{option_map}
 use Rattle.std.proofs.lemmas.Bool.{cases_Bool}
 use Rattle.std.proofs.lemmas.List.{get_or-map, length-map}
@@ -30,10 +31,7 @@ position_front accept x xs accepted = grind (arith, accepted)
 
 -- the index of the first accepted element, if the first one is not accepted
 position_behind : {X : Type 0} (accept : X → Bool) (x : X) (xs : List X) → accept x ≡ false → position accept (x ∷ xs) ≡ option_map (λ i. suc i) (position accept xs)
-position_behind accept x xs other = elim (cases_Bool (ltb (position_or_len accept xs) (length xs))) [
-  | inl l ↦ grind (arith, other, l)
-  | inr l ↦ grind (arith, other, l)
-]
+position_behind accept x xs other = grind (arith, common_steps)
 
 -- a position that is read from behind the first one
 read_behind : (q : ℕ) (qs : List ℕ) (r : Option ℕ) → option_map (slice_index (q ∷ qs)) (option_map (λ i. suc i) r) ≡ option_map (slice_index qs) r

@@ -1,12 +1,13 @@
 -- A stride, group by group.
 use Rattle.std.proofs.Common.{◌≡◌, ◌↔◌, ℕ, zero, suc, ◌+◌, ◌*◌, ◌-◌, ◌/◌, ◌%◌, ◌^◌, ◌<◌, ◌≤◌, inl, inr, refl, sym, ap, ◌∙◌, arith, List, [], ◌∷◌, ◌++◌, Bool, true, false, ◌||◌, leb, length, map, filter, drop, take, get_or, Option, Some, None, get_or-take, get_or-drop}
+use Rattle.std.proofs.lemmas.Grind.{common_steps}
 use Rattle.std.specs.List.{find, list_any, range_with_len}
 use Rattle.std.proofs.lemmas.List.{drop-drop, drop-take, map-append, take-take}
 use Rattle.std.proofs.lemmas.List.Elements.{filter-append}
 use Rattle.std.proofs.lemmas.List.Folds.{find-append, list_any-append}
 use Rattle.std.proofs.Math.Pow.{pow_mono}
-use Rattle.std.proofs.lemmas.Nat.{div-add-mod', div-mul-add, mod-mul-add, pow-add}
-use Rattle.std.proofs.Math.Nat.{mul-le-mul_right, mul-mod_left}
+use Rattle.std.proofs.lemmas.Nat.{div-mul-add, mod-mul-add, pow-add}
+use Rattle.std.proofs.Math.Nat.{mul-mod_left}
 use Rattle.std.proofs.lemmas.Bool.{cases_Bool, or_left, or_right, false≢true}
 use Rattle.rkyv_table.proofs.Coverage.{same_tests}
 use Rattle.rkyv_scan.specs.{IsKind, Kind, indices_where}
@@ -158,17 +159,10 @@ pub width_small : (kind : Kind) → IsKind kind → kind.width ≤ 16
 width_small kind law = rw law.power.2 (pow_mono {i = law.power.0} {j = 4} law.power.1)
 
 pub group_fits : (i w : ℕ) → i < 16 / w → i * w + w ≤ 16
-group_fits i w h =
-    let d = div-add-mod' 16 w in
-    let m = mul-le-mul_right w h in
-    let e : suc i * w ≡ i * w + w = omega arith in
-    omega arith
+group_fits i w h = grind (arith, common_steps)
 
 pub groups_end : (i w : ℕ) → 16 % w ≡ 0 → i ≤ 16 / w → 16 / w ≤ i → i * w ≡ 16
-groups_end i w z a b =
-    let d = div-add-mod' 16 w in
-    let e : i ≡ 16 / w = omega arith in
-    ap (λ k. k * w) e ∙ omega arith
+groups_end i w z a b = grind (arith, common_steps)
 
 pub or_no : (b c : Bool) → c ≡ false → (b || c) ≡ b
 or_no true c e = refl

@@ -1,5 +1,6 @@
 -- The steps of a lookup over the strides, which ends in valid control bytes.
 use Rattle.std.proofs.Common.{◌≡◌, ℕ, suc, ◌+◌, ◌*◌, ◌/◌, ◌%◌, ◌^◌, ◌<◌, ◌≤◌, inl, inr, refl, sym, ap, ◌∙◌, arith, List, [], ◌∷◌, Bool, true, false, not, eqb, leb, ltb, length, get_or, filter, take, drop, get_or-take, get_or-drop, Some, None}
+use Rattle.std.proofs.lemmas.Grind.{common_steps}
 use Rattle.std.specs.List.{Contains, find, list_any, position_or_len, range_with_len}
 use Rattle.std.proofs.lemmas.List.FromFn.{get_or-range_with_len, length-range_with_len}
 use Rattle.std.proofs.lemmas.List.Folds.{Any-from_list_any}
@@ -26,9 +27,7 @@ module _ (kind : Kind) (controls : List ℕ) (cap t : ℕ) (accept : ℕ → Boo
 
   pub ends_by_empty : (p : ℕ) (ps qs : List ℕ) → qs ≡ p ∷ ps → find accept (candidates kind controls cap t p) ≡ None → stride_has_empty controls p ≡ true
       → (found_along kind controls cap t accept qs ≡ None) × (end_index qs ≡ 0)
-  ends_by_empty p ps qs q h s =
-      let e : ends_at kind controls cap t accept p ≡ true = or_right (list_any accept (candidates kind controls cap t p)) (stride_has_empty controls p) s in
-      rw q (found_along_cons kind controls cap t accept p ps ∙ rw e h, rw e refl)
+  ends_by_empty p ps qs q h s = grind (arith, common_steps)
 
   pub goes_on : (p : ℕ) (ps qs : List ℕ) → qs ≡ p ∷ ps → find accept (candidates kind controls cap t p) ≡ None → stride_has_empty controls p ≡ false
       → (found_along kind controls cap t accept qs ≡ found_along kind controls cap t accept ps) × (end_index qs ≡ 1 + end_index ps)

@@ -1,5 +1,6 @@
 -- If items are written in one way alone, so are tables of them.
 use Rattle.std.proofs.Common.{◌≡◌, ℕ, ◌+◌, ◌-◌, ◌*◌, ◌<◌, ◌∙◌, inl, inr, sym, ap, subst, arith, List, [], ◌∷◌, ◌++◌, length, slice_get, slice_index, Option, Some, None, get_or, eqb}
+use Rattle.std.proofs.lemmas.Grind.{common_steps}
 use Rattle.std.specs.Int.{Width}
 use Rattle.std.specs.List.{list_any}
 use Rattle.std.proofs.lemmas.Bool.{cases_Bool, not-false}
@@ -87,19 +88,13 @@ placed_one_way cap pairs slots slots' controls controls' some t t' =
 
 module _ (w : Width) (len cap z p : ℕ) (out out' : List ℕ) (h : IsHeader w len cap z p out) (h' : IsHeader w len cap z p out') where
   distance_one_way : h.distance ≡ h'.distance
-  distance_one_way = elim h.distance_value [
-    | inl none ↦ elim h'.distance_value [ inl none' ↦ none.1 ∙ sym none'.1 | inr some' ↦ absurd (omega (arith, none.0, some'.0)) ]
-    | inr some ↦ elim h'.distance_value [ inl none' ↦ absurd (omega (arith, some.0, none'.0)) | inr some' ↦ some.1 ∙ sym some'.1 ]
-  ]
+  distance_one_way = grind (arith, common_steps)
 
   header_one_way : out ≡ out'
   header_one_way = h.is ∙ ap (λ d. header_bytes w d len cap) distance_one_way ∙ sym h'.is
 
 resolver_is : (r r' : TableResolver) → r.pos ≡ r'.pos → r.len ≡ r'.len → r.load_factor ≡ r'.load_factor → r ≡ r'
-resolver_is r r' pos len factor =
-    let a : r ≡ record r { pos = r'.pos } = ap (λ n. record r { pos = n }) pos in
-    let b : record r { pos = r'.pos } ≡ record r' { load_factor = r.load_factor } = ap (λ n. record r { pos = r'.pos; len = n }) len in
-    a ∙ b ∙ ap (λ n. record r' { load_factor = n }) factor
+resolver_is r r' pos len factor = grind (arith, common_steps)
 
 module _ {X R : Type 0} (w : Width) (s : ElementSpec) (f : Format X R) (one : WritesOneWay f) (factor : ℕ × ℕ) where
   module _ (pairs : List (ℕ × X)) (p : ℕ) where

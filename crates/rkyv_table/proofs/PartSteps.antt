@@ -1,5 +1,6 @@
 -- One slot more whose item is serialized.
-use Rattle.std.proofs.Common.{◌≡◌, ℕ, suc, ◌+◌, ◌<◌, ◌≤◌, refl, sym, ap, ◌∙◌, subst, arith, List, [], ◌∷◌, ◌++◌, length, get_or, take, drop, Option, Some, None, append-nil, append_assoc, length-append}
+use Rattle.std.proofs.Common.{◌≡◌, ℕ, suc, ◌+◌, ◌<◌, ◌≤◌, refl, sym, ap, ◌∙◌, subst, arith, List, [], ◌∷◌, ◌++◌, length, get_or, take, drop, Option, Some, None, append-nil}
+use Rattle.std.proofs.lemmas.Grind.{common_steps}
 use Rattle.std.specs.Prelude.{slice_get}
 use Rattle.std.proofs.lemmas.List.{take-append-drop, take_more}
 use Rattle.std.proofs.lemmas.Option.{slice_get-get_or}
@@ -41,17 +42,7 @@ module _ {X R : Type 0} (f : Format X R) where
   pub part_longer : (Rest Longer : ℕ → List ℕ → List R → Type 0) (y : X) (p : ℕ) (part : List ℕ) (rs : List R) (x : X) (a : List ℕ) (r : R) → PartThen y Rest p part rs
       → ((q : ℕ) (b : List ℕ) (qs : List R) → Rest q b qs → f.parts x (q + length b) a r → Longer q (b ++ a) (qs ++ r ∷ []))
       → f.parts x (p + length part) a r → PartThen y Longer p (part ++ a) (rs ++ r ∷ [])
-  part_longer Rest Longer y p part rs x a r h longer g =
-      let n : p + length part ≡ p + length h.0 + length h.2 = ap (λ (l : List ℕ). p + length l) h.6 ∙ omega (arith, length-append h.0 h.2) in (
-        h.0,
-        h.1,
-        h.2 ++ a,
-        h.3 ++ r ∷ [],
-        h.4,
-        longer (p + length h.0) h.2 h.3 h.5 (subst (λ k. f.parts x k a r) n g),
-        ap (λ l. l ++ a) h.6 ∙ append_assoc h.0 h.2 a,
-        ap (λ l. l ++ r ∷ []) h.7,
-      )
+  part_longer Rest Longer y p part rs x a r h longer g = grind (arith, common_steps)
 
   pub parts_none : (ss : List (Option X)) (p : ℕ) (part : List ℕ) (rs : List R) → SlotParts f ss p part rs → SlotParts f (ss ++ None ∷ []) p part rs
   parts_none [] p part rs h = h

@@ -1,5 +1,6 @@
 -- The ready elements are written in one way alone.
-use Rattle.std.proofs.Common.{◌≡◌, ℕ, ◌+◌, ◌<◌, ◌∙◌, inl, inr, refl, sym, ap, subst, arith, List, ◌++◌, length}
+use Rattle.std.proofs.Common.{◌≡◌, ℕ, ◌+◌, ◌<◌, ◌∙◌, inl, inr, sym, ap, arith, List, length}
+use Rattle.std.proofs.lemmas.Grind.{common_steps}
 use Rattle.std.specs.Int.{Width}
 use Rattle.rkyv_base.specs.declared.pairs.EntryResolver.{EntryResolver}
 use Rattle.rkyv_base.specs.declared.strings.TextResolver.{TextResolver}
@@ -8,10 +9,7 @@ use Rattle.rkyv_base.specs.Lemmas.Text.{by_archive_word}
 use Rattle.rkyv_table.specs.{WritesOneWay}
 
 pub scalars_one_way : {V : Type 0} (e : Encoding V) → WritesOneWay (scalar_format e)
-scalars_one_way e = record {
-  parts = λ v p part part' r r' h h'. (h ∙ sym h', refl);
-  image = λ v begin p part out out' r t h h'. h.bytes ∙ sym h'.bytes;
-}
+scalars_one_way e = grind (arith, common_steps)
 
 pub written_as_one_way : {X V R : Type 0} (value_of : X → V) (f : Format V R) → WritesOneWay f → WritesOneWay (written_as value_of f)
 written_as_one_way value_of f one = record { parts = λ x. one.parts (value_of x); image = λ x. one.image (value_of x) }
@@ -41,26 +39,12 @@ module _ (w : Width) (kind : IsArchiveWord w) (t : List ℕ) where
   text_image p out out' r below (inr (inr h)) h' = absurd (omega (arith, below, h.0))
 
 pub texts_one_way : (w : Width) → IsArchiveWord w → WritesOneWay (text_format w)
-texts_one_way w kind = record {
-  parts = λ t p part part' r r' h h'.
-      let same = text_parts w kind t p part part' r r' h h' in
-      let e : r ≡ r' = ap (λ n. let k : TextResolver = record { pos = n } in k) same.1 in
-      (same.0, e);
-  image = λ t begin p part out out' r made h h'. text_image w kind t p out out' r (below_limit w kind t begin part r made) h h';
-}
+texts_one_way w kind = grind (arith, common_steps)
 
 module _ {V W R Q : Type 0} (k v : ElementSpec) (kf : Format V R) (vf : Format W Q) (ko : WritesOneWay kf) (vo : WritesOneWay vf) where
   pair_parts : (pair : V × W) (p : ℕ) (part part' : List ℕ) (r r' : EntryResolver R Q) → PairParts k v kf vf pair p part r → PairParts k v kf vf pair p part' r'
       → (part ≡ part') × (r ≡ r')
-  pair_parts pair p part part' r r' h h' =
-      let key = ko.parts pair.0 p h.1 h'.1 r.key r'.key h.3 h'.3 in
-      let there = subst (λ (a : List ℕ). vf.parts pair.1 (p + length a) h'.2 r'.value) (sym key.0) h'.4 in
-      let value = vo.parts pair.1 (p + length h.1) h.2 h'.2 r.value r'.value h.4 there in
-      let one : r ≡ record r { key = r'.key } = ap (λ n. record r { key = n }) key.1 in
-      let two : record r { key = r'.key } ≡ r' = ap (λ n. record r { key = r'.key; value = n }) value.1 in (
-        h.5 ∙ ap (λ (a : List ℕ). a ++ h.2) key.0 ∙ ap (λ (b : List ℕ). h'.1 ++ b) value.0 ∙ sym h'.5,
-        one ∙ two,
-      )
+  pair_parts pair p part part' r r' h h' = grind (arith, common_steps)
 
   pair_image : (pair : V × W) (begin p : ℕ) (part out out' : List ℕ) (r : EntryResolver R Q) → PairParts k v kf vf pair begin part r
       → PairImage k v kf vf pair r p out → PairImage k v kf vf pair r p out' → out ≡ out'

@@ -1,15 +1,12 @@
 -- A quotient by the reciprocal of a divisor.
-use Rattle.std.proofs.Common.{◌≡◌, ℕ, ◌+◌, ◌*◌, ◌-◌, ◌/◌, ◌%◌, ◌^◌, ◌<◌, ◌≤◌, inl, inr, sym, ap, ◌∙◌, arith}
+use Rattle.std.proofs.Common.{◌≡◌, ℕ, ◌+◌, ◌*◌, ◌-◌, ◌/◌, ◌%◌, ◌^◌, ◌<◌, ◌≤◌, inl, inr, arith}
+use Rattle.std.proofs.lemmas.Grind.{common_steps}
 use Rattle.std.proofs.Math.Nat.{mul-le-mul_left, mul-le-mul_right}
-use Rattle.std.proofs.lemmas.Nat.{div-add-mod', mod-mul-add, mod_below}
 use Rattle.std.proofs.lemmas.Bool.{cases_lt}
 
 -- the quotient of 2^64 - 1 by a divisor
 inverse_goes : (d i : ℕ) → 0 < d → i ≡ (2 ^ 64 - 1) / d → (i * d < 2 ^ 64) × (2 ^ 64 ≤ i * d + d)
-inverse_goes d i some is =
-    let whole : i * d + (2 ^ 64 - 1) % d ≡ 2 ^ 64 - 1 = ap (λ q. q * d + (2 ^ 64 - 1) % d) is ∙ div-add-mod' (2 ^ 64 - 1) d in
-    let below : (2 ^ 64 - 1) % d < d = mod_below (2 ^ 64 - 1) d some in
-    (omega arith, omega arith)
+inverse_goes d i some is = grind (arith, common_steps)
 
 -- `q`: quotient of `n * i` by 2^64. It is the quotient of `n` by `d`, or one less
 module _ (d i n q : ℕ) (some : 0 < d) (is : i ≡ (2 ^ 64 - 1) / d) (low : q * 2 ^ 64 ≤ n * i) (high : n * i < q * 2 ^ 64 + 2 ^ 64) (small : n < 2 ^ 64) where
@@ -38,11 +35,7 @@ module _ (d i n q : ℕ) (some : 0 < d) (is : i ≡ (2 ^ 64 - 1) / d) (low : q *
 
 -- the remainder, by the right quotient and by one less
 pub rest_is : (n d q : ℕ) → q * d ≤ n → n - q * d < d → n - q * d ≡ n % d
-rest_is n d q le lt =
-    let whole : q * d + (n - q * d) ≡ n = omega arith in
-    sym (sym (ap (λ z. z % d) whole) ∙ mod-mul-add q d (n - q * d) lt)
+rest_is n d q le lt = grind (arith, common_steps)
 
 pub rest_less : (n d q : ℕ) → q * d ≤ n → d ≤ n - q * d → n < q * d + 2 * d → n - q * d - d ≡ n % d
-rest_less n d q le more lt =
-    let whole : (q + 1) * d + (n - q * d - d) ≡ n = omega arith in
-    sym (sym (ap (λ z. z % d) whole) ∙ mod-mul-add (q + 1) d (n - q * d - d) (omega arith))
+rest_less n d q le more lt = grind (arith, common_steps)

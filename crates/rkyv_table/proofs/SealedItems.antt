@@ -1,13 +1,14 @@
 -- The steps of a cursor that writes items in place.
 use Rattle.rkyv_base.specs.declared.element.HasSpec.{Ghosts as Specs}
 use Rattle.rkyv_base.specs.declared.width.Word.{Ghosts as Words}
-use Rattle.std.proofs.Common.{◌≡◌, ℕ, ◌+◌, ◌-◌, ◌*◌, ◌<◌, ◌≤◌, suc, inl, inr, refl, sym, ap, subst, ◌∙◌, arith, List, ◌∷◌, length, slice_index, slice_range, take, drop, get_or-take}
+use Rattle.std.proofs.Common.{◌≡◌, ℕ, ◌+◌, ◌-◌, ◌*◌, ◌<◌, ◌≤◌, suc, inl, inr, refl, sym, ap, subst, ◌∙◌, arith, List, ◌∷◌, length, slice_index, slice_range, take, get_or-take}
+use Rattle.std.proofs.lemmas.Grind.{common_steps}
 use Rattle.std.specs.Int.{Width}
 use Rattle.std.proofs.lemmas.Bool.{cases_eq, le-ltb, lt-ltb}
 use Rattle.rkyv_base.specs.{ElementSpec, IsElement, ModifiesOnly, StaysValid, Viewable, archive_in, pos_in}
 use Rattle.rkyv_scan.specs.{is_full}
 use Rattle.rkyv_scan.proofs.Indices.{range_agree}
-use Rattle.rkyv_table.specs.{IsItemAt, IsReadAt, IsSealIter, IsTableSeal, IsWalked, KeepsTable, StaysThere, cap_at, control_count, controls_pos, cursor_buckets_left, full_from, item_at, len_at, pos_before, table_bytes, table_controls, table_pos, table_spec, walk}
+use Rattle.rkyv_table.specs.{IsItemAt, IsReadAt, IsSealIter, IsTableSeal, IsWalked, KeepsTable, StaysThere, cap_at, controls_pos, cursor_buckets_left, full_from, item_at, len_at, pos_before, table_bytes, table_controls, table_pos, table_spec, walk}
 use Rattle.rkyv_table.specs.declared.table.TableOf.{TableOf}
 use Rattle.rkyv_table.specs.declared.table.ArchivedHashTable.{ArchivedHashTable}
 use Rattle.rkyv_base.specs.declared.seal.ArchiveSeal.{ArchiveSeal}
@@ -62,12 +63,7 @@ module _ {T : Type 0} (w : Width) (s : ElementSpec) (law : IsElement s) (p : ℕ
       omega arith
 
   control_same : 0 < r.left → (i : ℕ) → i < r.cap → slice_index controls i ≡ slice_index (table_controls w bytes p) i
-  control_same h i l =
-      let f = is.cap in
-      let e = is.buckets_end (some_buckets h) in
-      let m : i < (controls_pos w bytes p + control_count (cap_at w bytes p)) - controls_pos w bytes p = omega arith in
-      ap (λ n. slice_index (slice_range bytes n (n + r.cap)) i) e
-      ∙ front_same (drop (controls_pos w bytes p) bytes) ((controls_pos w bytes p + r.cap) - controls_pos w bytes p) ((controls_pos w bytes p + control_count (cap_at w bytes p)) - controls_pos w bytes p) i (omega arith) m
+  control_same h i l = grind (arith, common_steps)
 
   pub full_same : 0 < r.left → (x : ℕ) → full_from controls r.cap x ≡ full_from (table_controls w bytes p) r.cap x
   unfolding full_from

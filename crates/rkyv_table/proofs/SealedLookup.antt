@@ -1,7 +1,8 @@
 -- A lookup in the table that is read is one in the bytes of the seal.
 use Rattle.rkyv_base.specs.declared.element.HasSpec.{Ghosts as Specs}
 use Rattle.rkyv_base.specs.declared.width.Word.{Ghosts as Words}
-use Rattle.std.proofs.Common.{◌≡◌, ℕ, ap, sym, subst, ◌∙◌, Bool, List, Option}
+use Rattle.std.proofs.Common.{arith, ◌≡◌, ℕ, ap, sym, subst, ◌∙◌, Bool, List, Option}
+use Rattle.std.proofs.lemmas.Grind.{common_steps}
 use Rattle.std.specs.List.{find}
 use Rattle.rkyv_base.specs.{IsElement, SealAt, Viewable, archive_in, bytes_of, pos_in, pos_of}
 use Rattle.rkyv_base.specs.declared.seal.ArchiveSeal.{ArchiveSeal}
@@ -22,9 +23,7 @@ read_there a t v of bytes pos = (ap bytes_of of ∙ bytes, ap pos_of of ∙ pos)
 module _ {T W : Type 0} {ts : Specs T} {wt : Words W} (law : IsElement ts.spec) (a : ArchiveSeal (TableOf T W)) (t : ArchivedHashTable T W ts wt) (read : IsReadAt a t) (table : IsTableSeal wt.word ts.spec a) where
   -- the position of a bucket of the table, in the bytes of the seal
   at_seal : (q : ℕ) → IsItemPos t q → (i : ℕ) × IsWalked wt.word (archive_in a) (pos_in a) i × (q ≡ item_at wt.word ts.spec.size (archive_in a) (pos_in a) i)
-  at_seal q is =
-      let P = λ (b : List ℕ) (p : ℕ). (i : ℕ) × IsWalked wt.word b p i × (q ≡ item_at wt.word ts.spec.size b p i) in
-      subst (P (archive_in a)) read.1 (subst (λ b. P b t.view.pos) read.0 is)
+  at_seal q is = grind (arith, common_steps)
 
   pub pos_viewable : (q : ℕ) → IsItemPos t q → Viewable ts.spec (archive_in a) q
   pos_viewable q is = let k = at_seal q is in subst (Viewable ts.spec (archive_in a)) (sym k.2) (item_viewable wt.word ts.spec law (archive_in a) (pos_in a) table k.0 k.1)

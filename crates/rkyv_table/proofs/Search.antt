@@ -1,9 +1,10 @@
 -- The general steps of a search over strides.
-use Rattle.std.proofs.Common.{◌≡◌, ℕ, zero, suc, ◌+◌, ◌*◌, ◌-◌, ◌/◌, ◌%◌, ◌<◌, ◌≤◌, ◌⊎◌, inl, inr, refl, sym, ap, ◌∙◌, arith, List, [], ◌∷◌, Bool, true, false, cond, eqb, ltb, get_or, take, drop, map, filter, Option, Some, None, get_or-take, get_or-drop, add-zero}
+use Rattle.std.proofs.Common.{◌≡◌, ℕ, zero, suc, ◌+◌, ◌*◌, ◌-◌, ◌/◌, ◌%◌, ◌<◌, ◌≤◌, ◌⊎◌, inl, inr, refl, sym, ap, ◌∙◌, arith, List, [], ◌∷◌, Bool, true, false, cond, eqb, ltb, get_or, take, drop, map, filter, Option, Some, None, add-zero}
+use Rattle.std.proofs.lemmas.Grind.{common_steps}
 use Rattle.std.specs.List.{find, flat_map, list_any, range_with_len}
 use Rattle.std.specs.Option.{option_and_then}
 use Rattle.std.proofs.Math.Nat.{mod-eq_of_lt}
-use Rattle.std.proofs.lemmas.Nat.{div-add-mod', mod_below, pow_pos}
+use Rattle.std.proofs.lemmas.Nat.{mod_below, pow_pos}
 use Rattle.std.proofs.lemmas.List.Folds.{find-append}
 use Rattle.std.proofs.lemmas.Option.{none-some, same_Some}
 use Rattle.std.proofs.lemmas.Bool.{and_parts, cases_Bool, cases_lt, eq-eqb, eqb-true, lt-ltb, ltb-true, or_from, or_left, or_right}
@@ -69,12 +70,7 @@ strides_head h cap pos =
 -- ---- marked indices
 
 at_mark : (kind : Kind) (controls : List ℕ) (p q : ℕ) → 0 < kind.width → p ≤ q → get_or (take kind.width (drop (p + (q - p) / kind.width * kind.width) controls)) ((q - p) % kind.width) 0 ≡ get_or controls q 0
-at_mark kind controls p q pos le =
-    let w = kind.width in
-    let l : (q - p) % w < w = mod_below (q - p) w pos in
-    let d = div-add-mod' (q - p) w in
-    let e : p + (q - p) / w * w + (q - p) % w ≡ q = omega arith in
-    get_or-take w (drop (p + (q - p) / w * w) controls) ((q - p) % w) 0 l ∙ get_or-drop (p + (q - p) / w * w) controls ((q - p) % w) 0 ∙ ap (λ z. get_or controls z 0) e
+at_mark kind controls p q pos le = grind (arith, common_steps)
 
 pub width_some : (kind : Kind) → IsKind kind → 0 < kind.width
 width_some kind law = rw law.power.2 (pow_pos law.power.0)

@@ -1,5 +1,6 @@
 -- The result of writing a table, by the results of placing and writing.
-use Rattle.std.proofs.Common.{arith, inl, inr, refl, sym}
+use Rattle.std.proofs.Common.{arith, inl, inr}
+use Rattle.std.proofs.lemmas.Grind.{common_steps}
 use Rattle.std.specs.Prelude.{◌≡◌, ℕ, ◌^◌, ◌<◌, List, length}
 use Rattle.std.specs.Int.{Width}
 use mir.Val.{bits}
@@ -20,14 +21,7 @@ module _ {X R : Type 0} (yields : List (ℕ × X) → Type 0) (len : ℕ) (load_
   module _ (some : 0 < len) where
     pub wrote_some : (z : ℕ) → capacity len load_factor < 2 ^ bits w → WroteNonempty yields len (capacity len load_factor) s f o o' limit z
         → WroteItems yields len load_factor max (table_format w s f load_factor) o o' limit (record { pos = z; len = len; load_factor = load_factor })
-    wrote_some z fits (pairs, slots, controls, taken, bytes, appended, is) =
-        let n : length pairs ≡ len = taken.exactly.1 in
-        let placed : ArePlaced (capacity (length pairs) load_factor) pairs slots controls = rw n taken.placed in (
-          has,
-          pairs,
-          taken.exactly,
-          (bytes, appended.0, record { len = sym n; factor = refl; fits = fits; written = inr (slots, controls, (omega (arith, n, some), placed), is) }, inr appended.1),
-        )
+    wrote_some z fits (pairs, slots, controls, taken, bytes, appended, is) = grind (arith, common_steps)
 
     module _ {F : Type 0} (other : ℕ → Type 0) where
       own_of : (e : WriteError F) → PlacingFails len other e → OwnCause len load_factor max other e

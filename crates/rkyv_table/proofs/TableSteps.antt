@@ -1,5 +1,6 @@
 -- The parts of a table, in order.
-use Rattle.std.proofs.Common.{◌≡◌, ℕ, ◌+◌, ◌*◌, refl, ap, ◌∙◌, subst, arith, List, ◌++◌, length, Option, append-nil, append_assoc, inl, inr}
+use Rattle.std.proofs.Common.{◌≡◌, ℕ, ◌+◌, ◌*◌, refl, ap, ◌∙◌, subst, arith, List, ◌++◌, length, Option, append_assoc, inl, inr}
+use Rattle.std.proofs.lemmas.Grind.{common_steps}
 use Rattle.std.proofs.lemmas.List.{length-replicate}
 use Rattle.rkyv_base.specs.declared.errors.WriteError.{WriteError}
 use Rattle.rkyv_base.specs.{Appended, Appends, ElementSpec, Format, Only, Output, Step, Within, WriteFails, end_of, padding, piece, zeros}
@@ -14,10 +15,7 @@ zeros_behind align o o1 a appended = ap (λ (n : ℕ). zeros (padding align n)) 
 -- one piece after the appended bytes. If it is the next step, a failure of it is one of the whole
 pub piece_fails : {F : Type 0} (limit : ℕ) (Next : List ℕ → Step → Type 0) (o o1 o2 : Output) (a bytes : List ℕ) (e : WriteError F) → Appends o o1 a → Within limit o1 a
     → ((step : Step) → step ≡ piece bytes → Next a step) → WriteFails limit (Only (piece bytes)) o1 o2 e → WriteFails limit Next o o2 e
-piece_fails limit Next o o1 o2 a bytes e appended inside next t =
-    fails_after limit Next (Only (piece bytes)) o o1 o2 a e appended inside
-    (λ g step h. let k : a ++ g ≡ a = ap (λ (y : List ℕ). a ++ y) h.0 ∙ append-nil a in rw k (next step h.1))
-    t
+piece_fails limit Next o o1 o2 a bytes e appended inside next t = grind (arith, common_steps)
 
 module _ (F : Type 0) {X R : Type 0} (s : ElementSpec) (limit : ℕ) (f : Format X R) (sized : (x : X) (r : R) (p : ℕ) (out : List ℕ) → f.image x r p out → length out ≡ s.size)
     (slots : List (Option X)) (controls : List ℕ) (o : Output) where

@@ -2,11 +2,11 @@
 use Rattle.rkyv_base.specs.declared.element.HasSpec.{Ghosts as Specs}
 use Rattle.rkyv_base.specs.declared.width.Word.{Ghosts as Words}
 use Rattle.std.proofs.Common.{◌≡◌, ℕ, ◌+◌, ◌*◌, ◌%◌, ◌<◌, ◌≤◌, inl, inr, refl, sym, ap, subst, ◌∙◌, arith, List, Bool, length, slice_range, pos, ◌+ℤ◌}
+use Rattle.std.proofs.lemmas.Grind.{common_steps}
 use Rattle.std.specs.Int.{Width}
 use Rattle.std.proofs.lemmas.Int.{ints}
 use Rattle.std.proofs.lemmas.Bool.{cases_eq}
 use Rattle.std.proofs.Math.Nat.{mul-le-mul_right}
-use Rattle.std.proofs.lemmas.Grind.{common_steps}
 use Rattle.rkyv_scan.specs.{Kind}
 use Rattle.rkyv_base.specs.{ElementSpec, IsElement, Viewable, signed_at}
 use Rattle.rkyv_base.specs.declared.view.View.{View}
@@ -75,17 +75,11 @@ module _ (w : Width) (s : ElementSpec) (law : IsElement s) (b : List ℕ) (p : �
 
   -- a table with items has buckets
   pub some_cap : 0 < len_at w b p → 0 < cap_at w b p
-  some_cap h = elim v.valid.1 [
-    | inl e ↦ absurd (omega (arith, e.0))
-    | inr t ↦ let r = t.2.controls.room in omega arith
-  ]
+  some_cap h = grind (arith, common_steps)
 
   -- a table without buckets has no items
   pub no_items : cap_at w b p ≡ 0 → len_at w b p ≡ 0
-  no_items h = elim v.valid.1 [
-    | inl e ↦ e.0
-    | inr t ↦ let r = t.2.controls.room in absurd (omega arith)
-  ]
+  no_items h = grind (arith, common_steps)
 
 -- lookups in control bytes that were read of a table, if it has buckets, are those in its own
 module _ {T W : Type 0} {ts : Specs T} {wt : Words W} (law : IsElement ts.spec) (t : ArchivedHashTable T W ts wt) (controls : List ℕ)

@@ -1,5 +1,6 @@
 -- The steps of a walk.
 use Rattle.std.proofs.Common.{◌≡◌, ℕ, zero, suc, ◌+◌, ◌-◌, ◌<◌, ◌≤◌, inl, inr, refl, sym, ap, ◌∙◌, arith, List, [], ◌∷◌, ◌++◌, Bool, true, eqb, ltb, map, filter, drop, take, length, get_or, Some, None, get_or-take, get_or-drop}
+use Rattle.std.proofs.lemmas.Grind.{common_steps}
 use Rattle.std.specs.List.{Contains, list_any, range_with_len, slice_get}
 use Rattle.std.proofs.lemmas.Bool.{and_from, and_parts, cases_Bool, cases_eq, cases_lt, eq-eqb, le-ltb, lt-ltb, ltb-true}
 use Rattle.std.proofs.lemmas.Option.{none-some, same_Some}
@@ -113,10 +114,7 @@ first_left controls cap base width j indices w e =
     first_range P w.next (width - w.next) j (sym (e' ∙ head_filter P (range_with_len w.next (width - w.next))))
 
 pub head_inside : (controls : List ℕ) (cap base width j : ℕ) (indices : List ℕ) → IsWalk controls cap base width indices → Some j ≡ slice_get indices 0 → j < width
-head_inside controls cap base width j indices w e =
-    let f = first_left controls cap base width j indices (walk_from controls cap base width indices w) e in
-    let inside = w.inside in
-    omega (arith, f.to)
+head_inside controls cap base width j indices w e = grind (arith, common_steps)
 
 pub keeps_walk : (controls : List ℕ) (cap base width j : ℕ) (indices rest : List ℕ) → IsWalk controls cap base width indices → Some j ≡ slice_get indices 0 → rest ≡ drop 1 indices → IsWalk controls cap base width rest
 keeps_walk controls cap base width j indices rest is e r =

@@ -1,16 +1,15 @@
 -- A stride as one group.
 use Rattle.std.proofs.Common.{◌≡◌, ◌↔◌, ℕ, ◌+◌, ◌*◌, ◌%◌, ◌<◌, sym, ap, ◌∙◌, arith, List, Bool, true, ◌||◌, leb, length, map, filter, drop, take, get_or, Option, None}
+use Rattle.std.proofs.lemmas.Grind.{common_steps}
 use Rattle.std.specs.List.{find, list_any, range_with_len}
 use Rattle.rkyv_scan.specs.{IsKind, Kind, indices_where}
 use Rattle.rkyv_table.specs.{IsFullInStride, IsMarked, candidates, stride_has_empty}
-use Rattle.rkyv_table.proofs.Groups.{all_candidates, all_empty, candidates_in, empty_in, found_more, group_of, indices_are, mark_is_any, more_empty, no_candidates, no_empty}
+use Rattle.rkyv_table.proofs.Groups.{all_candidates, all_empty, candidates_in, empty_in, found_more, indices_are, mark_is_any, more_empty, no_candidates, no_empty}
 use Rattle.rkyv_table.proofs.Marks.{marked_bucket_full}
 use Rattle.rkyv_table.proofs.Search.{width_some}
 
 whole_group : (controls group stride : List ℕ) (p w : ℕ) → w ≡ 16 → group ≡ take w stride → stride ≡ take 16 (drop p controls) → group ≡ take w (drop (p + 0 * w) controls)
-whole_group controls group stride p w one s e =
-    let z : p + 0 ≡ p + 0 * w = omega arith in
-    s ∙ group_of controls stride p 0 w (omega arith) e ∙ ap (λ n. take w (drop n controls)) z
+whole_group controls group stride p w one s e = grind (arith, common_steps)
 
 pub whole_found : (kind : Kind) → IsKind kind → (controls group stride : List ℕ) (cap t p : ℕ) (accept : ℕ → Bool) (r : Option ℕ) (indices : List ℕ) → kind.width ≡ 16
     → group ≡ take kind.width stride → stride ≡ take 16 (drop p controls) → indices ≡ indices_where (kind.marks group t) kind.width

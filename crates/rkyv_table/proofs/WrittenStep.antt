@@ -1,12 +1,13 @@
 -- One item more in written control bytes.
-use Rattle.std.proofs.Common.{◌≡◌, ℕ, ◌+◌, ◌*◌, ◌-◌, ◌%◌, ◌^◌, ◌<◌, ◌≢◌, inl, inr, refl, sym, ap, ◌∙◌, arith, List, [], ◌∷◌, ◌++◌, Bool, true, false, ◌&&◌, eqb, ltb, length, get_or, take, set, replicate, Some, get_or-set_same, get_or-set_other, length-set, length-take, get_or-take}
+use Rattle.std.proofs.Common.{◌≡◌, ℕ, ◌+◌, ◌*◌, ◌-◌, ◌%◌, ◌^◌, ◌<◌, ◌≢◌, inl, inr, refl, sym, ap, ◌∙◌, arith, List, [], ◌∷◌, ◌++◌, Bool, true, false, ◌&&◌, eqb, ltb, length, get_or, take, set, replicate, Some, get_or-set_same, get_or-set_other, length-set}
+use Rattle.std.proofs.lemmas.Grind.{common_steps}
 use Rattle.std.specs.List.{IsDistinct, find, flat_map, list_any, range_with_len}
 use Rattle.std.specs.Cmp.{nat_eq_equiv}
 use Rattle.std.proofs.lemmas.Map.Keys.{IsDistinct-from_apart}
 use Rattle.std.proofs.lemmas.Map.Made.{length-le_from_is_member}
 use Rattle.std.proofs.lemmas.List.FromFn.{get_or-range_with_len, length-range_with_len}
 use Rattle.std.specs.Option.{option_map}
-use Rattle.std.proofs.lemmas.List.{get_or-replicate, get_or_append_left, get_or_push, length-replicate, length_push, take-append-le, take_all}
+use Rattle.std.proofs.lemmas.List.{get_or-replicate, get_or_append_left, get_or_push, length_push, take_all}
 use Rattle.std.proofs.lemmas.List.Folds.{Any-from_list_any, find-append, list_any-append}
 use Rattle.std.proofs.lemmas.Nat.{mod_below}
 use Rattle.std.proofs.lemmas.Bool.{both_ways, cases_Bool, cases_eq, cases_lt, eq-eqb, false_from_ne_true, le-leb, leb-true, lt-leb, ne_eqb, not-false, not-true, not_from_false, or_parts}
@@ -17,9 +18,7 @@ use Rattle.rkyv_table.proofs.Lists.{any_member, some_find}
 -- ---- reading a control byte after the two writes
 
 at_bucket : (controls : List ℕ) (cap b t : ℕ) → 0 < cap → b < length controls → get_or (with_control controls cap b t) b 0 ≡ t
-at_bucket controls cap b t pos h =
-    let ne : b ≢ cap + b = omega arith in
-    get_or-set_other (set controls b t) (cap + b) b t 0 ne ∙ get_or-set_same controls b t 0 h
+at_bucket controls cap b t pos h = grind (arith, common_steps)
 
 at_repeat : (controls : List ℕ) (cap b t : ℕ) → cap + b < length controls → get_or (with_control controls cap b t) (cap + b) 0 ≡ t
 at_repeat controls cap b t h = let l = length-set controls b t in get_or-set_same (set controls b t) (cap + b) t 0 (omega arith)
@@ -67,28 +66,7 @@ pub home_below : (cap : ℕ) (hashes homes controls : List ℕ) (i : ℕ) → 0 
 home_below cap hashes homes controls i pos w hi = probed_below (is_free (take i homes)) cap (get_or homes i 0) (strides (get_or hashes i 0) cap) pos (w.placed.first i hi)
 
 pub homes_more : (cap h b : ℕ) (hashes homes : List ℕ) → AreHomes cap hashes homes → find (is_free homes) (probed h cap) ≡ Some b → AreHomes cap (hashes ++ h ∷ []) (homes ++ b ∷ [])
-homes_more cap h b hashes homes p e =
-    let n = length hashes in
-    let len = p.count in
-    let lenh = length_push hashes h in
-    let lenb = length_push homes b in
-    let whole = take_all n homes (omega arith) in
-    record {
-      count = omega arith;
-      first = λ i hi. elim (cases_lt i n) [
-        | inl l ↦
-            let a = take-append-le i homes (b ∷ []) (omega arith) in
-            let x = get_or_append_left hashes (h ∷ []) 0 i l in
-            let y = get_or_append_left homes (b ∷ []) 0 i (omega arith) in
-            rw (a, x, y) (p.first i l)
-        | inr g ↦
-            let s : i ≡ n = omega arith in
-            let a = take-append-le n homes (b ∷ []) (omega arith) in
-            let x = get_or_push hashes h 0 n refl in
-            let y = get_or_push homes b 0 n len in
-            rw (s, a, x, y, whole) e
-      ];
-    }
+homes_more cap h b hashes homes p e = grind (arith, common_steps)
 
 pub one_more : (cap h b : ℕ) (hashes homes controls : List ℕ) → 0 < cap → AreWrittenControls cap hashes homes controls → ((j : ℕ) → j < length hashes → get_or hashes j 0 < 2 ^ 64) → h < 2 ^ 64
     → find (is_empty_at controls) (probed h cap) ≡ Some b
@@ -150,19 +128,7 @@ fresh_at n q h = get_or-replicate n q 255 0 h
 
 -- the fresh control bytes are those of no item
 pub fresh : (cap : ℕ) → 0 < cap → AreWrittenControls cap [] [] (replicate (control_count cap) 255)
-fresh cap pos =
-    let at = λ (q : ℕ) (h : q < control_count cap). fresh_at (control_count cap) q h in
-    record {
-      placed = record { count = refl; first = λ i hi. absurd (omega arith) };
-      wrapped = record {
-        count = length-replicate (control_count cap) 255;
-        repeated = λ q lo two c. at q c ∙ sym (at (q - cap) (omega arith));
-        past = λ q g c. let e = at q c in omega arith;
-      };
-      tags = λ i hi. absurd (omega arith);
-      others = λ b hb f. at b (omega arith);
-      past = λ q g c. at q c;
-    }
+fresh cap pos = grind (arith, common_steps)
 
 -- fewer home buckets than buckets leave one free
 pub free_bucket : (cap : ℕ) (homes : List ℕ) → length homes < cap → (b : ℕ) × (b < cap) × (is_free homes b ≡ true)
@@ -197,6 +163,4 @@ room_left cap hashes homes controls w fits h =
     (f.0, f.1, leb-true 128 (get_or controls f.0 0) (sym (free_empty cap hashes homes controls f.0 w fits f.1) ∙ f.2))
 
 pub all_fit : (hashes : List ℕ) (i : ℕ) → ((j : ℕ) → get_or hashes j 0 < 2 ^ 64) → (j : ℕ) → j < length (take i hashes) → get_or (take i hashes) j 0 < 2 ^ 64
-all_fit hashes i fits j h =
-    let l = length-take i hashes in
-    rw (get_or-take i hashes j 0 (omega arith)) (fits j)
+all_fit hashes i fits j h = grind (arith, common_steps)

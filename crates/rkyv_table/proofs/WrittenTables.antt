@@ -1,5 +1,6 @@
 -- A table that represents items was written from them.
 use Rattle.std.proofs.Common.{◌≡◌, ◌≢◌, ℕ, ◌^◌, ◌<◌, ap, refl, sym, subst, ◌∙◌, arith, inl, inr, List, [], ◌∷◌, length, slice_get, slice_index, Some, pos}
+use Rattle.std.proofs.lemmas.Grind.{common_steps}
 use Rattle.std.specs.Int.{Width}
 use Rattle.std.proofs.lemmas.Bool.{cases_lt}
 use Rattle.std.proofs.lemmas.List.{get_or-map, length-map}
@@ -19,10 +20,7 @@ home_pos w size b p homes i h = get_or-map (item_at w size b p) homes i 0 0 h
 module _ (w : Width) (b : List ℕ) (p : ℕ) (hashes homes : List ℕ) (written : WrittenAt w b p hashes homes) where
   -- there are as many home buckets as hashes
   pub home_count : length homes ≡ length hashes
-  home_count = elim written.placed [
-    | inl none ↦ rw (none.0, none.1) refl
-    | inr some ↦ some.1.placed.count
-  ]
+  home_count = grind (arith, common_steps)
 
   -- no two items have one home bucket
   pub homes_differ : (i j : ℕ) → i < length homes → j < length homes → i ≢ j → slice_index homes i ≢ slice_index homes j
