@@ -23,6 +23,7 @@ pub mod NestedWrites
 pub mod SealedIndex
 pub mod Headers
 pub mod FirstListed
+pub mod FirstWrites
 pub mod MatchedKeys
 pub mod ListedAt
 pub mod ListedWalks

@@ -36,7 +36,7 @@ unfoldable pub use Map.IndexFormat.{WrittenIndexMaps, element, hashed_indices, i
 unfoldable pub use Map.IndexFormat.{indices, indices_from, row_format}
 pub use Map.IndexFormat.{ArchivedAs, BeforeRow, BeforeZeros, IndexParts, IndexWrittenAt, IndicesAs}
 pub use Map.IndexFormat.{RowRepresents}
-unfoldable pub use Map.ValueWrites.{KeptByWrites, SetsValue, ValueWritesKeepIndexMaps}
+unfoldable pub use Map.ValueWrites.{KeptByWrites, SetsListed, ValueWritesKeepIndexMaps}
 unfoldable pub use Map.ValueWrites.{WritesKeepLookups, WritesRepresent, index_kind, pair_at}
 pub use Map.ValueWrites.{IndexKind, KeepsEntries, KeepsIndexMap}
 unfoldable pub use Map.NestedWrites.{NestedWritesKeepIndexMaps, ValueWritesAreNested}
@@ -57,8 +57,11 @@ pub use Map.Complete.{FitsAlone}
 unfoldable pub use Map.Lookups.{full_key_part, full_part, index_part, key_part, pair_part, part_at}
 unfoldable pub use Map.Lookups.{value_part}
 pub use Map.Lookups.{FoundByHas, FoundKeyHas, GetsBy, GetsKey, Part}
-unfoldable pub use Map.InPlace.{FoundValueHas, UppercasesListed, index_over, index_to_texts_spec}
-unfoldable pub use Map.InPlace.{value_pos_of}
+unfoldable pub use Map.InPlace.{FoundValueHas, RepresentsIn, SetsFirst, SetsFound, SetsValue}
+unfoldable pub use Map.InPlace.{UppercasesFirst, UppercasesFound, UppercasesListed, UppercasesText}
+unfoldable pub use Map.InPlace.{index_over, index_to_texts_over, index_to_texts_spec}
+unfoldable pub use Map.InPlace.{list_after_uppercase, uppercase_text, value_pos_of, with_first}
+unfoldable pub use Map.InPlace.{with_first_changed}
 unfoldable pub use Map.ListArchives.{FoundAreListed, index_root}
 pub use Map.ListArchives.{FindsInRoot}
 unfoldable pub use Map.ListedLookups.{AgreesOnKeys, IsFirst, LookupsFindListed}

@@ -16,6 +16,7 @@ macro_rules! expect_eq {
 }
 
 mod archives;
+mod by_key;
 mod changes;
 mod checking;
 mod equality;

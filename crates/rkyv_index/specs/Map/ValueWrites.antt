@@ -89,8 +89,8 @@ module _ (w : Width) (k v : ElementSpec) (writes : List ℕ → List ℕ → ℕ
 
 -- After a write of the value at index `i` of the index map at `p` of `b`, it represents the list
 -- with the new value in `c`. `represents`: lists that index maps represent, by the load factor
-abbrev pub SetsValue : {A N : Type 0} → (ℕ × ℕ → List ℕ → ℕ → List (A × N) → Type 0) → List ℕ
+abbrev pub SetsListed : {A N : Type 0} → (ℕ × ℕ → List ℕ → ℕ → List (A × N) → Type 0) → List ℕ
     → List ℕ → ℕ → ℕ → N → Type 0
-SetsValue {A} {N} represents b c p i value =
+SetsListed {A} {N} represents b c p i value =
     (factor : ℕ × ℕ) (pairs : List (A × N)) (pair : A × N) → represents factor b p pairs
     → slice_get pairs i ≡ Some pair → represents factor c p (slice_set pairs i (pair.0, value))

@@ -1,30 +1,32 @@
 //! Writing values of an index map in place.
 //!
-//! A write in place changes the value at an index. It adds and removes no key.
+//! A write in place changes the value of a key that is in the map. It adds and removes no key.
 //!
 //! | To write | Call | Takes |
 //! |---|---|---|
-//! | a scalar | `set_value_at` | bytes, an index and the scalar |
-//! | an inline text in upper case | `make_ascii_uppercase_at` | bytes and an index |
+//! | a scalar | `set_value_of` | bytes, a native key and the scalar |
+//! | an inline text in upper case | `make_ascii_uppercase_of` | bytes and a native key |
+//! | a scalar at an index | `set_value_at` | bytes, an index and the scalar |
+//! | an inline text at an index in upper case | `make_ascii_uppercase_at` | bytes and an index |
 //! | a value of any type | `ArchivedIndexMap::found_with` | bytes, a query and a closure |
 //! | a value by its seal | `ArchivedIndexMap::get_seal` | a seal of the map and a query |
 //! | a value while its key is read | `ArchivedIndexMap::get_key_value_seal` | the same |
 //! | the same, with the index | `ArchivedIndexMap::get_full_seal` | the same |
 //!
-//! Take the first call that fits. The contracts of `set_value_at` and `make_ascii_uppercase_at`
-//! also have the list that the map represents afterwards. The contract of `found_with` covers all
-//! bytes of the archive afterwards.
+//! Take the first call that fits. The contracts of the first four also have the list that the map
+//! represents afterwards. The contract of `found_with` covers all bytes of the archive afterwards.
 //!
-//! `get_index_of` returns the index of a key. `make_ascii_uppercase_at` is in
-//! `map::in_place::text`. The sealed lookups that end in `_with` take a comparison. `map::laws`
-//! has the laws of the map afterwards. If the map is a value of another map or index map,
-//! `map::laws::nested` has the laws of the outer one.
+//! `make_ascii_uppercase_of` and `make_ascii_uppercase_at` are in `map::in_place::text`.
+//! The sealed lookups that end in `_with` take a comparison. `map::laws` has the laws of the map
+//! afterwards. If the map is a value of another map or index map, `map::laws::nested` has the laws
+//! of the outer one.
 ghost use Rattle.std.specs.Prelude.{IfSome, length, ◌+◌, ◌<◌, ◌≡◌, ◌≤◌};
 ghost use Rattle.rkyv_base.specs.{ScalarRepresents, Viewable, entry_spec, value_pos, with_value};
-ghost use Rattle.rkyv_keys.specs.{hash_at, query_of};
+ghost use Rattle.rkyv_keys.specs.{hash_at, native_pairs, query_of};
 ghost use Rattle.rkyv_table.specs.{MayWriteIn, WritesAmongParts, WritesIn, len_at};
-ghost use Rattle.rkyv_index.specs.{FoundValueHas, IndexRepresents, KeepsIndexMap, SetsValue};
-ghost use Rattle.rkyv_index.specs.{index_kind, index_over, index_spec, pair_at};
+ghost use Rattle.rkyv_index.specs.{FoundKeyHas, FoundValueHas, IndexRepresents, IsIndex};
+ghost use Rattle.rkyv_index.specs.{KeepsIndexMap, SetsFirst, SetsListed, SetsValue, index_kind};
+ghost use Rattle.rkyv_index.specs.{index_over, index_spec, pair_at};
 
 mod sealed;
 pub mod text;
@@ -35,7 +37,7 @@ use rkyv_base::element::{Element, Represents};
 use rkyv_base::scalars::Scalar;
 use rkyv_base::seal::set_at;
 use rkyv_base::view::{View, found_pos};
-use rkyv_keys::keys::{KeyElement, Query};
+use rkyv_keys::keys::{KeyElement, NativeKey, Query};
 use rkyv_scan::hash::KeyHasher;
 
 /// Returns the position of the value at `index`, in the map at `root` of an archive.
@@ -69,6 +71,19 @@ impl<'a, K: KeyElement, V: Element, H: KeyHasher, W: IndexWidth> ArchivedIndexMa
     {
         let map = ArchivedIndexMap::<K, V, H, W>::of(View::new(archive, root));
         found_pos(map.get(key))
+    }
+
+    /// Returns the index that a lookup finds, in the map at `root` of an archive.
+    #[inline]
+    fn index_in<Q: Query<K>>(archive: &[u8], root: u64, key: &Q) -> Option<usize>
+        requires map { Viewable (index_spec W.word (entry_spec K.spec V.spec)) archive.now root }
+        requires query { Q.can_read key.now }
+        ensures below { IfSome result (λ index. index < len_at W.word archive.now root) }
+        ensures finds { FoundKeyHas (index_over W.Word K.HasSpec V.HasSpec archive.now root)
+            (query_of H.hasher K.key_calls K.same (Q.calls key.now) (Q.fits key.now))
+            (IsIndex result) }
+    {
+        ArchivedIndexMap::<K, V, H, W>::of(View::new(archive, root)).get_index_of(key)
     }
 
     /// Calls `write` with the archive and the position of the value that a lookup finds.
@@ -152,7 +167,7 @@ pub fn set_value_at<A, K: KeyElement + Represents<A>, N: Scalar, H: KeyHasher, W
     ensures kept { KeepsIndexMap
         (index_kind W.word K.spec N.spec (hash_at H.hasher K.key_calls))
         archive.old archive.new root index }
-    ensures listed { SetsValue
+    ensures listed { SetsListed
         (IndexRepresents W.word K.spec N.spec K.represents (ScalarRepresents N.encoding)
         (hash_at H.hasher K.key_calls)) archive.old archive.new root index value }
     ensures parts { WritesAmongParts (index_spec W.word (entry_spec K.spec N.spec))
@@ -160,4 +175,55 @@ pub fn set_value_at<A, K: KeyElement + Represents<A>, N: Scalar, H: KeyHasher, W
 {
     let pos = value_pos_at::<K, N, H, W>(&*archive, root, index);
     set_at(archive, pos as usize, value);
+}
+
+/// Writes the value of a key in the map at `root` of an archive, and returns `true`.
+///
+/// In a map that represents a list of pairs, it is the value of the first pair with an equal key.
+/// All other bytes are unchanged. If no key is found, the result is `false`,
+/// and nothing is written.
+///
+/// In an untrusted archive, the lookup may read all control bytes.
+///
+/// # Requires
+///
+/// - The archive has a valid index map at `root`.
+/// - The key can be read, as each native key can.
+///
+/// # Examples
+///
+/// ```rust
+/// type Prices = IndexMapOf<Text, u32>;
+///
+/// // Writes the price of a name. Returns `false` if the map has no such name.
+/// fn set_price(archive: &mut [u8], name: &str, price: u32) -> Result<bool, VerifyError> {
+///     let root = access::<Prices>(&*archive)?.pos();
+///     Ok(set_value_of::<&str, Text, u32, FxHasher64, Narrow>(archive, root, &name, price))
+/// }
+/// ```
+pub fn set_value_of<
+    A: NativeKey<K>,
+    K: KeyElement + Represents<A>,
+    N: Scalar,
+    H: KeyHasher,
+    W: IndexWidth,
+>(archive: &mut [u8], root: u64, key: &A, value: N) -> bool
+    requires map { Viewable (index_spec W.word (entry_spec K.spec N.spec)) archive.old root }
+    requires query { A.can_read key.now }
+    ensures sets { SetsValue (index_over W.Word K.HasSpec N.HasSpec archive.old root)
+        (query_of H.hasher K.key_calls K.same (A.calls key.now) (A.fits key.now))
+        N.encoding value result archive.new }
+    ensures listed { SetsFirst (index_over W.Word K.HasSpec N.HasSpec archive.old root)
+        (native_pairs K.represents (ScalarRepresents N.encoding) H.hasher K.key_calls)
+        (A.eq key.now) value result archive.new }
+    ensures parts { WritesAmongParts (index_spec W.word (entry_spec K.spec N.spec))
+        archive.old archive.new root }
+{
+    match ArchivedIndexMap::<K, N, H, W>::index_in(&*archive, root, key) {
+        Some(index) => {
+            set_value_at::<A, K, N, H, W>(archive, root, index, value);
+            true
+        }
+        None => false,
+    }
 }

@@ -4,8 +4,9 @@
 //!   `get_full_seal` returns the index, too.
 //! - `get_seal_with`, `get_key_value_seal_with` and `get_full_seal_with` take a comparison.
 //!
-//! Take `found_with` of `map::in_place` if the contract must cover the bytes afterwards, and
-//! `set_value_at` to write a scalar by an index. `map::laws` has the laws of writes in place.
+//! Take `found_with` of `map::in_place` if the contract must cover the bytes afterwards.
+//! That module has a table of all calls that write values. `map::laws` has the laws of writes in
+//! place.
 //!
 //! A lookup in an untrusted map may read all of its control bytes.
 ghost use Rattle.std.specs.Prelude.{IfSome, length, ◌+◌, ◌<◌, ◌≡◌, ◌≤◌};

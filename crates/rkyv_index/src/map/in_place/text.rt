@@ -1,19 +1,21 @@
-//! Writing the inline text at an index in place.
+//! Writing an inline text in place, by its key or its index.
 //!
 //! `map::in_place` has a table of all calls that write values.
 ghost use Rattle.std.specs.Prelude.{◌<◌};
 ghost use Rattle.rkyv_base.specs.{IsTextOf, Uppercases, Viewable, text_spec, value_pos};
-ghost use Rattle.rkyv_keys.specs.{hash_at};
+ghost use Rattle.rkyv_keys.specs.{hash_at, native_pairs, query_of};
 ghost use Rattle.rkyv_table.specs.{WritesAmongParts, len_at};
-ghost use Rattle.rkyv_index.specs.{IndexRepresents, KeepsIndexMap, UppercasesListed, index_kind};
-ghost use Rattle.rkyv_index.specs.{index_to_texts_spec, pair_at};
+ghost use Rattle.rkyv_index.specs.{IndexRepresents, KeepsIndexMap, UppercasesFirst};
+ghost use Rattle.rkyv_index.specs.{UppercasesListed, UppercasesText, index_kind};
+ghost use Rattle.rkyv_index.specs.{index_to_texts_over, index_to_texts_spec, pair_at};
 
+use crate::map::ArchivedIndexMap;
 use crate::map::in_place::value_pos_at;
 use crate::width::IndexWidth;
 use rkyv_base::element::Represents;
 use rkyv_base::seal_text::uppercase_at;
 use rkyv_base::text::Text;
-use rkyv_keys::keys::KeyElement;
+use rkyv_keys::keys::{KeyElement, NativeKey};
 use rkyv_scan::hash::KeyHasher;
 
 /// Writes each letter from a to z of the text at `index` in upper case, if the text is inline.
@@ -56,4 +58,50 @@ pub fn make_ascii_uppercase_at<A, K: KeyElement + Represents<A>, H: KeyHasher, W
 {
     let pos = value_pos_at::<K, Text<W>, H, W>(&*archive, root, index);
     uppercase_at::<W>(archive, pos as usize)
+}
+
+/// Writes each letter from a to z of the text of a key in upper case, if the text is inline.
+///
+/// The map is at `root` of the archive. If it represents a list of pairs,
+/// the text is that of the first pair with an equal key.
+///
+/// - `Some(true)`: the text is inline, and is written. All other bytes are unchanged.
+/// - `Some(false)`: the text is out of line. Nothing is written.
+/// - `None`: no key is found. Nothing is written.
+///
+/// In an untrusted archive, the lookup may read all control bytes.
+///
+/// # Requires
+///
+/// - The archive has a valid index map to texts at `root`.
+/// - The key can be read, as each native key can.
+///
+/// # Examples
+///
+/// ```rust
+/// // Writes the text of a key in upper case. Returns the result of the call.
+/// fn uppercase_of<W: IndexWidth>(bytes: &mut [u8], key: i8) -> Result<Option<bool>, VerifyError> {
+///     let root = access_in::<W, IndexMapOf<i8, Text<W>, FxHasher64, W>>(&*bytes)?.pos();
+///     Ok(make_ascii_uppercase_of::<i8, i8, FxHasher64, W>(bytes, root, &key))
+/// }
+/// ```
+pub fn make_ascii_uppercase_of<
+    A: NativeKey<K>,
+    K: KeyElement + Represents<A>,
+    H: KeyHasher,
+    W: IndexWidth,
+>(archive: &mut [u8], root: u64, key: &A) -> Option<bool>
+    requires map { Viewable (index_to_texts_spec W.word K.spec) archive.old root }
+    requires query { A.can_read key.now }
+    ensures uppercases { UppercasesText (index_to_texts_over W.Word K.HasSpec archive.old root)
+        (query_of H.hasher K.key_calls K.same (A.calls key.now) (A.fits key.now))
+        result archive.new }
+    ensures listed { UppercasesFirst (index_to_texts_over W.Word K.HasSpec archive.old root)
+        (native_pairs K.represents (IsTextOf W.word (λ text. text.now)) H.hasher K.key_calls)
+        (A.eq key.now) result archive.new }
+    ensures parts { WritesAmongParts (index_to_texts_spec W.word K.spec) archive.old archive.new
+        root }
+{
+    let index = ArchivedIndexMap::<K, Text<W>, H, W>::index_in(&*archive, root, key)?;
+    Some(make_ascii_uppercase_at::<A, K, H, W>(archive, root, index))
 }
