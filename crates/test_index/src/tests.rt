@@ -19,6 +19,7 @@ mod archives;
 mod by_key;
 mod changes;
 mod checking;
+mod ends;
 mod equality;
 mod examples;
 mod forms;

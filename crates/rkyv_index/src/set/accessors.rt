@@ -2,11 +2,11 @@
 //!
 //! - `get` returns a view of the key that a query finds, and `get_full` also its index.
 //! - `get_index_of` returns the index, and `contains` returns `true` if a key is found.
-//! - `get_index` returns the key at an index.
+//! - `get_index` returns the key at an index, and `first` and `last` the first and the last key.
 //!
 //! A lookup in an untrusted set may read all of its control bytes.
 //! `FxHasher64` takes no secret key, so it doesn't protect from chosen input.
-ghost use Rattle.std.specs.Prelude.{IfSome, IsTrue, MatchOption, length, ◌↔◌, ◌≡◌, ◌≤◌};
+ghost use Rattle.std.specs.Prelude.{IfSome, IsTrue, MatchOption, length, ◌-◌, ◌↔◌, ◌≡◌, ◌≤◌};
 ghost use Rattle.rkyv_base.specs.{IsAt, IsValidView, archive_of, entry_spec, pos_of, unit_spec};
 ghost use Rattle.rkyv_table.specs.{AllValid};
 ghost use Rattle.rkyv_index.specs.{FoundKeyHas, GetsKey, IsKeyOf, IsMemberAt, IsStoredIndex};
@@ -106,6 +106,54 @@ impl<'a, K: Element, H, W: IndexWidth> ArchivedIndexSet<'a, K, H, W> {
             (λ key. IsKeyOf (keys_of self.entry) index key) }
     {
         let (key, _) = self.map.get_index(index)?;
+        Some(key)
+    }
+
+    /// Returns the first key, in insertion order, or `None` if the set has no keys.
+    ///
+    /// # Examples
+    ///
+    /// ```rust
+    /// // Returns the first word, borrowed from the archive.
+    /// fn first_word(archive: &[u8]) -> Result<Option<&str>, VerifyError> {
+    ///     let words = ArchivedIndexSet::of(access::<IndexSetOf<Text>>(archive)?);
+    ///     match words.first() {
+    ///         Some(word) => Ok(Some(word.as_str())),
+    ///         None => Ok(None),
+    ///     }
+    /// }
+    /// ```
+    #[inline]
+    pub fn first(self) -> Option<View<'a, K>>
+        ensures { MatchOption result
+            (index_len (keys_of self.entry) ≡ 0)
+            (λ key. IsKeyOf (keys_of self.entry) 0 key) }
+    {
+        let (key, _) = self.map.first()?;
+        Some(key)
+    }
+
+    /// Returns the last key, in insertion order, or `None` if the set has no keys.
+    ///
+    /// # Examples
+    ///
+    /// ```rust
+    /// // Returns the last word, borrowed from the archive.
+    /// fn last_word(archive: &[u8]) -> Result<Option<&str>, VerifyError> {
+    ///     let words = ArchivedIndexSet::of(access::<IndexSetOf<Text>>(archive)?);
+    ///     match words.last() {
+    ///         Some(word) => Ok(Some(word.as_str())),
+    ///         None => Ok(None),
+    ///     }
+    /// }
+    /// ```
+    #[inline]
+    pub fn last(self) -> Option<View<'a, K>>
+        ensures { MatchOption result
+            (index_len (keys_of self.entry) ≡ 0)
+            (λ key. IsKeyOf (keys_of self.entry) (index_len (keys_of self.entry) - 1) key) }
+    {
+        let (key, _) = self.map.last()?;
         Some(key)
     }
 }

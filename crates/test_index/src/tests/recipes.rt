@@ -45,6 +45,24 @@ fn name_at(archive: &[u8], index: usize) -> Result<Option<&str>, VerifyError> {
     }
 }
 
+// Returns the first name, borrowed from the archive.
+fn first_name(archive: &[u8]) -> Result<Option<&str>, VerifyError> {
+    let prices = ArchivedIndexMap::of(access::<Prices>(archive)?);
+    match prices.first() {
+        Some((name, _)) => Ok(Some(name.as_str())),
+        None => Ok(None),
+    }
+}
+
+// Returns the last price.
+fn last_price(archive: &[u8]) -> Result<Option<u32>, VerifyError> {
+    let prices = ArchivedIndexMap::of(access::<Prices>(archive)?);
+    match prices.last() {
+        Some((_, price)) => Ok(Some(price.to_native())),
+        None => Ok(None),
+    }
+}
+
 // Returns the prices in insertion order.
 fn all_prices(alloc: Global, archive: &[u8]) -> Result<Vec<u32>, Fail> {
     let prices = ArchivedIndexMap::of(access::<Prices>(archive)?);
@@ -79,6 +97,15 @@ fn an_index_map(rt: HostRuntime) -> Result<(), Fail> {
     Ok(())
 }
 
+#[test]
+fn the_ends_of_an_index_map(rt: HostRuntime) -> Result<(), Fail> {
+    let archive = write_prices(rt.alloc())?;
+    let first = first_name(archive.as_slice())?;
+    let last = last_price(archive.as_slice())?;
+    expect_eq!(rt; (first == Some("tea"), last), (true, Some(5)));
+    Ok(())
+}
+
 // Archives words, in this order.
 fn write_words(alloc: Global) -> Result<Vec<u8>, Fail> {
     let list = OrderedItems(vec![in alloc; "red", "green", "blue"]?);
@@ -89,6 +116,24 @@ fn write_words(alloc: Global) -> Result<Vec<u8>, Fail> {
 fn index_of(archive: &[u8], word: &str) -> Result<Option<usize>, VerifyError> {
     let words = ArchivedIndexSet::of(access::<IndexSetOf<Text>>(archive)?);
     Ok(words.get_index_of(&word))
+}
+
+// Returns the first word, borrowed from the archive.
+fn first_word(archive: &[u8]) -> Result<Option<&str>, VerifyError> {
+    let words = ArchivedIndexSet::of(access::<IndexSetOf<Text>>(archive)?);
+    match words.first() {
+        Some(word) => Ok(Some(word.as_str())),
+        None => Ok(None),
+    }
+}
+
+// Returns the last word, borrowed from the archive.
+fn last_word(archive: &[u8]) -> Result<Option<&str>, VerifyError> {
+    let words = ArchivedIndexSet::of(access::<IndexSetOf<Text>>(archive)?);
+    match words.last() {
+        Some(word) => Ok(Some(word.as_str())),
+        None => Ok(None),
+    }
 }
 
 // Reads the list of words back.
@@ -106,5 +151,14 @@ fn an_index_set(rt: HostRuntime) -> Result<(), Fail> {
     expect_eq!(rt; (blue, pink), (Some(2), None));
     let words = read_words(alloc, archive.as_slice())?;
     assert!(rt; words.len() == 3 && words[1].as_str() == "green");
+    Ok(())
+}
+
+#[test]
+fn the_ends_of_an_index_set(rt: HostRuntime) -> Result<(), Fail> {
+    let archive = write_words(rt.alloc())?;
+    let is_first = first_word(archive.as_slice())? == Some("red");
+    let is_last = last_word(archive.as_slice())? == Some("blue");
+    assert!(rt; is_first && is_last);
     Ok(())
 }

@@ -1,8 +1,8 @@
 //! Opening an index map, the number of its pairs, and the pair at an index.
 //!
-//! `of` decodes the header once. `get_index` reads no control bytes.
+//! `of` decodes the header once. `get_index`, `first` and `last` read no control bytes.
 ghost use Rattle.std.specs.Prelude.{IsTrue, MatchOption, pos as int, unsigned_abs, ℕ, ◌<◌, ◌^◌};
-ghost use Rattle.std.specs.Prelude.{◌↔◌, ◌≡◌, ◌≤◌};
+ghost use Rattle.std.specs.Prelude.{◌-◌, ◌↔◌, ◌≡◌, ◌≤◌};
 ghost use Rattle.rkyv_base.specs.{IsValidView, bytes_of, entry_spec, pos_of};
 ghost use Rattle.rkyv_table.specs.{IsDecoded};
 ghost use Rattle.rkyv_index.specs.{IsPairOf, entries_pos, index_bytes, index_cap, index_len};
@@ -158,5 +158,58 @@ impl<'a, K: Element, V: Element, H, W: IndexWidth> ArchivedIndexMap<'a, K, V, H,
             return None;
         }
         Some(self.pair(index))
+    }
+    /// Returns the first key and its value, in insertion order, or `None` if the map has no pairs.
+    ///
+    /// # Examples
+    ///
+    /// ```rust
+    /// type Prices = IndexMapOf<Text, u32>;
+    ///
+    /// // Returns the first name, borrowed from the archive.
+    /// fn first_name(archive: &[u8]) -> Result<Option<&str>, VerifyError> {
+    ///     let prices = ArchivedIndexMap::of(access::<Prices>(archive)?);
+    ///     match prices.first() {
+    ///         Some((name, _)) => Ok(Some(name.as_str())),
+    ///         None => Ok(None),
+    ///     }
+    /// }
+    /// ```
+    #[inline]
+    pub fn first(self) -> Option<PairView<'a, K, V>>
+        ensures { MatchOption result
+            (index_len self.entry ≡ 0)
+            (λ pair. IsPairOf self.entry 0 pair) }
+    {
+        self.get_index(0)
+    }
+
+    /// Returns the last key and its value, in insertion order, or `None` if the map has no pairs.
+    ///
+    /// # Examples
+    ///
+    /// ```rust
+    /// type Prices = IndexMapOf<Text, u32>;
+    ///
+    /// // Returns the last price.
+    /// fn last_price(archive: &[u8]) -> Result<Option<u32>, VerifyError> {
+    ///     let prices = ArchivedIndexMap::of(access::<Prices>(archive)?);
+    ///     match prices.last() {
+    ///         Some((_, price)) => Ok(Some(price.to_native())),
+    ///         None => Ok(None),
+    ///     }
+    /// }
+    /// ```
+    #[inline]
+    pub fn last(self) -> Option<PairView<'a, K, V>>
+        ensures { MatchOption result
+            (index_len self.entry ≡ 0)
+            (λ pair. IsPairOf self.entry (index_len self.entry - 1) pair) }
+    {
+        let len = self.len();
+        if len == 0 {
+            return None;
+        }
+        Some(self.pair(len - 1))
     }
 }

@@ -3,20 +3,22 @@
 //! - `get` returns a view of the value, `get_key_value` also of the key, and `get_full` also
 //!   the index.
 //! - `get_index_of` returns the index, and `contains_key` returns `true` if a key is found.
+//! - `index` returns the value, and takes a key that must be found.
 //! - `get_with`, `get_key_value_with`, `get_full_with` and `get_index_of_with` take a comparison
 //!   in place of the query's own.
 //! - `get_index_of_counted` counts the strides of control bytes that are read.
 //!
 //! A lookup in an untrusted map may read all of its control bytes.
 //! `FxHasher64` takes no secret key, so it doesn't protect from chosen input.
-ghost use Rattle.std.specs.Prelude.{IfSome, ◌<◌, ◌^◌, ◌≡◌, ◌≤◌};
+ghost use Rattle.std.specs.Prelude.{IfSome, IsSome, Some, ◌<◌, ◌^◌, ◌≡◌, ◌≤◌};
 ghost use Rattle.rkyv_base.specs.{IsValidView, bytes_of, entry_spec, pos_of};
 ghost use Rattle.rkyv_scan.specs.{hash_of_calls};
 ghost use Rattle.rkyv_base.specs.declared.view.View.{View};
 ghost use Rattle.rkyv_table.specs.{len_at};
 ghost use Rattle.rkyv_keys.specs.{IsFoundAt, hash_at, hash_of, query_of};
 ghost use Rattle.rkyv_index.specs.{CanCompareKeys, CanCompareKeysIn, CountsBy, CountsKey};
-ghost use Rattle.rkyv_index.specs.{FoundKeyHas, GetsBy, GetsKey, IsKeyIn, IsPairAt, IsStoredIndex};
+ghost use Rattle.rkyv_index.specs.{FindsKey, FoundKeyHas, GetsBy, GetsKey, IsKeyIn, IsPairAt};
+ghost use Rattle.rkyv_index.specs.{IsStoredIndex};
 ghost use Rattle.rkyv_index.specs.{IsValueAt, ReadsWithinBound, entries_pos, full_part, index_of};
 ghost use Rattle.rkyv_index.specs.{index_part, index_spec, pair_part, value_part};
 
@@ -382,5 +384,38 @@ impl<'a, K: KeyElement, V: Element, H: KeyHasher, W: IndexWidth> ArchivedIndexMa
             (IsFoundAt result) }
     {
         self.find_key(key).is_some()
+    }
+    /// Returns the value of the key that the query finds.
+    ///
+    /// A lookup in an untrusted map may read all of its control bytes.
+    ///
+    /// # Requires
+    ///
+    /// - The query can be read.
+    /// - The query finds a key. `contains_key` then returns `true`.
+    ///
+    /// # Examples
+    ///
+    /// ```rust
+    /// // Returns the value of a key by `index`, if the map has the key.
+    /// fn indexed<W: IndexWidth>(bytes: &[u8], key: i8) -> Result<Option<i8>, VerifyError> {
+    ///     let root = access_in::<W, IndexMapOf<i8, i8, FxHasher64, W>>(bytes)?;
+    ///     let map = ArchivedIndexMap::of(root);
+    ///     if map.contains_key(&key) {
+    ///         return Ok(Some(map.index(&key).to_native()));
+    ///     }
+    ///     Ok(None)
+    /// }
+    /// ```
+    #[inline]
+    pub fn index<Q: Query<K>>(self, key: &Q) -> View<'a, V>
+        requires query { Q.can_read key.now }
+        requires found { FindsKey (index_of self) (hash_of H.hasher Q.calls key.now)
+            (Q.fits key.now) IsSome }
+        ensures { GetsKey value_part self.entry
+            (query_of H.hasher K.key_calls K.same (Q.calls key.now) (Q.fits key.now))
+            (Some result) }
+    {
+        self.entry(self.find_key(key).unwrap()).value()
     }
 }

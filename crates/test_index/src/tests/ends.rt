@@ -1,0 +1,94 @@
+//! Tests of the first and the last pair of index maps, those of index sets, and values by `index`.
+
+use crate::tests::archives::{no_pairs, no_wide_pairs, one_key_twice, wide_key, wide_pair};
+use rkyv_base::access::access_in;
+use rkyv_base::errors::VerifyError;
+use rkyv_base::width::{Narrow, Wide};
+use rkyv_index::width::IndexWidth;
+use rkyv_index::{ArchivedIndexMap, ArchivedIndexSet, IndexMapOf, IndexSetOf};
+use rkyv_scan::hash::FxHasher64;
+use test_support::archives::{four_entries, one_index_key};
+
+type Ends = (Option<(i8, i8)>, Option<(i8, i8)>);
+
+// Returns the first and the last pair of a map.
+fn ends<W: IndexWidth>(bytes: &[u8]) -> Result<Ends, VerifyError> {
+    let map = ArchivedIndexMap::of(access_in::<W, IndexMapOf<i8, i8, FxHasher64, W>>(bytes)?);
+    let first = match map.first() {
+        Some((key, value)) => Some((key.to_native(), value.to_native())),
+        None => None,
+    };
+    let last = match map.last() {
+        Some((key, value)) => Some((key.to_native(), value.to_native())),
+        None => None,
+    };
+    Ok((first, last))
+}
+
+#[test]
+fn the_first_and_the_last_pair_are_read(rt: HostRuntime) {
+    let four = ends::<Narrow>(&four_entries()).ok();
+    let twice = ends::<Narrow>(&one_key_twice()).ok();
+    let wide = ends::<Wide>(&wide_pair()).ok();
+    let one = Some((1, 2));
+    expect_eq!(rt;
+        (four, twice, wide),
+        (Some((one, Some((7, 8)))), Some((one, Some((1, 9)))), Some((one, one)))
+    );
+}
+
+#[test]
+fn an_empty_map_has_no_first_and_no_last_pair(rt: HostRuntime) {
+    let narrow = ends::<Narrow>(&no_pairs()).ok();
+    let wide = ends::<Wide>(&no_wide_pairs()).ok();
+    expect_eq!(rt; (narrow, wide), (Some((None, None)), Some((None, None))));
+}
+
+// Returns the first and the last key of a set.
+fn end_keys<W: IndexWidth>(bytes: &[u8]) -> Result<(Option<i8>, Option<i8>), VerifyError> {
+    let set = ArchivedIndexSet::of(access_in::<W, IndexSetOf<i8, FxHasher64, W>>(bytes)?);
+    let first = match set.first() {
+        Some(key) => Some(key.to_native()),
+        None => None,
+    };
+    let last = match set.last() {
+        Some(key) => Some(key.to_native()),
+        None => None,
+    };
+    Ok((first, last))
+}
+
+#[test]
+fn the_first_and_the_last_key_are_read(rt: HostRuntime) {
+    let one = end_keys::<Narrow>(&one_index_key()).ok();
+    let wide = end_keys::<Wide>(&wide_key()).ok();
+    let none = end_keys::<Narrow>(&no_pairs()).ok();
+    let wide_none = end_keys::<Wide>(&no_wide_pairs()).ok();
+    let both = Some((Some(1), Some(1)));
+    expect_eq!(rt;
+        (one, wide, none, wide_none),
+        (both, both, Some((None, None)), Some((None, None)))
+    );
+}
+
+// Returns the value of a key by `index`, if the map has the key.
+fn indexed<W: IndexWidth>(bytes: &[u8], key: i8) -> Result<Option<i8>, VerifyError> {
+    let root = access_in::<W, IndexMapOf<i8, i8, FxHasher64, W>>(bytes)?;
+    let map = ArchivedIndexMap::of(root);
+    if map.contains_key(&key) {
+        return Ok(Some(map.index(&key).to_native()));
+    }
+    Ok(None)
+}
+
+#[test]
+fn a_key_that_is_found_has_a_value(rt: HostRuntime) {
+    let four = four_entries();
+    let found = [
+        indexed::<Narrow>(&four, 5).ok(),
+        indexed::<Narrow>(&four, 9).ok(),
+        indexed::<Wide>(&wide_pair(), 1).ok(),
+        indexed::<Wide>(&no_wide_pairs(), 1).ok(),
+    ];
+    expect_eq!(rt; found, [Some(Some(6)), Some(None), Some(Some(2)), Some(None)]);
+}
