@@ -78,21 +78,14 @@ progress_stopped old now script buffered rest s p =
 -- a proper prefix of the buffered output is written, and the run fails
 pub progress_proper : (old now next : Option (List ℕ)) (script buffered : List ℕ) (rest : List (List ℕ)) (s : State)
     → Progress old now script buffered rest s → AppendsProperFront now next buffered → AppendsProperBeginning old next script
+unfolding progress_ends
 progress_proper old now next script buffered rest s p f = record {
-  beginning = record {
-    done = p.done;
-    rest = rest;
-    lines = p.lines;
-    output = p.output;
-    last = s;
-    runs = p.runs;
-    front = record {
-      front = p.moved.moved ++ f.part.front;
-      rest = f.part.rest;
-      parts = append_assoc p.moved.moved f.part.front f.part.rest ∙ ap (λ l. p.moved.moved ++ l) f.part.parts ∙ sym p.moved.parts;
-      appended = Appends-trans old now next p.moved.moved f.part.front p.moved.appended f.part.appended;
-    };
-  };
+  beginning = progress_ends old now next script buffered rest s p (record {
+    front = p.moved.moved ++ f.part.front;
+    rest = f.part.rest;
+    parts = append_assoc p.moved.moved f.part.front f.part.rest ∙ ap (λ l. p.moved.moved ++ l) f.part.parts ∙ sym p.moved.parts;
+    appended = Appends-trans old now next p.moved.moved f.part.front p.moved.appended f.part.appended;
+  });
   unwritten = f.unwritten;
 }
 

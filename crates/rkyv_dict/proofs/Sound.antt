@@ -2,10 +2,9 @@
 use Rattle.std.proofs.Common.{◌≡◌, ℕ, List, [], ◌∷◌, ◌++◌, Option, Some, None, Result, refl, sym, subst, ap, ◌∙◌, inl, inr}
 use Rattle.std.specs.Prelude.{OnOk}
 use Rattle.std.specs.Option.{ForSome}
-use Rattle.rkyv_base.specs.declared.errors.VerifyError.{VerifyError}
 use Rattle.rkyv_dict.specs.declared.form.ArchiveWidth.{ArchiveWidth}
 use Rattle.rkyv_dict.specs.declared.form.Form.{Form}
-use Rattle.rkyv_dict.specs.{Archived, IsArchive, IsArchiveOf, IsBuilt, IsMapArchive, IsSound, IsSoundIn, LookupKey, Pairs, PairsRepresent, Request, RootRepresents, State, StepsIf, StepsLine, StepsTo, ValidationFails, archive_output, build_archive, check_archive, count_misplaced, first_value_text, form_of, form_of_pairs, get_line, get_value, kind_of_pairs, list_pairs, numbers, put_numbers, put_texts, request_of, set_kind, set_load_factor, set_width, show_hex, start, texts, value_found, value_in, value_line, with_numbers, with_texts}
+use Rattle.rkyv_dict.specs.{Archived, IsArchive, IsArchiveOf, IsBuilt, IsMapArchive, IsSound, IsSoundIn, LookupKey, Pairs, PairsRepresent, Request, RootRepresents, State, StepsIf, StepsLine, StepsTo, archive_output, build_archive, check_archive, count_misplaced, first_value_text, form_of, form_of_pairs, get_line, get_value, kind_of_pairs, list_pairs, numbers, put_numbers, put_texts, request_of, set_kind, set_load_factor, set_width, show_hex, start, texts, value_found, value_in, value_line, with_numbers, with_texts}
 
 kind_with_numbers : (pairs : Pairs) (key value : ℕ) → kind_of_pairs (with_numbers pairs key value) ≡ kind_of_pairs pairs
 kind_with_numbers (numbers pairs) key value = refl
@@ -32,9 +31,6 @@ sound_here s a sound is = sound a is
 
 pub archive_here : (s : State) (a : Archived) (form : Form) (bytes : List ℕ) → IsSound s → s.archive ≡ Some a → form ≡ form_of s → bytes ≡ a.bytes → IsArchive form bytes
 archive_here s a form bytes sound is f b = rw (f, b) (sound_here s a sound is).archive
-
-pub failure_here : (s : State) (form : Form) (b bytes : List ℕ) (e : VerifyError) → form ≡ form_of s → b ≡ bytes → ValidationFails form b e → ValidationFails (form_of s) bytes e
-failure_here s form b bytes e f is h = subst (λ (g : Form). ValidationFails g bytes e) f (subst (λ (l : List ℕ). ValidationFails form l e) is h)
 
 -- `get` returns the value of the first pair of a built archive, else that of a lookup
 value_by : {U E : Type 0} (form : Form) (bytes : List ℕ) (built : Option Pairs) (r : Result U E) (now old : List ℕ) (key : LookupKey)

@@ -34,7 +34,7 @@ use std::alloc::{AllocError, Global};
 pub(crate) fn push_line(out: &mut String, text: &str) -> Result<(), AllocError>
     ensures { AppendsText result out.old out.new (line text.now) }
 {
-    write!(out, "{text}\n")
+    writeln!(out, "{text}")
 }
 
 /// Validates the archive of a map, and returns the number of its pairs.
@@ -113,7 +113,7 @@ fn push_pair<P: Printable>(
 fn push_count(count: usize, out: &mut String) -> Result<(), AllocError>
     ensures { AppendsText result out.old out.new (line (codes "entries " ++ decimal count)) }
 {
-    write!(out, "entries {count}\n")
+    writeln!(out, "entries {count}")
 }
 
 /// Appends a line for each pair, in bucket order.

@@ -48,16 +48,14 @@ pub struct Dict<'a> {
 fn push_verify_error(out: &mut String, error: &VerifyError) -> Result<(), AllocError>
     ensures { AppendsText result out.old out.new (verify_error_line error.now) }
 {
-    let text = verify_error_text(error);
-    write!(out, "refused {text}\n")
+    writeln!(out, "refused {}", verify_error_text(error))
 }
 
 /// Appends the line of a write error.
 fn push_cause(out: &mut String, cause: &WriteError<NoMemory>) -> Result<(), AllocError>
     ensures { AppendsText result out.old out.new (error_line cause.now) }
 {
-    let text = cause_text(cause);
-    write!(out, "error {text}\n")
+    writeln!(out, "error {}", cause_text(cause))
 }
 
 impl<'a> Dict<'a> {
@@ -133,7 +131,7 @@ impl<'a> Dict<'a> {
             return push_line(out, "error 11 NoArchive");
         };
         let count = archives::misplaced(self.form(), archive.bytes.as_slice());
-        write!(out, "misplaced {count}\n")
+        writeln!(out, "misplaced {count}")
     }
 
     /// Archives the list, and appends the output of `build`.
@@ -146,12 +144,10 @@ impl<'a> Dict<'a> {
                 let len = bytes.len();
                 let built_len = Some(count_of(&self.list));
                 self.archive = Some(Stored { bytes, built_len });
-                write!(out, "built {len}\n")
+                writeln!(out, "built {len}")
             }
+            Err(cause) if is_allocation_failure(&cause) => Err(AllocError),
             Err(cause) => {
-                if is_allocation_failure(&cause) {
-                    return Err(AllocError);
-                }
                 self.archive = None;
                 push_cause(out, &cause)
             }
@@ -170,7 +166,7 @@ impl<'a> Dict<'a> {
                     bytes,
                     built_len: None,
                 });
-                write!(out, "ok {count}\n")
+                writeln!(out, "ok {count}")
             }
             Err(error) => push_verify_error(out, &error),
         }
@@ -204,7 +200,7 @@ impl<'a> Dict<'a> {
                 Ok(())
             }
             Command::SetWidth(bits) => {
-                let kind = self.form().kind;
+                let kind = kind_of(&self.list);
                 self.empty(alloc, kind, bits);
                 Ok(())
             }

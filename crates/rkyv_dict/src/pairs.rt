@@ -51,10 +51,7 @@ pub fn put_numbers(list: &mut PairList<'_>, key: u32, value: u32) -> Result<(), 
         → take_pairs n (pairs_of list.new) ≡ take_pairs n (pairs_of list.old) }
 {
     match list {
-        PairList::Numbers(pairs) => {
-            pairs.push((key, value))?;
-            Ok(())
-        }
+        PairList::Numbers(pairs) => Ok(pairs.push((key, value))?),
         PairList::Texts(_) => Ok(()),
     }
 }
@@ -79,9 +76,6 @@ pub fn put_texts<'a>(
 {
     match list {
         PairList::Numbers(_) => Ok(()),
-        PairList::Texts(pairs) => {
-            pairs.push((key, value))?;
-            Ok(())
-        }
+        PairList::Texts(pairs) => Ok(pairs.push((key, value))?),
     }
 }

@@ -9,8 +9,7 @@ ghost use Rattle.std.specs.Prelude.{◌≡◌, ◌∷◌, IfOk, OnErr, codes};
 use crate::form::{ArchiveWidth, Key, Kind};
 use crate::hex::read_hex;
 use crate::words::{
-    bits_by_name, cut_word, is_word, kind_by_name, one_number, one_text, one_word, two_numbers,
-    two_texts,
+    bits_by_name, cut_word, kind_by_name, one_number, one_text, one_word, two_numbers, two_texts,
 };
 use std::alloc::{AllocError, Global};
 use std::str;
@@ -112,15 +111,12 @@ fn check(alloc: Global, arguments: Option<&str>) -> Result<Option<Command<'_>>, 
         option_map command_request command ≡ check_request (words_left arguments.entry)) }
     ensures allocates { OnErr result (NeedMemory (codes "check" ∷ words_left arguments.entry)) }
 {
-    let Some(word) = one_word(arguments) else {
-        return Ok(None);
-    };
-    if word.is_empty() {
-        return Ok(None);
-    }
-    match read_hex(alloc, word.as_bytes())? {
-        Some(bytes) => Ok(Some(Command::Check(bytes))),
-        None => Ok(None),
+    match one_word(arguments) {
+        None | Some("") => Ok(None),
+        Some(word) => match read_hex(alloc, word.as_bytes())? {
+            Some(bytes) => Ok(Some(Command::Check(bytes))),
+            None => Ok(None),
+        },
     }
 }
 
@@ -136,28 +132,18 @@ fn by_verb<'a>(
         ≡ request_by kind verb.now (words_left arguments.entry)) }
     ensures allocates { OnErr result (NeedMemory (verb.now ∷ words_left arguments.entry)) }
 {
-    if is_word(verb, "kind") {
-        Ok(set_kind(arguments))
-    } else if is_word(verb, "width") {
-        Ok(set_width(arguments))
-    } else if is_word(verb, "lf") {
-        Ok(set_load_factor(arguments))
-    } else if is_word(verb, "put") {
-        Ok(put(kind, arguments))
-    } else if is_word(verb, "build") {
-        Ok(without_arguments(Command::Build, arguments))
-    } else if is_word(verb, "check") {
-        check(alloc, arguments)
-    } else if is_word(verb, "hex") {
-        Ok(without_arguments(Command::Hex, arguments))
-    } else if is_word(verb, "get") {
-        Ok(get(kind, arguments))
-    } else if is_word(verb, "list") {
-        Ok(without_arguments(Command::ListPairs, arguments))
-    } else if is_word(verb, "audit") {
-        Ok(without_arguments(Command::Audit, arguments))
-    } else {
-        Ok(None)
+    match verb {
+        "kind" => Ok(set_kind(arguments)),
+        "width" => Ok(set_width(arguments)),
+        "lf" => Ok(set_load_factor(arguments)),
+        "put" => Ok(put(kind, arguments)),
+        "build" => Ok(without_arguments(Command::Build, arguments)),
+        "check" => check(alloc, arguments),
+        "hex" => Ok(without_arguments(Command::Hex, arguments)),
+        "get" => Ok(get(kind, arguments)),
+        "list" => Ok(without_arguments(Command::ListPairs, arguments)),
+        "audit" => Ok(without_arguments(Command::Audit, arguments)),
+        _ => Ok(None),
     }
 }
 
@@ -181,11 +167,9 @@ pub fn read_command(
         option_map command_request command ≡ request_of kind line.now) }
     ensures allocates { OnErr result (NeedMemory (words_of line.now)) }
 {
-    match str::from_utf8(line) {
-        Ok(text) => {
-            let (verb, arguments) = cut_word(text);
-            by_verb(alloc, kind, verb, arguments)
-        }
-        Err(_) => Ok(None),
-    }
+    let Ok(text) = str::from_utf8(line) else {
+        return Ok(None);
+    };
+    let (verb, arguments) = cut_word(text);
+    by_verb(alloc, kind, verb, arguments)
 }

@@ -6,7 +6,6 @@ ghost use Rattle.std.specs.Char.{digit_value, is_ascii_digit};
 ghost use Rattle.std.specs.List.{list_all, position};
 ghost use Rattle.std.specs.Option.{option_copied, option_map};
 ghost use Rattle.std.specs.Prelude.{◌≡◌, ◌<◌, ◌≤◌, ◌==◌, ◌∷◌, IfSome, length, true};
-ghost use Rattle.std.specs.Str.{bytes_eq};
 
 use crate::form::{ArchiveWidth, Kind};
 
@@ -14,7 +13,7 @@ use crate::form::{ArchiveWidth, Kind};
 fn pos_of(bytes: &[u8], separator: u8) -> Option<usize>
     ensures { result ≡ position (λ b. b == separator) bytes.now }
 {
-    bytes.iter().position(|b| *b == separator)
+    bytes.iter().position(|&b| b == separator)
 }
 
 /// Returns the bytes before the first byte `separator`, and those after it.
@@ -64,13 +63,6 @@ pub fn two_words(arguments: Option<&str>) -> Option<(&str, &str)>
     }
 }
 
-/// Returns whether the word equals the name.
-pub fn is_word(word: &str, name: &str) -> bool
-    ensures { result ≡ bytes_eq word.now name.now }
-{
-    word == name
-}
-
 /// Returns whether each byte is a decimal digit.
 fn all_digits(word: &[u8]) -> bool
     ensures { result ≡ list_all is_ascii_digit word.now }
@@ -82,10 +74,7 @@ fn all_digits(word: &[u8]) -> bool
 fn is_numeral(word: &[u8]) -> bool
     ensures { result ≡ is_numeral word.now }
 {
-    if word.is_empty() || !all_digits(word) {
-        return false;
-    }
-    word.len() == 1 || word[0] != b'0'
+    all_digits(word) && !matches!(word, [] | [b'0', _, ..])
 }
 
 /// Returns the value of a decimal digit.
@@ -105,9 +94,9 @@ pub fn number(word: &[u8], most: u64) -> Option<u64>
     if !is_numeral(word) {
         return None;
     }
-    let mut value: u64 = 0;
-    for glyph in word {
-        let next = u128::from(value) * 10 + u128::from(digit(*glyph));
+    let mut value = 0;
+    for &glyph in word {
+        let next = u128::from(value) * 10 + u128::from(digit(glyph));
         if next > u128::from(most) {
             return None;
         }
@@ -155,21 +144,17 @@ pub fn two_texts(arguments: Option<&str>) -> Option<(&str, &str)>
         ≡ parsed_by_both text_of (two_of (words_left arguments.entry)) }
 {
     let (first, second) = two_words(arguments)?;
-    let a = text(first)?;
-    let b = text(second)?;
-    Some((a, b))
+    Some((text(first)?, text(second)?))
 }
 
 /// Returns the kind with the name `num` or `text`.
 pub fn kind_by_name(word: &str) -> Option<Kind>
     ensures { result ≡ kind_of_word word.now }
 {
-    if is_word(word, "num") {
-        Some(Kind::Num)
-    } else if is_word(word, "text") {
-        Some(Kind::Text)
-    } else {
-        None
+    match word {
+        "num" => Some(Kind::Num),
+        "text" => Some(Kind::Text),
+        _ => None,
     }
 }
 
@@ -177,11 +162,9 @@ pub fn kind_by_name(word: &str) -> Option<Kind>
 pub fn bits_by_name(word: &str) -> Option<ArchiveWidth>
     ensures { result ≡ bits_of_word word.now }
 {
-    if is_word(word, "32") {
-        Some(ArchiveWidth::Bits32)
-    } else if is_word(word, "64") {
-        Some(ArchiveWidth::Bits64)
-    } else {
-        None
+    match word {
+        "32" => Some(ArchiveWidth::Bits32),
+        "64" => Some(ArchiveWidth::Bits64),
+        _ => None,
     }
 }

@@ -1,20 +1,10 @@
-use Rattle.std.proofs.Common.{ap, sym, ◌∙◌, ◌≡◌, ◌++◌, ℕ, List, string_bytes}
+use Rattle.std.proofs.Common.{◌∙◌, ◌++◌, ℕ, List, string_bytes}
 use Rattle.std.specs.List.{flat_map}
 use Rattle.rkyv_table.specs.{ItemsLeft}
-use Rattle.rkyv_collections.specs.{key_positions, map_archive, map_bytes}
+use Rattle.rkyv_collections.specs.{key_positions, map_archive}
 use Rattle.rkyv_dict.specs.{line_at}
 use Rattle.rkyv_dict.proofs.Lines.{lines_after}
 use Rattle.rkyv_dict.proofs.archives.push_lines.Goals as goal
-
-pub loop-key-init : goal.loop-key-init
-loop-key-init g c =
-    let s = g.P.HasSpec.spec in
-    let line : ℕ → List ℕ = line_at s g.P.Printable.text (map_bytes c.args.map) in
-    let walk : ItemsLeft = c.iter-key-items.result in
-    let same : c.into_iter-key-iterator.result ≡ walk = cc in (
-      ap (λ (left : ItemsLeft). left.archive) same ∙ c.iter-key-items.ensures.archive,
-      ap (λ positions. string_bytes c.args.out.now ++ flat_map line positions) (sym (ap (λ (left : ItemsLeft). left.positions) same ∙ c.iter-key-items.ensures.positions)),
-    )
 
 pub loop-key-preserved : goal.loop-key-preserved
 loop-key-preserved g c =

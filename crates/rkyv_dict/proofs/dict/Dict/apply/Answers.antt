@@ -1,7 +1,6 @@
 use Rattle.std.proofs.Common.{refl, ap, ◌∙◌}
 use Rattle.std.proofs.lemmas.Result.{on_ok_weaker}
 use Rattle.rkyv_dict.specs.{emptied, pairs_of, state_of}
-use Rattle.rkyv_dict.specs.declared.form.Form.{Form}
 use Rattle.rkyv_dict.proofs.Adding.{adds_as, adds_none}
 use Rattle.rkyv_dict.proofs.Putting.{pair_put}
 use Rattle.rkyv_dict.proofs.dict.Dict.apply.Goals as goal
@@ -12,7 +11,7 @@ returns-in-SetKind c = adds_as _ _ (state_of c.args.self.now) (state_of c.empty.
 pub returns-in-SetWidth : goal.returns-in-SetWidth
 returns-in-SetWidth c =
     adds_as _ _ (state_of c.args.self.now) (state_of c.empty-in-SetWidth.new.self) _ _ c.in-SetWidth.is
-    (adds_none _ _ (refl, c.empty-in-SetWidth.ensures ∙ ap (λ (f : Form). emptied f.kind c.in-SetWidth.bits (state_of c.args.self.now)) c.form-kind.ensures))
+    (adds_none _ _ (refl, c.empty-in-SetWidth.ensures ∙ ap (λ kind. emptied kind c.in-SetWidth.bits (state_of c.args.self.now)) c.kind_of-kind.ensures))
 
 pub returns-in-SetLoadFactor : goal.returns-in-SetLoadFactor
 returns-in-SetLoadFactor c = adds_as _ _ (state_of c.args.self.now) _ _ _ c.in-SetLoadFactor.is (adds_none _ _ (refl, refl))
