@@ -11,7 +11,7 @@ use Rattle.rkyv_inspect_program.specs.declared.options.Name.{Name}
 use Rattle.rkyv_inspect_program.specs.declared.options.Options.{Options}
 use Rattle.rkyv_inspect_program.specs.declared.options.Words.{Words}
 use Rattle.rkyv_inspect_program.specs.{Argument, EndsWithName, IsAfter, MakeUp, NamesAwaiting, NamesNoOptions, NamesNone, NamesOptions, NamesSoFar, SetOptions, argument_of, awaiting, file_in, flag_argument, is_color, is_help, is_svg, key_in, kind_in, name_of, of_file, option_argument, pair_argument, value_in, whole, width_in, word_argument}
-use Rattle.rkyv_inspect_program.proofs.Adding.{Adds, files_of}
+use Rattle.rkyv_inspect_program.proofs.Adding.{Adds, added, adds, files_of}
 use Rattle.rkyv_inspect_program.proofs.Arguments.{IsFirst, continues_from, first_argument, head_equal, joined_words, nil_cons, tail_equal}
 
 last_more : {A : Type 0} (f : Argument → Option A) (o : Option A) (xs : List Argument)
@@ -101,17 +101,26 @@ file_more word options {next} so_far h plain s e front n =
     (one_more front (word ∷ []) options next (of_file word)
     (ap (λ o. word_argument o word) h ∙ rw plain refl) s n)
 
+-- a value that is found gives the argument, by the option that the name is
+found_argument : {X : Type 0} (name option : Name) (word : List ℕ) (to : X → Argument)
+    {found known : Option X} {value : Option X} → name ≡ option
+    → option_argument option word ≡ option_map to known → found ≡ known → found ≡ value
+    → option_argument name word ≡ option_map to value
+found_argument name option word to is e f v =
+    ap (λ n. option_argument n word) is ∙ e ∙ ap (option_map to) (sym f ∙ v)
+
 -- the value of the awaited option
-pub value_more : (option : Name) (word : List ℕ) (options : Options) {next : Options}
-    {a : Argument} → option_argument option word ≡ Some a → Adds options a next
-    → (front : List (List ℕ)) → EndsWithName front options option
-    → NamesOptions (front ++ word ∷ []) next
-value_more option word options {next} {a} h s front e =
-    let makes_up : argument_of (e.last ∷ word ∷ []) ≡ Some a =
-    ap (λ n. pair_argument n word) e.name ∙ h in
-    subst (λ w. NamesOptions w next)
+pub value_more : {X : Type 0} (name option : Name) (word : List ℕ) (options : Options) (x : X)
+    (to : X → Argument) {found known : Option X} → name ≡ option
+    → option_argument option word ≡ option_map to known → found ≡ known → found ≡ Some x
+    → file_in (to x) ≡ None → (front : List (List ℕ)) → EndsWithName front options name
+    → NamesOptions (front ++ word ∷ []) (added options (to x))
+value_more name option word options x to is known same value plain front e =
+    let makes_up : argument_of (e.last ∷ word ∷ []) ≡ Some (to x) =
+    ap (λ n. pair_argument n word) e.name ∙ found_argument name option word to is known same value in
+    subst (λ w. NamesOptions w (added options (to x)))
     (sym (append_assoc e.front (e.last ∷ []) (word ∷ [])) ∙ ap (λ w. w ++ word ∷ []) (sym e.words))
-    (one_more e.front (e.last ∷ word ∷ []) options next a makes_up s e.named)
+    (one_more e.front (e.last ∷ word ∷ []) options _ (to x) makes_up (adds options (to x) plain) e.named)
 
 -- no argument begins with a name whose value is missing or is no value of the option
 name_fails : (option : Name) (w : List ℕ) (y : List (List ℕ)) (a : Argument)
@@ -148,12 +157,14 @@ value_fails option word options h front e rest =
     (λ v z k. ap (option_argument option) (sym (head_equal k)) ∙ h) e.named)
 
 -- the same, of what follows the words
-pub value_stops : (option : Name) (word : List ℕ) (options : Options) (result : Option Options)
-    → result ≡ None → option_argument option word ≡ None
-    → IsAfter (awaiting options option) word (option_map whole result)
-value_stops option word options result e h front n =
+pub value_stops : {X : Type 0} (name option : Name) (word : List ℕ) (options : Options)
+    (result : Option Options) (to : X → Argument) {found known : Option X} → name ≡ option
+    → option_argument option word ≡ option_map to known → found ≡ known → found ≡ None
+    → result ≡ None → IsAfter (awaiting options name) word (option_map whole result)
+value_stops name option word options result to is known same none e front n =
     subst (λ r. MatchOption (option_map whole r) (NamesNone (front ++ word ∷ []))
-    (NamesSoFar (front ++ word ∷ []))) (sym e) (value_fails option word options h front n)
+    (NamesSoFar (front ++ word ∷ []))) (sym e)
+    (value_fails name word options (found_argument name option word to is known same none) front n)
 
 -- the value of the awaited option is missing
 value_missing : (option : Name) (options : Options) (words : List (List ℕ))

@@ -16,7 +16,6 @@ use crate::options::{Options, USAGE};
 use crate::outcome::{Outcome, exit_status};
 use rkyv_container::contents::Contents;
 use rkyv_inspect::{ContainerLine, Drawing, Printed};
-use std::alloc::AllocError;
 use std::io::{BufWriter, Write};
 use std::process::ExitCode;
 use std::{env, fs, io};
@@ -25,20 +24,14 @@ use std::{env, fs, io};
 fn print(rt: &HostRuntime, found: &FileInspection<'_>, options: Options<'_>) -> io::Result<()> {
     let mut out = BufWriter::new(rt.alloc(), io::writer(rt))?;
     if options.svg {
-        write!(
-            out,
-            "{}",
-            Drawing::new(&found.inspection, found.archive.len())
-        )?;
+        let drawing = Drawing::new(&found.inspection, found.archive.len());
+        write!(out, "{drawing}")?;
     } else {
         if let Some(header) = found.header {
             write!(out, "{}", ContainerLine(header))?;
         }
-        write!(
-            out,
-            "{}",
-            Printed::new(found.archive, &found.inspection, options.color)
-        )?;
+        let printed = Printed::new(found.archive, &found.inspection, options.color);
+        write!(out, "{printed}")?;
     }
     out.flush()
 }
@@ -81,17 +74,15 @@ fn execute(rt: &HostRuntime, words: &[String]) -> Result<Outcome, ProgramError>
     ensures misused { (result ≡ Ok Outcome.Misused) ↔ IsMisused (map string_bytes words.now) }
     ensures result { IsExecutionOf (map string_bytes words.now) result }
 {
-    let options = match Options::parse(words) {
-        Some(options) => options,
-        None => return Ok(print_usage(rt)),
+    let Some(options) = Options::parse(words) else {
+        return Ok(print_usage(rt));
     };
     if options.help {
         println!(rt; "{USAGE}").map_err(ProgramError::Output)?;
         return Ok(Outcome::Complete);
     }
-    let file = match options.file {
-        Some(file) => file,
-        None => return Ok(print_usage(rt)),
+    let Some(file) = options.file else {
+        return Ok(print_usage(rt));
     };
     if !options.is_bare() {
         return inspect_file(rt, file, None, options);
@@ -105,12 +96,7 @@ fn execute(rt: &HostRuntime, words: &[String]) -> Result<Outcome, ProgramError>
 /// Executes the command of the command line.
 fn run(rt: &HostRuntime) -> Result<Outcome, ProgramError> {
     let given = env::args(rt).map_err(ProgramError::Arguments)?;
-    let mut words: Vec<String> = Vec::new(rt.alloc());
-    for word in given.skip(1) {
-        words
-            .push(word)
-            .map_err(|failure| ProgramError::Memory(AllocError::from(failure)))?;
-    }
+    let words: Vec<_> = given.skip(1).collect(rt.alloc())?;
     execute(rt, words.as_slice())
 }
 

@@ -2,7 +2,6 @@
 ghost use Rattle.std.specs.Prelude.{IsTrue, MatchOption, [], map, option_map, string_bytes};
 ghost use Rattle.std.specs.Prelude.{◌↔◌, ◌≡◌};
 ghost use Rattle.std.specs.Str.Parse.{starts_with_minus};
-ghost use Rattle.std.specs.Str.{bytes_eq};
 ghost use Rattle.rkyv_inspect_program.specs.{IsAfter, IsBare, NamesContents, NamesNoContents};
 ghost use Rattle.rkyv_inspect_program.specs.{NamesNoOptions, NamesOptions, awaiting, kind_named};
 ghost use Rattle.rkyv_inspect_program.specs.{name_of, type_named, value_of, whole, width_named};
@@ -67,43 +66,26 @@ pub struct Options<'a> {
     pub help: bool,
 }
 
-/// Returns whether the word equals the name.
-fn is_word(word: &str, name: &str) -> bool
-    ensures { result ≡ bytes_eq word.now name.now }
-{
-    word == name
-}
-
 /// Returns whether the word begins with a hyphen, as options do.
 fn is_hyphenated(word: &str) -> bool
     ensures { result ≡ starts_with_minus word.now }
 {
-    let bytes = word.as_bytes();
-    !bytes.is_empty() && bytes[0] == b'-'
+    matches!(word.as_bytes(), [b'-', ..])
 }
 
 /// Returns the option of this name, or `None` if the word is none.
 pub fn name_of(word: &str) -> Option<Name>
     ensures { result ≡ name_of word.now }
 {
-    if is_word(word, "--kind") {
-        Some(Name::Kind)
-    } else if is_word(word, "--key") {
-        Some(Name::Key)
-    } else if is_word(word, "--value") {
-        Some(Name::Value)
-    } else if is_word(word, "--width") {
-        Some(Name::Width)
-    } else if is_word(word, "--color") {
-        Some(Name::Color)
-    } else if is_word(word, "--svg") {
-        Some(Name::Svg)
-    } else if is_word(word, "--help") {
-        Some(Name::Help)
-    } else if is_word(word, "-h") {
-        Some(Name::Help)
-    } else {
-        None
+    match word {
+        "--kind" => Some(Name::Kind),
+        "--key" => Some(Name::Key),
+        "--value" => Some(Name::Value),
+        "--width" => Some(Name::Width),
+        "--color" => Some(Name::Color),
+        "--svg" => Some(Name::Svg),
+        "--help" | "-h" => Some(Name::Help),
+        _ => None,
     }
 }
 
@@ -111,16 +93,12 @@ pub fn name_of(word: &str) -> Option<Name>
 pub fn kind_named(word: &str) -> Option<Kind>
     ensures { result ≡ kind_named word.now }
 {
-    if is_word(word, "hash-map") {
-        Some(Kind::HashMap)
-    } else if is_word(word, "hash-set") {
-        Some(Kind::HashSet)
-    } else if is_word(word, "index-map") {
-        Some(Kind::IndexMap)
-    } else if is_word(word, "index-set") {
-        Some(Kind::IndexSet)
-    } else {
-        None
+    match word {
+        "hash-map" => Some(Kind::HashMap),
+        "hash-set" => Some(Kind::HashSet),
+        "index-map" => Some(Kind::IndexMap),
+        "index-set" => Some(Kind::IndexSet),
+        _ => None,
     }
 }
 
@@ -128,14 +106,11 @@ pub fn kind_named(word: &str) -> Option<Kind>
 pub fn type_named(word: &str) -> Option<ItemType>
     ensures { result ≡ type_named word.now }
 {
-    if is_word(word, "u32") {
-        Some(ItemType::U32)
-    } else if is_word(word, "u64") {
-        Some(ItemType::U64)
-    } else if is_word(word, "text") {
-        Some(ItemType::Text)
-    } else {
-        None
+    match word {
+        "u32" => Some(ItemType::U32),
+        "u64" => Some(ItemType::U64),
+        "text" => Some(ItemType::Text),
+        _ => None,
     }
 }
 
@@ -143,12 +118,10 @@ pub fn type_named(word: &str) -> Option<ItemType>
 pub fn width_named(word: &str) -> Option<Width>
     ensures { result ≡ width_named word.now }
 {
-    if is_word(word, "32") {
-        Some(Width::Narrow)
-    } else if is_word(word, "64") {
-        Some(Width::Wide)
-    } else {
-        None
+    match word {
+        "32" => Some(Width::Narrow),
+        "64" => Some(Width::Wide),
+        _ => None,
     }
 }
 
@@ -231,18 +204,14 @@ impl<'a> Options<'a> {
                 options: self,
                 awaited: Some(name),
             }),
-            None => {
-                if is_hyphenated(word) {
-                    return None;
-                }
-                match self.file {
-                    Some(_) => None,
-                    None => Some(whole(Options {
-                        file: Some(word),
-                        ..self
-                    })),
-                }
-            }
+            None if is_hyphenated(word) => None,
+            None => match self.file {
+                Some(_) => None,
+                None => Some(whole(Options {
+                    file: Some(word),
+                    ..self
+                })),
+            },
         }
     }
 
@@ -280,10 +249,7 @@ impl<'a> Options<'a> {
     {
         let mut so_far = whole(Options::none());
         for word in words {
-            match so_far.after(word.as_str()) {
-                Some(next) => so_far = next,
-                None => return None,
-            }
+            so_far = so_far.after(word.as_str())?;
         }
         match so_far.awaited {
             Some(_) => None,

@@ -27,8 +27,7 @@ pub fn exit_status(outcome: &Result<Outcome, ProgramError>) -> u8
     match outcome {
         Ok(Outcome::Complete) => 0,
         Ok(Outcome::Misused) => 2,
-        Err(ProgramError::Container { .. }) => 1,
-        Err(ProgramError::Invalid { .. }) => 1,
+        Err(ProgramError::Container { .. } | ProgramError::Invalid { .. }) => 1,
         Err(_) => 3,
     }
 }

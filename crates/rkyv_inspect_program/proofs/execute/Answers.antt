@@ -3,26 +3,26 @@ use Rattle.rkyv_inspect_program.proofs.Executing.{executes_file}
 use Rattle.rkyv_inspect_program.proofs.Uniqueness.{incomplete}
 use Rattle.rkyv_inspect_program.proofs.execute.Goals as goal
 
-pub returns-in-None-clause-misused : goal.returns-in-None-clause-misused
-returns-in-None-clause-misused c = (λ e q n. absurd (c.in-None.ensures q n), λ h. ap Ok c.print_usage.ensures)
+pub returns-in_default-clause-misused : goal.returns-in_default-clause-misused
+returns-in_default-clause-misused c = (λ e q n. absurd (c.in_default.ensures q n), λ h. ap Ok c.print_usage.ensures)
 
-pub returns-in-None-file-clause-misused : goal.returns-in-None-file-clause-misused
-returns-in-None-file-clause-misused c =
+pub returns-in_default-file-clause-misused : goal.returns-in_default-file-clause-misused
+returns-in_default-file-clause-misused c =
     let words = map (string_bytes {Z = Global}) c.args.words.now in (
       λ e q n. incomplete words c.in-Some.options q c.in-Some.ensures
-          (record { help = c.if-options.false; lacks = inl c.in-None-file.is }) n,
-      λ h. ap Ok c.print_usage-in-None-file.ensures,
+          (record { help = c.if-options.false; lacks = inl c.in_default-file.is }) n,
+      λ h. ap Ok c.print_usage-in_default-file.ensures,
     )
 
-pub returns-in-None-contents-clause-misused : goal.returns-in-None-contents-clause-misused
-returns-in-None-contents-clause-misused c =
+pub returns-in-None-clause-misused : goal.returns-in-None-clause-misused
+returns-in-None-clause-misused c =
     let words = map (string_bytes {Z = Global}) c.args.words.now in (
       λ e q n. incomplete words c.in-Some.options q c.in-Some.ensures
           (record {
             help = c.if-options.false;
-            lacks = inr (c.if-not-is_bare.ensures.0 refl, c.in-None-contents.ensures);
+            lacks = inr (c.if-not-is_bare.ensures.0 refl, c.in-None.ensures);
           }) n,
-      λ h. ap Ok c.print_usage-in-None-contents.ensures,
+      λ h. ap Ok c.print_usage-in-None.ensures,
     )
 
 pub returns-then-not-is_bare-clause-result : goal.returns-then-not-is_bare-clause-result

@@ -23,19 +23,19 @@ returns-in-Some-Help c =
     flag_more Help c.args.word.now c.args.self c.whole-in-Some-Help.result
     (sym c.name_of.ensures ∙ h.is ∙ ap Some h.field-0-is) refl (adds c.args.self with_help refl) c.whole-in-Some-Help.ensures
 
-pub returns-then-is_hyphenated : goal.returns-then-is_hyphenated
-returns-then-is_hyphenated c =
+pub returns-in-None : goal.returns-in-None
+returns-in-None c =
     hyphen_fails c.args.word.now c.args.self (sym c.name_of.ensures ∙ c.in-None.is)
     (sym c.is_hyphenated.ensures ∙ c.if-is_hyphenated.true)
 
 pub returns-in-Some-file : goal.returns-in-Some-file
 returns-in-Some-file c =
     let h = c.in-Some-file in
-    file_fails c.args.word.now c.args.self h.field-0 (sym c.name_of.ensures ∙ c.in-None.is)
+    file_fails c.args.word.now c.args.self h.field-0 (sym c.name_of.ensures ∙ c.in-None-2.is)
     (sym c.is_hyphenated.ensures ∙ c.if-is_hyphenated.false) h.is
 
 pub returns-in-None-file : goal.returns-in-None-file
 returns-in-None-file c =
     let w = c.whole-in-None-file in
-    file_more c.args.word.now c.args.self w.result (sym c.name_of.ensures ∙ c.in-None.is)
+    file_more c.args.word.now c.args.self w.result (sym c.name_of.ensures ∙ c.in-None-2.is)
     (sym c.is_hyphenated.ensures ∙ c.if-is_hyphenated.false) (adds_file c.args.self c.args.word c.in-None-file.is) w.ensures
