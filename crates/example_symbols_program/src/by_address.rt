@@ -65,7 +65,7 @@ pub fn open(index: &[u8]) -> Result<ArchivedIndexMap<'_, u64, Text>, VerifyError
     ensures root { OpensIndex ⟦<Index as Element>⟧.spec index.entry result }
     ensures accepts { IsValidArchive 4294967295 ⟦<Index as Element>⟧.spec index.now → IsOk result }
 {
-    Ok(ArchivedIndexMap::of(access::<IndexMapOf<u64, Text>>(index)?))
+    Ok(ArchivedIndexMap::of(access(index)?))
 }
 
 /// Returns the address and the name at `index` of the map, or `None` from its length on.

@@ -1,6 +1,5 @@
 //! The commands of the program.
 ghost use Rattle.std.specs.Prelude.{IfSome, ◌≡◌, ◌≤◌};
-ghost use Rattle.std.specs.Str.{bytes_eq};
 ghost use Rattle.example_symbols_program.specs.{command_of, least_count};
 
 /// What `--help` prints.
@@ -33,13 +32,6 @@ pub enum Command {
     List,
 }
 
-/// Returns whether the word equals the name.
-fn is_word(word: &str, name: &str) -> bool
-    ensures { result ≡ bytes_eq word.now name.now }
-{
-    word == name
-}
-
 /// Returns the command with the name and `count` arguments.
 ///
 /// It is `None` if the name is unknown, or the command takes another number of arguments.
@@ -47,27 +39,12 @@ pub fn command_of(name: &str, count: usize) -> Option<Command>
     ensures command { result ≡ command_of name.now count }
     ensures enough { IfSome result (λ command. least_count command ≤ count) }
 {
-    if is_word(name, "--help") {
-        Some(Command::Help)
-    } else if is_word(name, "-h") {
-        Some(Command::Help)
-    } else if is_word(name, "write") {
-        if count == 2 {
-            Some(Command::Write)
-        } else {
-            None
-        }
-    } else if is_word(name, "all") {
-        if count == 2 { Some(Command::All) } else { None }
-    } else if is_word(name, "get") {
-        if count >= 1 { Some(Command::Get) } else { None }
-    } else if is_word(name, "list") {
-        if count == 1 {
-            Some(Command::List)
-        } else {
-            None
-        }
-    } else {
-        None
+    match (name, count) {
+        ("--help" | "-h", _) => Some(Command::Help),
+        ("write", 2) => Some(Command::Write),
+        ("all", 2) => Some(Command::All),
+        ("get", 1..) => Some(Command::Get),
+        ("list", 1) => Some(Command::List),
+        _ => None,
     }
 }

@@ -19,7 +19,6 @@ use crate::errors::{SymbolsError, file_error, invalid_error, write_error};
 use crate::outcome::{Outcome, exit_status};
 use example_symbols::lines::parse;
 use example_symbols::table::{address_in, archive, check};
-use std::alloc::AllocError;
 use std::io::{BufWriter, Write};
 use std::process::ExitCode;
 use std::{env, fs, io};
@@ -31,14 +30,12 @@ fn write(
     table: &str,
     index: &str,
 ) -> Result<(), SymbolsError> {
-    match archive(rt.alloc(), symbols) {
-        Ok(bytes) => write_file(rt, table, bytes.as_slice())?,
-        Err(error) => return Err(write_error(rt.alloc(), table, error)),
-    }
-    match by_address::archive(rt.alloc(), symbols) {
-        Ok(bytes) => write_file(rt, index, bytes.as_slice())?,
-        Err(error) => return Err(write_error(rt.alloc(), index, error)),
-    }
+    let bytes = archive(rt.alloc(), symbols);
+    let bytes = bytes.map_err(|error| write_error(rt.alloc(), table, error))?;
+    write_file(rt, table, bytes.as_slice())?;
+    let bytes = by_address::archive(rt.alloc(), symbols);
+    let bytes = bytes.map_err(|error| write_error(rt.alloc(), index, error))?;
+    write_file(rt, index, bytes.as_slice())?;
     println!(rt; "symbols {}", symbols.len())?;
     Ok(())
 }
@@ -100,9 +97,7 @@ fn write_addresses<'a, W: Write, I: Iterator<Item = &'a str> + Drop>(
 {
     let mut missing = false;
     for name in names {
-        if let Outcome::Missing = write_address(out, table, name)? {
-            missing = true;
-        }
+        missing |= matches!(write_address(out, table, name)?, Outcome::Missing);
     }
     Ok(Outcome::of_lookups(missing))
 }
@@ -242,12 +237,7 @@ fn execute(rt: &HostRuntime, name: &str, arguments: &[String]) -> Result<Outcome
 /// Executes the command of the command line.
 fn run(rt: &HostRuntime) -> Result<Outcome, SymbolsError> {
     let given = env::args(rt).map_err(SymbolsError::Arguments)?;
-    let mut words: Vec<String> = Vec::new(rt.alloc());
-    for word in given.skip(1) {
-        words
-            .push(word)
-            .map_err(|failure| SymbolsError::Memory(AllocError::from(failure)))?;
-    }
+    let words: Vec<_> = given.skip(1).collect(rt.alloc())?;
     match words.as_slice().split_first() {
         Some((name, arguments)) => execute(rt, name.as_str(), arguments),
         None => Ok(print_usage(rt)),
