@@ -1,13 +1,11 @@
 -- Lists of regions, and the fields in them.
-use Rattle.std.proofs.Common.{◌≡◌, ◌∙◌, ◌+◌, ◌*◌, ◌-◌, ◌<◌, ◌≤◌, ℕ, Bool, List, [], ◌∷◌, ◌++◌, ap, append_assoc, arith, false, if◌then◌else◌, inl, inr, map, max, min, refl, sym, subst, filter}
+use Rattle.std.proofs.Common.{◌≡◌, ◌∙◌, ◌<◌, ◌≤◌, ℕ, Bool, List, [], ◌∷◌, ◌++◌, ap, append_assoc, arith, false, inl, inr, map, max, min, refl, sym, subst, filter}
 use Rattle.std.proofs.lemmas.Bool.{cases_Bool, le-ltb, lt-ltb}
 use Rattle.std.proofs.lemmas.List.{append-nil, map-append}
 use Rattle.std.proofs.lemmas.List.Elements.{filter-append}
-use Rattle.std.specs.Prelude.{nat_lt, slice_index}
-use Rattle.rkyv_inspect.specs.{AddsFields, bucket_field, IsRegionList, Span, field, fields_of, is_field_kind, span_of}
+use Rattle.rkyv_inspect.specs.{AddsFields, IsRegionList, Span, field, fields_of, is_field_kind, span_of}
 use Rattle.rkyv_inspect.specs.declared.regions.Region.{Region}
 use Rattle.rkyv_inspect.specs.declared.regions.RegionKind.{RegionKind}
-use Rattle.rkyv_inspect.specs.declared.regions.RegionKind.TheVariants.{EmptyBucket, FullBucket}
 use Rattle.rkyv_inspect.specs.declared.regions.RegionList.{RegionList}
 
 abbrev is_field : Region → Bool
@@ -46,10 +44,6 @@ field_gap kind begin end gap = rw gap refl
 pub no_fields : (regions : List Region) → regions ≡ [] → fields_of regions ≡ []
 unfolding fields_of
 no_fields regions none = ap (λ rs. map span_of (filter is_field rs)) none
-
--- an unchanged list
-pub adds_none : (list : RegionList) → IsRegionList list → AddsFields list list [] list.end
-adds_none list is = record { list = is; fields_are = sym (append-nil _); end_is = refl }
 
 -- a list that has the bytes already
 pub adds_nothing : (list : RegionList) (kind : RegionKind) (given : ℕ) → IsRegionList list → min given list.len ≤ list.end
@@ -94,11 +88,3 @@ module _ (old new : RegionList) where
         fields_are = h.fields_are ∙ ap (λ xs. fields_of old.regions.items ++ xs) (ap (λ n. field kind n (min given old.len)) begins ∙ ap (field kind begin) ends);
         end_is = h.end_is ∙ omega (arith, is, within, begins, some);
       }
-
-  -- a bucket
-  pub adds_bucket : (b : List ℕ) (z size i : ℕ) (kind : RegionKind) (full : Bool) → nat_lt (slice_index b (z + i)) 128 ≡ full → (if full then FullBucket else EmptyBucket) ≡ kind
-      → old.end + (i + 1) * size ≡ z → z ≤ old.len → AddsFields old new (field kind old.end (min (old.end + size) old.len)) (max old.end (min (old.end + size) old.len))
-      → AddsFields old new (bucket_field b z size i) (z - i * size)
-  adds_bucket b z size i kind full is shown begin inside h =
-      subst (λ k. AddsFields old new (field k (z - (i + 1) * size) (z - i * size)) (z - i * size)) (sym (ap (λ f. if f then FullBucket else EmptyBucket) is ∙ shown))
-      (adds_field kind (z - (i + 1) * size) (z - i * size) (old.end + size) h (omega (arith, begin)) (omega (arith, begin)) (omega arith) (omega (arith, inside)))

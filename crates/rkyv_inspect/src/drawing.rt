@@ -50,9 +50,9 @@ impl Display for Drawing<'_> {
         f.write_str(
             "</svg>\n<text x=\"0\" y=\"110\" font-family=\"sans-serif\" font-size=\"16\">",
         )?;
-        write!(
+        writeln!(
             f,
-            "{} bytes: {}</text>\n",
+            "{} bytes: {}</text>",
             self.len, self.inspection.contents.kind
         )?;
         f.write_str("</svg>\n")
@@ -73,9 +73,9 @@ impl Display for Rect<'_> {
             region.begin
         )?;
         write!(f, " fill=\"{}\">", fill_of(region.kind))?;
-        write!(
+        writeln!(
             f,
-            "<title>{}: {}</title></rect>\n",
+            "<title>{}: {}</title></rect>",
             region.begin,
             Escaped(region.text.as_str())
         )

@@ -154,14 +154,14 @@ pub(crate) fn pair_text<K: Field, V: Field>(
     bytes: &[u8],
     pos: usize,
 ) -> Result<String, AllocError> {
-    let entry = match valid_at::<Entry<K, V>>(bytes, pos as u64) {
-        Some(entry) => entry,
-        None => return format!(in alloc; "{name} {number}"),
+    let Some(entry) = valid_at::<Entry<K, V>>(bytes, pos as u64) else {
+        return format!(in alloc; "{name} {number}");
     };
     let key = Shown::new(entry.key());
     if V::has_text() {
         let value = Shown::new(entry.value());
-        return format!(in alloc; "{name} {number}: key {key:?}, value {value:?}");
+        format!(in alloc; "{name} {number}: key {key:?}, value {value:?}")
+    } else {
+        format!(in alloc; "{name} {number}: key {key:?}")
     }
-    format!(in alloc; "{name} {number}: key {key:?}")
 }

@@ -99,9 +99,8 @@ fn index_lookups<K: KeyElement, V: Element, H: KeyHasher, W: IndexWidth>(
         let m = keyed_map W.word keys V.spec (index_bytes map.entry) (index_pos map.entry) in
         IfOk result (LooksUpIndices m limit) }
 {
-    let misplaced = match map.misplaced_up_to(limit) {
-        Some(misplaced) => misplaced,
-        None => return Ok(None),
+    let Some(misplaced) = map.misplaced_up_to(limit) else {
+        return Ok(None);
     };
     let strides = strides_histogram(alloc, map, capacity)?;
     Ok(Some(Lookups { misplaced, strides }))

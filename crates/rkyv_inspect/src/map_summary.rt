@@ -84,9 +84,8 @@ fn map_lookups<K: KeyElement, V: Element, H: KeyHasher, W: Width>(
         let m = keyed_map W.word keys V.spec (bytes_of root.entry) (pos_of root.entry) in
         IfOk result (LooksUpKeys m limit) }
 {
-    let misplaced = match ArchivedHashMap::of(root).misplaced_up_to(limit) {
-        Some(misplaced) => misplaced,
-        None => return Ok(None),
+    let Some(misplaced) = ArchivedHashMap::of(root).misplaced_up_to(limit) else {
+        return Ok(None);
     };
     let strides = strides_histogram(alloc, root)?;
     Ok(Some(Lookups { misplaced, strides }))

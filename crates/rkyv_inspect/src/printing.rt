@@ -24,7 +24,7 @@ impl Display for ContainerLine {
         }
         write!(f, ", {}, archive of {} bytes", contents.width, self.0.len)?;
         match self.0.checksum {
-            Some(checksum) => write!(f, ", checksum {checksum:08x}\n"),
+            Some(checksum) => writeln!(f, ", checksum {checksum:08x}"),
             None => f.write_str(", no checksum\n"),
         }
     }
@@ -37,14 +37,14 @@ struct Numbers<'a>(&'a Summary);
 impl Display for Numbers<'_> {
     fn fmt<W: Write>(&self, f: &mut Formatter<W>) -> fmt::Result {
         let summary = self.0;
-        write!(f, "items: {}\n", summary.len)?;
-        write!(f, "buckets: {}\n", summary.capacity)?;
-        write!(f, "load: {}%\n", percent(summary.len, summary.capacity))?;
+        writeln!(f, "items: {}", summary.len)?;
+        writeln!(f, "buckets: {}", summary.capacity)?;
+        writeln!(f, "load: {}%", percent(summary.len, summary.capacity))?;
         match summary.controls_pos {
-            Some(pos) => write!(f, "control bytes at: {pos}\n")?,
+            Some(pos) => writeln!(f, "control bytes at: {pos}")?,
             None => f.write_str("control bytes at: none\n")?,
         }
-        write!(f, "header at: {}\n", summary.header_pos)?;
+        writeln!(f, "header at: {}", summary.header_pos)?;
         match &summary.lookups {
             Some(lookups) => LookupLines(lookups).fmt(f),
             None => f.write_str(
@@ -70,10 +70,10 @@ impl Display for LookupLines<'_> {
     fn fmt<W: Write>(&self, f: &mut Formatter<W>) -> fmt::Result {
         for (strides, keys) in self.0.strides.iter().enumerate() {
             if *keys > 0 {
-                write!(f, "{strides} strides: {keys} keys\n")?;
+                writeln!(f, "{strides} strides: {keys} keys")?;
             }
         }
-        write!(f, "misplaced keys: {}\n", self.0.misplaced)
+        writeln!(f, "misplaced keys: {}", self.0.misplaced)
     }
 }
 
@@ -111,13 +111,13 @@ impl Display for Line<'_> {
         let hex = Hex(bytes_in(self.archive, region.begin, region.end));
         if self.color {
             let code = color_of(region.kind);
-            write!(
+            writeln!(
                 f,
-                "{:>8}  \x1b[{code}m{hex}\x1b[0m  {}\n",
+                "{:>8}  \x1b[{code}m{hex}\x1b[0m  {}",
                 region.begin, region.text
             )
         } else {
-            write!(f, "{:>8}  {hex}  {}\n", region.begin, region.text)
+            writeln!(f, "{:>8}  {hex}  {}", region.begin, region.text)
         }
     }
 }
@@ -171,7 +171,7 @@ impl<'a> Printed<'a> {
 impl Display for Printed<'_> {
     fn fmt<W: Write>(&self, f: &mut Formatter<W>) -> fmt::Result {
         Numbers(&self.inspection.summary).fmt(f)?;
-        write!(f, "bytes: {}\n", self.archive.len())?;
+        writeln!(f, "bytes: {}", self.archive.len())?;
         for region in &self.inspection.regions {
             let line = Line {
                 archive: self.archive,

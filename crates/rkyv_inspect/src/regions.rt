@@ -149,16 +149,15 @@ impl RegionList {
     /// # Errors
     ///
     /// - The text or the list fails to allocate.
-    pub(crate) fn finish(self, alloc: Global) -> Result<Vec<Region>, AllocError>
+    pub(crate) fn finish(mut self, alloc: Global) -> Result<Vec<Region>, AllocError>
         requires { IsRegionList self }
         ensures covers { IfOk result (λ regions. Covers 0 regions.items self.len) }
         ensures fields { IfOk result (λ regions. fields_of regions.items
             ≡ fields_of self.regions.items) }
     {
-        let mut list = self;
-        let end = list.len;
-        list.add_named(alloc, end, RegionKind::Unknown, "unknown bytes")?;
-        Ok(list.regions)
+        let end = self.len;
+        self.add_named(alloc, end, RegionKind::Unknown, "unknown bytes")?;
+        Ok(self.regions)
     }
 }
 
@@ -166,13 +165,10 @@ impl RegionList {
 pub(crate) fn bytes_in(bytes: &[u8], begin: usize, end: usize) -> &[u8]
     ensures { length result.now ≤ length bytes.now }
 {
-    if begin <= end && end <= bytes.len() {
-        return &bytes[begin..end];
-    }
-    &[]
+    bytes.get(begin..end).unwrap_or(&[])
 }
 
 /// Returns `true` if and only if the bytes are fewer than eight, and zeros.
 fn is_padding(bytes: &[u8]) -> bool {
-    bytes.len() < 8 && bytes.iter().all(|byte| *byte == 0)
+    bytes.len() < 8 && bytes.iter().all(|&byte| byte == 0)
 }

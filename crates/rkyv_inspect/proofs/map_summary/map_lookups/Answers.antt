@@ -5,11 +5,11 @@ use Rattle.rkyv_keys.specs.{hash_at}
 use Rattle.rkyv_collections.specs.{map_misplaced, map_strides}
 use Rattle.rkyv_inspect.proofs.map_summary.map_lookups.Goals as goal
 
-pub returns-in-None : goal.returns-in-None
-returns-in-None g c =
+pub returns-in_default : goal.returns-in_default
+returns-in_default g c =
     let key_hash = hash_at g.H.KeyHasher.hasher g.K.KeyElement.key_calls in
     let strides : View _ → ℕ = λ v. map_strides g.W.Word.word g.K.HasSpec.spec g.V.HasSpec.spec key_hash g.K.ElementEq.same (bytes_of v) (pos_of v) in
-    subst (λ v. (c.args.limit < strides v) ⊎ (2 ^ 63 < strides v)) c.of.ensures.view c.in-None.ensures
+    subst (λ v. (c.args.limit < strides v) ⊎ (2 ^ 63 < strides v)) c.of.ensures.view c.in_default.ensures
 
 pub returns : goal.returns
 returns g c =
