@@ -24,41 +24,39 @@ type OrderedNumbers = ArchivedIndexMap<'static, i8, i8, FxHasher64, Narrow>;
 
 type OrderedKeys = ArchivedIndexSet<'static, i8, FxHasher64, Narrow>;
 
-// Returns whether the number of calls of an iterator of two items fits the outcome.
+// Returns whether the number of calls of an iterator of two items fits the outcome of a write.
 // There is no call if an allocation fails first, and else one for each item and one for the end.
-fn fits(outcome: Outcome, requests: usize) -> bool {
-    match outcome {
-        Outcome::Memory => requests == 0,
-        Outcome::Written | Outcome::Growth => requests == 3,
+fn fits(write: (Outcome, usize)) -> bool {
+    match write {
+        (Outcome::Memory, requests) => requests == 0,
+        (Outcome::Written | Outcome::Growth, requests) => requests == 3,
         _ => false,
     }
 }
 
 // Does the same for an index map or index set. Memory for the items is allocated before the calls,
 // and memory for the table afterwards.
-fn fits_index(outcome: Outcome, requests: usize) -> bool {
-    match outcome {
-        Outcome::Memory => requests == 0 || requests == 3,
-        Outcome::Written | Outcome::Growth => requests == 3,
+fn fits_index(write: (Outcome, usize)) -> bool {
+    match write {
+        (Outcome::Memory, requests) => requests == 0 || requests == 3,
+        (Outcome::Written | Outcome::Growth, requests) => requests == 3,
         _ => false,
     }
 }
 
-// Writes a table of two items and two hashes.
-// Returns the outcome, and whether the calls of both iterators fit it.
-fn table(alloc: Global) -> (Outcome, bool) {
-    let (outcome, items, hashes) = requests_of_table(alloc, 2, 2, 2);
-    (outcome, fits(outcome, items) && fits(outcome, hashes))
+// Does the same for an index map or index set of two items under the claimed length 3.
+// Memory for the items is allocated before the calls, and none after them.
+fn fits_too_short(write: (Outcome, usize)) -> bool {
+    match write {
+        (Outcome::Memory, requests) => requests == 0,
+        (Outcome::Mismatch(3, 2), requests) => requests == 3,
+        _ => false,
+    }
 }
 
-// Writes a table of two pairs of hash and item, as `table` does.
-fn table_of_pairs(alloc: Global) -> (Outcome, bool) {
-    let (outcome, requests) = requests_of_pairs(alloc, 2, 2);
-    (outcome, fits(outcome, requests))
-}
-
-// Writes a map of two pairs, as `table` does.
-fn map(alloc: Global) -> (Outcome, bool) {
+// Writes a map of two pairs.
+// Returns the outcome, and the number of calls of the iterator.
+fn map(alloc: Global) -> (Outcome, usize) {
     let requests = Cell::new(0usize);
     let mut writer = VecWriter::new(alloc);
     let outcome = Numbers::serialize_from_iter::<VecWriter, i8, i8, i8, i8, _>(
@@ -68,12 +66,11 @@ fn map(alloc: Global) -> (Outcome, bool) {
         (7, 8),
         &mut writer,
     );
-    let outcome = outcome_of(outcome, &writer);
-    (outcome, fits(outcome, requests.get()))
+    (outcome_of(outcome, &writer), requests.get())
 }
 
-// Writes a set of two keys, as `table` does.
-fn set(alloc: Global) -> (Outcome, bool) {
+// Does the same with a set of two keys.
+fn set(alloc: Global) -> (Outcome, usize) {
     let requests = Cell::new(0usize);
     let mut writer = VecWriter::new(alloc);
     let outcome = Keys::serialize_from_iter::<VecWriter, i8, i8, _>(
@@ -83,170 +80,117 @@ fn set(alloc: Global) -> (Outcome, bool) {
         (7, 8),
         &mut writer,
     );
-    let outcome = outcome_of(outcome, &writer);
-    (outcome, fits(outcome, requests.get()))
+    (outcome_of(outcome, &writer), requests.get())
 }
 
-// Writes an index map of two pairs.
-// Returns the outcome, and whether the calls of the iterator fit it.
-fn index_map(alloc: Global) -> (Outcome, bool) {
+// Does the same with an index map of two pairs under the claimed length `len`.
+fn index_map(alloc: Global, len: usize) -> (Outcome, usize) {
     let requests = Cell::new(0usize);
     let mut writer = VecWriter::new(alloc);
     let outcome = OrderedNumbers::serialize_from_iter::<VecWriter, i8, i8, i8, i8, _>(
         alloc,
         iter::from_fn(|| yields_next(&requests, 2).then_some((1i8, 2i8))),
-        2,
-        (7, 8),
-        &mut writer,
-    );
-    let outcome = outcome_of(outcome, &writer);
-    (outcome, fits_index(outcome, requests.get()))
-}
-
-// Writes an index set of two keys, as `index_map` does.
-fn index_set(alloc: Global) -> (Outcome, bool) {
-    let requests = Cell::new(0usize);
-    let mut writer = VecWriter::new(alloc);
-    let outcome = OrderedKeys::serialize_from_iter::<VecWriter, i8, i8, _>(
-        alloc,
-        iter::from_fn(|| yields_next(&requests, 2).then_some(1i8)),
-        2,
-        (7, 8),
-        &mut writer,
-    );
-    let outcome = outcome_of(outcome, &writer);
-    (outcome, fits_index(outcome, requests.get()))
-}
-
-// Writes an index map of two pairs under the claimed length 3.
-// Returns the outcome, and the number of calls of the iterator.
-fn index_map_too_short(alloc: Global) -> (Outcome, usize) {
-    let requests = Cell::new(0usize);
-    let mut writer = VecWriter::new(alloc);
-    let outcome = OrderedNumbers::serialize_from_iter::<VecWriter, i8, i8, i8, i8, _>(
-        alloc,
-        iter::from_fn(|| yields_next(&requests, 2).then_some((1i8, 2i8))),
-        3,
+        len,
         (7, 8),
         &mut writer,
     );
     (outcome_of(outcome, &writer), requests.get())
 }
 
-// Does the same with an index set of two keys.
-fn index_set_too_short(alloc: Global) -> (Outcome, usize) {
+// Does the same with an index set of two keys under the claimed length `len`.
+fn index_set(alloc: Global, len: usize) -> (Outcome, usize) {
     let requests = Cell::new(0usize);
     let mut writer = VecWriter::new(alloc);
     let outcome = OrderedKeys::serialize_from_iter::<VecWriter, i8, i8, _>(
         alloc,
         iter::from_fn(|| yields_next(&requests, 2).then_some(1i8)),
-        3,
+        len,
         (7, 8),
         &mut writer,
     );
     (outcome_of(outcome, &writer), requests.get())
-}
-
-// Returns whether the outcome and the number of calls are those of two items under the claimed
-// length 3. Memory for the items is allocated before the calls, and none after them.
-fn fits_too_short(outcome: Outcome, requests: usize) -> bool {
-    match outcome {
-        Outcome::Memory => requests == 0,
-        Outcome::Mismatch(3, 2) => requests == 3,
-        _ => false,
-    }
 }
 
 #[test]
 fn table_allocates_before_reading_items(rt: HostRuntime) {
-    let (_, right) = table(rt.alloc());
-    assert!(rt; right);
+    let (outcome, items, hashes) = requests_of_table(rt.alloc(), 2, 2, 2);
+    assert!(rt; fits((outcome, items)) && fits((outcome, hashes)));
 }
 
 #[test]
 fn a_table_succeeds(rt: HostRuntime) {
-    assert_eq!(rt; table(rt.alloc()), (Outcome::Written, true));
+    assert_eq!(rt;
+        requests_of_table(rt.alloc(), 2, 2, 2),
+        (Outcome::Written, 3, 3)
+    );
 }
 
 #[test]
 fn table_allocates_before_reading_pairs(rt: HostRuntime) {
-    let (_, right) = table_of_pairs(rt.alloc());
-    assert!(rt; right);
+    assert!(rt; fits(requests_of_pairs(rt.alloc(), 2, 2)));
 }
 
 #[test]
 fn a_table_of_pairs_succeeds(rt: HostRuntime) {
-    assert_eq!(rt; table_of_pairs(rt.alloc()), (Outcome::Written, true));
+    assert_eq!(rt; requests_of_pairs(rt.alloc(), 2, 2), (Outcome::Written, 3));
 }
 
 #[test]
 fn map_allocates_before_reading_pairs(rt: HostRuntime) {
-    let (_, right) = map(rt.alloc());
-    assert!(rt; right);
+    assert!(rt; fits(map(rt.alloc())));
 }
 
 #[test]
 fn a_map_succeeds(rt: HostRuntime) {
-    assert_eq!(rt; map(rt.alloc()), (Outcome::Written, true));
+    assert_eq!(rt; map(rt.alloc()), (Outcome::Written, 3));
 }
 
 #[test]
 fn set_allocates_before_reading_keys(rt: HostRuntime) {
-    let (_, right) = set(rt.alloc());
-    assert!(rt; right);
+    assert!(rt; fits(set(rt.alloc())));
 }
 
 #[test]
 fn a_set_succeeds(rt: HostRuntime) {
-    assert_eq!(rt; set(rt.alloc()), (Outcome::Written, true));
+    assert_eq!(rt; set(rt.alloc()), (Outcome::Written, 3));
 }
 
 #[test]
 fn an_index_map_without_memory_has_taken_no_pair_or_all(rt: HostRuntime) {
-    let (_, right) = index_map(rt.alloc());
-    assert!(rt; right);
+    assert!(rt; fits_index(index_map(rt.alloc(), 2)));
 }
 
 #[test]
 fn an_index_map_succeeds(rt: HostRuntime) {
-    assert_eq!(rt; index_map(rt.alloc()), (Outcome::Written, true));
+    assert_eq!(rt; index_map(rt.alloc(), 2), (Outcome::Written, 3));
 }
 
 #[test]
 fn an_index_set_without_memory_has_taken_no_key_or_all(rt: HostRuntime) {
-    let (_, right) = index_set(rt.alloc());
-    assert!(rt; right);
+    assert!(rt; fits_index(index_set(rt.alloc(), 2)));
 }
 
 #[test]
 fn an_index_set_succeeds(rt: HostRuntime) {
-    assert_eq!(rt; index_set(rt.alloc()), (Outcome::Written, true));
+    assert_eq!(rt; index_set(rt.alloc(), 2), (Outcome::Written, 3));
 }
 
 #[test]
 fn an_index_map_counts_its_pairs_before_it_allocates_its_table(rt: HostRuntime) {
-    let (outcome, requests) = index_map_too_short(rt.alloc());
-    assert!(rt; fits_too_short(outcome, requests));
+    assert!(rt; fits_too_short(index_map(rt.alloc(), 3)));
 }
 
 #[test]
 fn the_count_of_an_index_map_succeeds(rt: HostRuntime) {
-    assert_eq!(rt;
-        index_map_too_short(rt.alloc()),
-        (Outcome::Mismatch(3, 2), 3)
-    );
+    assert_eq!(rt; index_map(rt.alloc(), 3), (Outcome::Mismatch(3, 2), 3));
 }
 
 #[test]
 fn an_index_set_counts_its_keys_before_it_allocates_its_table(rt: HostRuntime) {
-    let (outcome, requests) = index_set_too_short(rt.alloc());
-    assert!(rt; fits_too_short(outcome, requests));
+    assert!(rt; fits_too_short(index_set(rt.alloc(), 3)));
 }
 
 #[test]
 fn the_count_of_an_index_set_succeeds(rt: HostRuntime) {
-    assert_eq!(rt;
-        index_set_too_short(rt.alloc()),
-        (Outcome::Mismatch(3, 2), 3)
-    );
+    assert_eq!(rt; index_set(rt.alloc(), 3), (Outcome::Mismatch(3, 2), 3));
 }
