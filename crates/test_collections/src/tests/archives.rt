@@ -1,4 +1,4 @@
-//! Archives of lists of pairs.
+//! Archives of lists of pairs, and of four pairs with other buckets.
 
 use rkyv_base::archive::Serialize;
 use rkyv_base::errors::WriteError;
@@ -8,6 +8,7 @@ use rkyv_base::writer::{NoMemory, VecWriter};
 use rkyv_collections::MapPairs;
 use rkyv_keys::keys::{KeyElement, NativeKey};
 use std::alloc::Global;
+use test_support::archives::four_pairs;
 
 /// Returns the narrow archive of a list of pairs, as a map.
 pub fn map_archive<A: Serialize<VecWriter, Narrow>, B: Serialize<VecWriter, Narrow>>(
@@ -33,4 +34,11 @@ where
     A: NativeKey<A::Archived>,
 {
     matches!(map_archive(alloc, pairs), Ok(archive) if archive.as_slice() == bytes)
+}
+
+/// Returns the archive of the four pairs with other buckets.
+pub(crate) fn four_with(buckets: [u8; 10]) -> [u8; 56] {
+    let mut bytes = four_pairs();
+    bytes[..10].copy_from_slice(&buckets);
+    bytes
 }

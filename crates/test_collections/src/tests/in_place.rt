@@ -1,50 +1,32 @@
 //! Tests of values of maps that a closure or a cursor writes over the plain bytes.
 
-use crate::tests::opened::small_seal;
+use crate::tests::archives::four_with;
+use crate::tests::opened::{small_pos, small_seal};
 use rkyv_base::access::access_in;
 use rkyv_base::element::Element;
 use rkyv_base::errors::VerifyError;
 use rkyv_base::scalars::Scalar;
 use rkyv_base::width::{Narrow, Width};
 use rkyv_collections::map::{ArchivedHashMap, HashMapOf};
-use rkyv_keys::keys::{KeyElement, Query};
-use rkyv_scan::hash::{FxHasher64, KeyHasher};
+use rkyv_scan::hash::FxHasher64;
 use test_support::archives::four_pairs;
 use test_support::changes::change;
 
-// Returns the archive of the four pairs with other buckets.
-fn four_with(buckets: [u8; 10]) -> [u8; 56] {
-    let mut bytes = four_pairs();
-    bytes[..10].copy_from_slice(&buckets);
-    bytes
-}
-
 // Writes a byte over the value of a key. Returns the position of the value, if the key is found.
-fn change_found<K: KeyElement, N: Scalar, H: KeyHasher, W: Width, Q: Query<K>>(
-    bytes: &mut [u8],
-    key: &Q,
-    byte: u8,
-) -> Result<Option<u64>, VerifyError>
-    requires { Q.can_read key.now }
-{
-    let root = access_in::<W, HashMapOf<K, N, H, W>>(&*bytes)?.pos();
-    Ok(ArchivedHashMap::<K, N, H, W>::found_with(
+fn change_found(bytes: &mut [u8], key: i8, byte: u8) -> Result<Option<u64>, VerifyError> {
+    let root = small_pos(&*bytes)?;
+    Ok(ArchivedHashMap::<i8, i8, FxHasher64, Narrow>::found_with(
         bytes,
         root,
-        key,
+        &key,
         |archive: &mut [u8], pos: u64| change(archive, pos, byte),
     ))
-}
-
-// Does the same in a map of `i8` to `i8`.
-fn change_small(bytes: &mut [u8], key: i8, byte: u8) -> Option<Option<u64>> {
-    change_found::<i8, i8, FxHasher64, Narrow, i8>(bytes, &key, byte).ok()
 }
 
 #[test]
 fn a_found_value_is_written_over_the_bare_bytes(rt: HostRuntime) {
     let mut bytes = four_pairs();
-    let key_pos = change_small(&mut bytes, 7, 70);
+    let key_pos = change_found(&mut bytes, 7, 70).ok();
     let same = bytes == four_with([3, 4, 1, 2, 0, 0, 7, 70, 5, 6]);
     expect_eq!(rt; (key_pos, same), (Some(Some(7)), true));
 }
@@ -52,7 +34,7 @@ fn a_found_value_is_written_over_the_bare_bytes(rt: HostRuntime) {
 #[test]
 fn lookup_of_a_missing_key_changes_nothing(rt: HostRuntime) {
     let mut bytes = four_pairs();
-    let key_pos = change_small(&mut bytes, 9, 70);
+    let key_pos = change_found(&mut bytes, 9, 70).ok();
     expect_eq!(rt; (key_pos, bytes == four_pairs()), (Some(None), true));
 }
 
@@ -83,12 +65,12 @@ fn pairs_are_written_while_the_cursor_steps(rt: HostRuntime) {
 
 // Writes a number over the values of the first two pairs of the map in the plain bytes.
 // Returns the positions of their keys, and the number of pairs left.
-fn write_behind_keys<K: Element, N: Scalar, H, W: Width>(
+fn write_behind_keys(
     bytes: &mut [u8],
-    value: N,
+    value: i8,
 ) -> Result<([Option<u64>; 2], usize), VerifyError> {
-    let root = access_in::<W, HashMapOf<K, N, H, W>>(&*bytes)?.pos();
-    let mut rest = ArchivedHashMap::<K, N, H, W>::iter_over(bytes, root);
+    let root = small_pos(&*bytes)?;
+    let mut rest = ArchivedHashMap::<i8, i8, FxHasher64, Narrow>::iter_over(bytes, root);
     let mut positions = [None; 2];
     for key_pos in &mut positions {
         if let Some(pos) = rest.next_pos() {
@@ -102,7 +84,7 @@ fn write_behind_keys<K: Element, N: Scalar, H, W: Width>(
 #[test]
 fn pairs_are_written_over_the_bare_bytes(rt: HostRuntime) {
     let mut bytes = four_pairs();
-    let written = write_behind_keys::<i8, i8, FxHasher64, Narrow>(&mut bytes, 20).ok();
+    let written = write_behind_keys(&mut bytes, 20).ok();
     let same = bytes == four_with([3, 4, 1, 2, 0, 0, 7, 20, 5, 20]);
     expect_eq!(rt; (written, same), (Some(([Some(8), Some(6)], 2)), true));
 }

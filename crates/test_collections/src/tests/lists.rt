@@ -1,12 +1,11 @@
 //! Tests of lists of items that are archived as sets.
 
-use rkyv_base::access::access;
+use crate::tests::opened::key_set;
 use rkyv_base::errors::{VerifyError, WriteError};
 use rkyv_base::root::to_bytes;
 use rkyv_base::writer::NoMemory;
 use rkyv_collections::SetItems;
 use rkyv_collections::lists::laws::{item_clones_are_the_same, pair_clones_are_the_same};
-use rkyv_collections::set::{ArchivedHashSet, HashSetOf};
 use rkyv_scan::hash::FxHasher64;
 use std::alloc::Global;
 use test_support::archives::{archive, three_keys};
@@ -18,7 +17,7 @@ fn archive_of(alloc: Global, items: SetItems<'_, u8>) -> Result<Vec<u8>, WriteEr
 
 // Returns the length of an archived set, the number of items in a walk, and whether it has 1 and 4.
 fn read(bytes: &[u8]) -> Result<(usize, usize, [bool; 2]), VerifyError> {
-    let set = ArchivedHashSet::of(access::<HashSetOf<u8>>(bytes)?);
+    let set = key_set(bytes)?;
     let mut walked = 0usize;
     for _ in set.iter() {
         walked = walked.wrapping_add(1);

@@ -48,8 +48,8 @@ fn a_decoded_header_leads_to_the_same_value(rt: HostRuntime) {
     expect_eq!(rt; value, Some(Some(6)));
 }
 
-// Does the same as `found` in a map of `i8` to `i8`.
-fn small(bytes: &[u8], key: i8) -> Option<(Option<i8>, Option<(u64, u64)>, bool)> {
+/// Does the same as `found` in a map of `i8` to `i8`.
+pub(crate) fn small_found(bytes: &[u8], key: i8) -> Option<(Option<i8>, Option<(u64, u64)>, bool)> {
     found::<i8, i8, FxHasher64, Narrow, i8>(bytes, &key).ok()
 }
 
@@ -57,11 +57,11 @@ fn small(bytes: &[u8], key: i8) -> Option<(Option<i8>, Option<(u64, u64)>, bool)
 fn pairs_are_found_with_their_positions(rt: HostRuntime) {
     let four = four_pairs();
     let found = [
-        small(&four, 1),
-        small(&four, 5),
-        small(&four, 2),
-        small(&one_key_twice(), 1),
-        small(&no_items(), 1),
+        small_found(&four, 1),
+        small_found(&four, 5),
+        small_found(&four, 2),
+        small_found(&one_key_twice(), 1),
+        small_found(&no_items(), 1),
     ];
     expect_eq!(rt;
         found,

@@ -8,16 +8,36 @@ use rkyv_base::errors::VerifyError;
 use rkyv_base::seal::ArchiveSeal;
 use rkyv_base::text::Text;
 use rkyv_collections::map::{ArchivedHashMap, HashMapOf};
+use rkyv_collections::set::{ArchivedHashSet, HashSetOf};
 
 pub(crate) type Numbers = HashMapOf<u32, u32>;
 
 pub(crate) type Small = HashMapOf<i8, i8>;
+
+pub(crate) type Nested = HashMapOf<i8, Small>;
 
 pub(crate) type Texts = HashMapOf<Text, Text>;
 
 /// Validates an archive, and returns its map of `i8` to `i8`.
 pub(crate) fn small_map(bytes: &[u8]) -> Result<ArchivedHashMap<'_, i8, i8>, VerifyError> {
     Ok(ArchivedHashMap::of(access::<Small>(bytes)?))
+}
+
+/// Validates an archive of a map of `i8` to `i8`, and returns the position of the map.
+pub(crate) fn small_pos(bytes: &[u8]) -> Result<u64, VerifyError>
+    ensures { IfOk result (Viewable ⟦<Small as HasSpec>⟧.spec bytes.now) }
+{
+    Ok(access::<Small>(bytes)?.pos())
+}
+
+/// Validates an archive, and returns its map of `i8` to maps of `i8` to `i8`.
+pub(crate) fn nested_map(bytes: &[u8]) -> Result<ArchivedHashMap<'_, i8, Small>, VerifyError> {
+    Ok(ArchivedHashMap::of(access::<Nested>(bytes)?))
+}
+
+/// Validates an archive, and returns its set of `u8`.
+pub(crate) fn key_set(bytes: &[u8]) -> Result<ArchivedHashSet<'_, u8>, VerifyError> {
+    Ok(ArchivedHashSet::of(access::<HashSetOf<u8>>(bytes)?))
 }
 
 /// Validates an archive, and returns its map of texts to texts.

@@ -4,13 +4,13 @@ use rkyv_base::access::access_in;
 use rkyv_base::element::Element;
 use rkyv_base::errors::VerifyError;
 use rkyv_base::scalars::Scalar;
-use rkyv_base::width::Width;
+use rkyv_base::width::{Narrow, Width};
 use rkyv_collections::map::{ArchivedHashMap, HashMapOf};
 use rkyv_collections::set::{ArchivedHashSet, HashSetOf};
 use rkyv_keys::debug::ElementDebug;
 use rkyv_keys::equality::ElementEq;
 use rkyv_keys::keys::{KeyElement, Query};
-use rkyv_scan::hash::KeyHasher;
+use rkyv_scan::hash::{FxHasher64, KeyHasher};
 use std::alloc::Global;
 
 /// Returns whether a map is empty, its length and its capacity.
@@ -37,31 +37,9 @@ pub(crate) fn number_of<K: KeyElement, N: Scalar, H: KeyHasher, W: Width, Q: Que
     }
 }
 
-/// Returns the positions of a key and its value, if the map has the key.
-pub(crate) fn pair_of<K: KeyElement, V: Element, H: KeyHasher, W: Width, Q: Query<K>>(
-    bytes: &[u8],
-    key: &Q,
-) -> Result<Option<(u64, u64)>, VerifyError>
-    requires { Q.can_read key.now }
-{
-    let root = access_in::<W, HashMapOf<K, V, H, W>>(bytes)?;
-    let map = ArchivedHashMap::<K, V, H, W>::of(root);
-    match map.get_key_value(key) {
-        Some((found, value)) => Ok(Some((found.pos(), value.pos()))),
-        None => Ok(None),
-    }
-}
-
-/// Returns whether a map has a key.
-pub(crate) fn has_key<K: KeyElement, V: Element, H: KeyHasher, W: Width, Q: Query<K>>(
-    bytes: &[u8],
-    key: &Q,
-) -> Result<bool, VerifyError>
-    requires { Q.can_read key.now }
-{
-    let root = access_in::<W, HashMapOf<K, V, H, W>>(bytes)?;
-    let map = ArchivedHashMap::<K, V, H, W>::of(root);
-    Ok(map.contains_key(key))
+/// Does the same in a map of `i8` to `i8`.
+pub(crate) fn small(bytes: &[u8], key: i8) -> Option<Option<i8>> {
+    number_of::<i8, i8, FxHasher64, Narrow, i8>(bytes, &key).ok()
 }
 
 /// Returns whether two maps are equal, by `eq_map` and by `ElementEq::same`.
@@ -88,35 +66,6 @@ pub(crate) fn equal_sets<K: KeyElement, H: KeyHasher, W: Width>(
     let other_set = ArchivedHashSet::<K, H, W>::of(other_root);
     let same = HashSetOf::<K, H, W>::same(root, other_root);
     Ok((set.eq_set(other_set), same))
-}
-
-/// Returns the number of misplaced keys of a map.
-pub(crate) fn misplaced<K: KeyElement, V: Element, H: KeyHasher, W: Width>(
-    bytes: &[u8],
-) -> Result<usize, VerifyError> {
-    let root = access_in::<W, HashMapOf<K, V, H, W>>(bytes)?;
-    let map = ArchivedHashMap::<K, V, H, W>::of(root);
-    Ok(map.misplaced())
-}
-
-/// Returns the number of misplaced keys of a map, or `None` if more than `limit` strides are read.
-pub(crate) fn misplaced_up_to<K: KeyElement, V: Element, H: KeyHasher, W: Width>(
-    bytes: &[u8],
-    limit: u64,
-) -> Result<Option<usize>, VerifyError> {
-    let root = access_in::<W, HashMapOf<K, V, H, W>>(bytes)?;
-    let map = ArchivedHashMap::<K, V, H, W>::of(root);
-    Ok(map.misplaced_up_to(limit))
-}
-
-/// Returns the number of misplaced keys of a set, or `None` if more than `limit` strides are read.
-pub(crate) fn set_misplaced_up_to<K: KeyElement, H: KeyHasher, W: Width>(
-    bytes: &[u8],
-    limit: u64,
-) -> Result<Option<usize>, VerifyError> {
-    let root = access_in::<W, HashSetOf<K, H, W>>(bytes)?;
-    let set = ArchivedHashSet::<K, H, W>::of(root);
-    Ok(set.misplaced_up_to(limit))
 }
 
 /// Returns whether the bytes are valid and their map prints as `text`.

@@ -3,10 +3,9 @@ ghost use Rattle.std.specs.Int.{w32};
 ghost use Rattle.rkyv_base.specs.{IsValidView, entry_spec, text_spec};
 
 use crate::tests::archives::map_archive;
-use crate::tests::opened::{Small, small_map};
-use crate::tests::query_results::{
-    counts, equal_maps, has_key, map_prints, misplaced, misplaced_up_to, number_of, pair_of,
-};
+use crate::tests::lookups::small_found;
+use crate::tests::opened::{Small, nested_map, small_map};
+use crate::tests::query_results::{counts, equal_maps, map_prints, number_of, small};
 use rkyv_base::access::{access, access_in};
 use rkyv_base::entry::Entry;
 use rkyv_base::errors::VerifyError;
@@ -26,28 +25,12 @@ use test_support::archives::{
     one_wide_number,
 };
 
-type Nested = HashMapOf<i8, Small>;
-
-// Returns the value of a key in a map of `i8` to `i8`.
-fn small(bytes: &[u8], key: i8) -> Option<Option<i8>> {
-    number_of::<i8, i8, FxHasher64, Narrow, i8>(bytes, &key).ok()
-}
-
-// Returns the positions of a key and its value in such a map.
-fn small_pair(bytes: &[u8], key: i8) -> Option<Option<(u64, u64)>> {
-    pair_of::<i8, i8, FxHasher64, Narrow, i8>(bytes, &key).ok()
-}
-
-fn has_small(bytes: &[u8], key: i8) -> Option<bool> {
-    has_key::<i8, i8, FxHasher64, Narrow, i8>(bytes, &key).ok()
-}
-
 fn small_counts(bytes: &[u8]) -> Option<(bool, usize, usize)> {
     counts::<i8, i8, FxHasher64, Narrow>(bytes).ok()
 }
 
 fn small_misplaced(bytes: &[u8]) -> Option<usize> {
-    misplaced::<i8, i8, FxHasher64, Narrow>(bytes).ok()
+    Some(small_map(bytes).ok()?.misplaced())
 }
 
 fn small_equal(bytes: &[u8], other: &[u8]) -> Option<(bool, bool)> {
@@ -62,17 +45,12 @@ fn small_prints(alloc: Global, bytes: &[u8], text: &str) -> bool {
 fn an_empty_map_is_read(rt: HostRuntime) {
     let bytes = no_items();
     let (counts, equal) = (small_counts(&bytes), small_equal(&bytes, &bytes));
-    let found = (
-        small(&bytes, 1),
-        small_pair(&bytes, 1),
-        has_small(&bytes, 1),
-    );
     let printed = small_prints(rt.alloc(), &bytes, "{}");
     expect_eq!(rt;
-        (counts, found, equal, printed),
+        (counts, small_found(&bytes, 1), equal, printed),
         (
             Some((true, 0, 0)),
-            (Some(None), Some(None), Some(false)),
+            Some((None, None, false)),
             Some((true, true)),
             true
         )
@@ -84,17 +62,16 @@ fn one_pair_is_found(rt: HostRuntime) {
     items_are_yielded::<i8, i8, FxHasher64, Narrow>();
     maps_are_laid_out::<Narrow, FxHasher64, i8, i8, i8, i8>();
     let bytes = one_pair();
-    let found = [small(&bytes, 1), small(&bytes, 2)];
-    let pairs = [small_pair(&bytes, 1), small_pair(&bytes, 2)];
-    let there = [has_small(&bytes, 1), has_small(&bytes, 2)];
+    let found = [small_found(&bytes, 1), small_found(&bytes, 2)];
     let printed = small_prints(rt.alloc(), &bytes, "{1: 2}");
     expect_eq!(rt;
-        (small_counts(&bytes), found, pairs, there, printed),
+        (small_counts(&bytes), found, printed),
         (
             Some((false, 1, 2)),
-            [Some(Some(2)), Some(None)],
-            [Some(Some((0, 1))), Some(None)],
-            [Some(true), Some(false)],
+            [
+                Some((Some(2), Some((0, 1)), true)),
+                Some((None, None, false))
+            ],
             true
         )
     );
@@ -278,7 +255,7 @@ fn misplaced_keys_are_counted(rt: HostRuntime) {
 }
 
 fn small_misplaced_up_to(bytes: &[u8], limit: u64) -> Option<Option<usize>> {
-    misplaced_up_to::<i8, i8, FxHasher64, Narrow>(bytes, limit).ok()
+    Some(small_map(bytes).ok()?.misplaced_up_to(limit))
 }
 
 // A table of at most sixteen buckets has one stride, so each lookup reads one.
@@ -320,7 +297,7 @@ fn a_symbol_is_found(rt: HostRuntime) {
 
 // Returns the number at `inner_key` in the map at `key`.
 fn inner_value(bytes: &[u8], key: i8, inner_key: i8) -> Result<Option<i8>, VerifyError> {
-    let map = ArchivedHashMap::of(access::<Nested>(bytes)?);
+    let map = nested_map(bytes)?;
     match map.get(&key) {
         Some(inner) => match ArchivedHashMap::of(inner).get(&inner_key) {
             Some(value) => Ok(Some(value.to_native())),
@@ -350,12 +327,12 @@ fn a_map_inside_is_checked(rt: HostRuntime) {
     let mut bytes = nested();
     bytes[40] = 0xdd;
     let unwrapped = matches!(
-        access::<Nested>(&bytes),
+        nested_map(&bytes),
         Err(VerifyError::UnwrappedControlByte { index: 30 })
     );
     bytes[40] = 0xde;
     let outside = matches!(
-        access::<Nested>(&bytes),
+        nested_map(&bytes),
         Err(VerifyError::OutOfRange { pos: 2, size: 35 })
     );
     expect_eq!(rt; (unwrapped, outside), (true, true));
@@ -367,8 +344,8 @@ fn prefixes_that_are_empty_maps(rt: HostRuntime) {
     let bytes = nested();
     let mut right = true;
     for len in 0..112 {
-        let empty = match access::<Nested>(&bytes[..len]) {
-            Ok(root) => ArchivedHashMap::of(root).is_empty(),
+        let empty = match nested_map(&bytes[..len]) {
+            Ok(map) => map.is_empty(),
             Err(_) => false,
         };
         right = right && empty == matches!(len, 60 | 64 | 68);
@@ -421,8 +398,7 @@ fn rejects_a_wide_capacity_beyond_the_archive(rt: HostRuntime) {
 
 // Returns the length of a copy of a map.
 fn copied_len(bytes: &[u8]) -> Option<usize> {
-    let map = small_map(bytes).ok()?;
-    let copy = map.clone().ok()?;
+    let copy = small_map(bytes).ok()?.clone().ok()?;
     Some(copy.len())
 }
 

@@ -7,9 +7,9 @@ ghost use Rattle.rkyv_keys.specs.{hash_at};
 ghost use Rattle.rkyv_collections.specs.{IsKeyPosAt, map_at, map_spec};
 ghost use Rattle.test_collections.specs.InMaps.{FindsIn, KeepsIn};
 
-use crate::tests::archives::map_archive;
+use crate::tests::archives::{four_with, map_archive};
 use crate::tests::opened::{is_text, number_seal, small_seal, text_seal};
-use crate::tests::query_results::number_of;
+use crate::tests::query_results::{number_of, small};
 use rkyv_base::access::{access_in, access_mut};
 use rkyv_base::element::Element;
 use rkyv_base::errors::VerifyError;
@@ -293,22 +293,15 @@ fn write_pairs(bytes: &mut [u8], pairs: &[(i8, i8)]) -> Result<bool, VerifyError
     Ok(right && ended && rest.next_seal().is_none() && rest.len() == 0)
 }
 
-// Returns the archive of the four pairs with other buckets.
-fn four_with(buckets: [u8; 10]) -> [u8; 56] {
-    let mut bytes = four_pairs();
-    bytes[..10].copy_from_slice(&buckets);
-    bytes
-}
-
 #[test]
 fn each_value_is_written(rt: HostRuntime) {
     let mut bytes = four_pairs();
     let written = write_values(&mut bytes, &[0; 4]).ok();
     let found = [
-        number_of::<i8, i8, FxHasher64, Narrow, i8>(&bytes, &1).ok(),
-        number_of::<i8, i8, FxHasher64, Narrow, i8>(&bytes, &3).ok(),
-        number_of::<i8, i8, FxHasher64, Narrow, i8>(&bytes, &5).ok(),
-        number_of::<i8, i8, FxHasher64, Narrow, i8>(&bytes, &7).ok(),
+        small(&bytes, 1),
+        small(&bytes, 3),
+        small(&bytes, 5),
+        small(&bytes, 7),
     ];
     let same = bytes == four_with([3, 0, 1, 0, 0, 0, 7, 0, 5, 0]);
     expect_eq!(rt;

@@ -1,7 +1,8 @@
 //! Tests of reading sets in place, from fixed bytes.
 
+use crate::tests::opened::key_set;
 use crate::tests::query_results::{
-    equal_maps, equal_sets, map_prints, member_of, set_counts, set_misplaced_up_to, set_prints,
+    equal_maps, equal_sets, map_prints, member_of, set_counts, set_prints,
 };
 use rkyv_base::access::access_in;
 use rkyv_base::errors::VerifyError;
@@ -42,13 +43,15 @@ fn a_set_is_read(rt: HostRuntime) {
     );
 }
 
+// Returns the number of misplaced keys of a set, or `None` if more than `limit` strides are read.
+fn misplaced_up_to(bytes: &[u8], limit: u64) -> Option<Option<usize>> {
+    Some(key_set(bytes).ok()?.misplaced_up_to(limit))
+}
+
 #[test]
 fn counting_misplaced_keys_of_a_set_ends_at_a_limit(rt: HostRuntime) {
     let three = three_keys();
-    let counted = [
-        set_misplaced_up_to::<u8, FxHasher64, Narrow>(&three, 2).ok(),
-        set_misplaced_up_to::<u8, FxHasher64, Narrow>(&three, 3).ok(),
-    ];
+    let counted = [misplaced_up_to(&three, 2), misplaced_up_to(&three, 3)];
     expect_eq!(rt; counted, [Some(None), Some(Some(0))]);
 }
 
@@ -124,8 +127,7 @@ fn a_set_is_the_value_of_a_map(rt: HostRuntime) {
 
 // Returns the length of a copy of a set.
 fn copied_len(bytes: &[u8]) -> Option<usize> {
-    let set = ArchivedHashSet::of(access_in::<Narrow, HashSetOf<u8>>(bytes).ok()?);
-    let copy = set.clone().ok()?;
+    let copy = key_set(bytes).ok()?.clone().ok()?;
     Some(copy.len())
 }
 

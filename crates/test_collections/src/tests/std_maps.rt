@@ -1,5 +1,6 @@
 //! Round trips of std's maps and sets.
 
+use crate::tests::opened::{Nested as ArchivedNested, key_set, nested_map, small_map, text_map};
 use rkyv_base::access::access;
 use rkyv_base::archive::Serialize;
 use rkyv_base::errors::{VerifyError, WriteError};
@@ -28,8 +29,6 @@ use test_support::archives::{
 use test_support::written::is_archived_as;
 
 type Nested = Hashed<HashMap<i8, Hashed<HashMap<i8, i8>>>>;
-
-type ArchivedNested = HashMapOf<i8, HashMapOf<i8, i8>>;
 
 type Pairs = Hashed<HashMap<(u8, u8), Hashed<HashMap<u16, u16>>>>;
 
@@ -299,7 +298,7 @@ fn read_plain_maps(
     alloc: Global,
     bytes: &[u8],
 ) -> Result<Option<(usize, Option<i8>, bool)>, VerifyError> {
-    let root = ArchivedHashMap::of(access::<ArchivedNested>(bytes)?);
+    let root = nested_map(bytes)?;
     let map: HashMap<i8, HashMap<i8, i8>> = match root.deserialize_std(
         alloc,
         BuildHasherDefault::new(),
@@ -469,7 +468,7 @@ fn a_hundred_texts_under_the_hasher_that_feeds_all_bits(rt: HostRuntime) {
 
 // Reads an archive back into a map of std's. Returns its length and its value of 1.
 fn read_back(alloc: Global, bytes: &[u8]) -> Result<Option<(usize, i8)>, VerifyError> {
-    let root = ArchivedHashMap::of(access::<HashMapOf<i8, i8>>(bytes)?);
+    let root = small_map(bytes)?;
     let map: HashMap<i8, i8> = match root.deserialize_std(alloc, BuildHasherDefault::new()) {
         Ok(map) => map,
         Err(_) => return Ok(None),
@@ -608,7 +607,7 @@ fn set_of(alloc: Global, keys: &[u8]) -> Result<HashSet<u8>, AllocError> {
 
 // Returns whether an archived set equals a set of std's, by the calls of both sides.
 fn equals_keys(bytes: &[u8], set: &HashSet<u8>) -> Result<(bool, bool), VerifyError> {
-    let root = ArchivedHashSet::of(access::<HashSetOf<u8>>(bytes)?);
+    let root = key_set(bytes)?;
     Ok((root.eq_std(set), set.eq_archived(root)))
 }
 
@@ -724,7 +723,7 @@ fn is_read_with<T: BuildHasher + Copy + Drop>(
     map: &HashMap<i8, i8, T>,
     state: T,
 ) -> Result<bool, VerifyError> {
-    let root = ArchivedHashMap::of(access::<HashMapOf<i8, i8>>(bytes)?);
+    let root = small_map(bytes)?;
     match root.deserialize_std::<i8, i8, T>(alloc, state) {
         Ok(back) => Ok(root.eq_std(map) && back == *map),
         Err(_) => Ok(false),
@@ -753,7 +752,7 @@ fn texts_are_read_with<T: BuildHasher + Copy + Drop>(
     map: &HashMap<String, String, T>,
     state: T,
 ) -> Result<bool, VerifyError> {
-    let root = ArchivedHashMap::of(access::<HashMapOf<Text, Text>>(bytes)?);
+    let root = text_map(bytes)?;
     match root.deserialize_std::<String, String, T>(alloc, state) {
         Ok(back) => Ok(root.eq_std(map) && back == *map),
         Err(_) => Ok(false),

@@ -1,5 +1,5 @@
 //! Tests of walks over maps and sets: the items, their order, and the number left.
-use crate::tests::opened::small_map;
+use crate::tests::opened::{key_set, small_map};
 use rkyv_base::access::access;
 use rkyv_base::element::Element;
 use rkyv_base::errors::VerifyError;
@@ -11,7 +11,7 @@ use rkyv_scan::hash::FxHasher64;
 use test_support::archives::{four_pairs, no_items, one_unit, three_keys};
 
 // Returns the positions of the next key and its value.
-fn next_pair<K: Element, V: Element, H, W>(rest: &mut Iter<'_, K, V, H, W>) -> Option<(u64, u64)> {
+fn next_pair(rest: &mut Iter<'_, i8, i8>) -> Option<(u64, u64)> {
     match rest.next() {
         Some((key, value)) => Some((key.pos(), value.pos())),
         None => None,
@@ -27,7 +27,7 @@ fn next_key<K: Element, V: Element, H, W>(rest: &mut Keys<'_, K, V, H, W>) -> Op
 }
 
 // Returns the position of the next value.
-fn next_value<K: Element, V: Element, H, W>(rest: &mut Values<'_, K, V, H, W>) -> Option<u64> {
+fn next_value(rest: &mut Values<'_, i8, i8>) -> Option<u64> {
     match rest.next() {
         Some(value) => Some(value.pos()),
         None => None,
@@ -36,7 +36,7 @@ fn next_value<K: Element, V: Element, H, W>(rest: &mut Values<'_, K, V, H, W>) -
 
 // Walks over the pairs of a map. Returns the results of the first six steps. Then come `len` and
 // `size_hint` before the steps, after two of them and after all.
-fn pairs_of<K: Element, V: Element>(
+fn pairs_of(
     bytes: &[u8],
 ) -> Result<
     (
@@ -45,8 +45,7 @@ fn pairs_of<K: Element, V: Element>(
     ),
     VerifyError,
 > {
-    let map = ArchivedHashMap::of(access::<HashMapOf<K, V>>(bytes)?);
-    let mut rest = map.iter();
+    let mut rest = small_map(bytes)?.iter();
     let before = (rest.len(), rest.size_hint());
     let (first, second) = (next_pair(&mut rest), next_pair(&mut rest));
     let after_two = (rest.len(), rest.size_hint());
@@ -62,11 +61,10 @@ fn pairs_of<K: Element, V: Element>(
 }
 
 // Does the same with keys. Returns the number left after one step.
-fn keys_of<K: Element, V: Element>(
+fn keys_of(
     bytes: &[u8],
 ) -> Result<([Option<u64>; 6], (usize, (usize, Option<usize>))), VerifyError> {
-    let map = ArchivedHashMap::of(access::<HashMapOf<K, V>>(bytes)?);
-    let mut rest = map.keys();
+    let mut rest = small_map(bytes)?.keys();
     let first = next_key(&mut rest);
     let left = (rest.len(), rest.size_hint());
     let keys = [
@@ -81,11 +79,10 @@ fn keys_of<K: Element, V: Element>(
 }
 
 // Does the same with values.
-fn values_of<K: Element, V: Element>(
+fn values_of(
     bytes: &[u8],
 ) -> Result<([Option<u64>; 6], (usize, (usize, Option<usize>))), VerifyError> {
-    let map = ArchivedHashMap::of(access::<HashMapOf<K, V>>(bytes)?);
-    let mut rest = map.values();
+    let mut rest = small_map(bytes)?.values();
     let first = next_value(&mut rest);
     let left = (rest.len(), rest.size_hint());
     let values = [
@@ -137,7 +134,7 @@ fn members<K: Element>(
 // Returns the sum of the keys and values of a map, and that of the keys of a set, by `for`.
 fn sums(map: &[u8], set: &[u8]) -> Result<[u8; 3], VerifyError> {
     let map = ArchivedHashMap::of(access::<HashMapOf<u8, u8>>(map)?);
-    let set = ArchivedHashSet::of(access::<HashSetOf<u8>>(set)?);
+    let set = key_set(set)?;
     let mut sums = [0u8; 3];
     for (key, value) in &map {
         sums[0] = sums[0].wrapping_add(key.to_native());
@@ -164,7 +161,7 @@ fn maps_and_sets_are_walked_by_for(rt: HostRuntime) {
 #[test]
 fn pairs_are_walked_by_ascending_bucket(rt: HostRuntime) {
     let bytes = four_pairs();
-    let pairs = pairs_of::<i8, i8>(&bytes).ok();
+    let pairs = pairs_of(&bytes).ok();
     let (a, b, c, d) = ((8, 9), (6, 7), (2, 3), (0, 1));
     let left = [(4, (4, Some(4))), (2, (2, Some(2))), (0, (0, Some(0)))];
     expect_eq!(rt;
@@ -179,8 +176,8 @@ fn pairs_are_walked_by_ascending_bucket(rt: HostRuntime) {
 #[test]
 fn keys_and_values_are_walked_by_ascending_bucket(rt: HostRuntime) {
     let bytes = four_pairs();
-    let keys = keys_of::<i8, i8>(&bytes).ok();
-    let values = values_of::<i8, i8>(&bytes).ok();
+    let keys = keys_of(&bytes).ok();
+    let values = values_of(&bytes).ok();
     let left = (3, (3, Some(3)));
     expect_eq!(rt;
         (keys, values),
@@ -194,9 +191,9 @@ fn keys_and_values_are_walked_by_ascending_bucket(rt: HostRuntime) {
 #[test]
 fn a_walk_over_the_empty_map_yields_nothing(rt: HostRuntime) {
     let bytes = no_items();
-    let pairs = pairs_of::<i8, i8>(&bytes).ok();
-    let keys = keys_of::<i8, i8>(&bytes).ok();
-    let values = values_of::<i8, i8>(&bytes).ok();
+    let pairs = pairs_of(&bytes).ok();
+    let keys = keys_of(&bytes).ok();
+    let values = values_of(&bytes).ok();
     let left = (0, (0, Some(0)));
     expect_eq!(rt;
         (pairs, keys, values),

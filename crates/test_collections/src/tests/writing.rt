@@ -1,7 +1,7 @@
 //! Tests of the written bytes of maps and sets.
 
 use crate::tests::archives::{is_map_archive, map_archive};
-use crate::tests::query_results::{counts, number_of};
+use crate::tests::query_results::{counts, small};
 use rkyv_base::archive::Serialize;
 use rkyv_base::element::Represents;
 use rkyv_base::errors::WriteError;
@@ -201,11 +201,7 @@ fn archived_list(alloc: Global) -> Option<Vec<u8>> {
 
 // Returns the values of the keys 3, 7 and 2 in a map.
 fn three_values(bytes: &[u8]) -> [Option<Option<i8>>; 3] {
-    [
-        number_of::<i8, i8, FxHasher64, Narrow, i8>(bytes, &3).ok(),
-        number_of::<i8, i8, FxHasher64, Narrow, i8>(bytes, &7).ok(),
-        number_of::<i8, i8, FxHasher64, Narrow, i8>(bytes, &2).ok(),
-    ]
+    [small(bytes, 3), small(bytes, 7), small(bytes, 2)]
 }
 
 // Returns the same values in the archive of that list, and its counts.
