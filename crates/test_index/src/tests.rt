@@ -28,6 +28,7 @@ mod in_place;
 mod interning;
 mod lookups;
 mod mixed;
+mod opened;
 mod pieces;
 mod reading_back;
 mod recipes;

@@ -1,14 +1,13 @@
 //! Test of an archive with one byte changed, for each byte and each other value.
 
-use rkyv_base::access::access;
+use crate::tests::opened::small_map;
 use rkyv_base::errors::VerifyError;
-use rkyv_index::{ArchivedIndexMap, IndexMapOf};
 use test_support::archives::four_entries;
 use test_support::changes::{OutcomeCounts, outcomes_of_changes};
 
 // Returns whether a valid archive has each of the four keys at its own index.
 fn is_whole(bytes: &[u8]) -> Result<bool, VerifyError> {
-    let map = ArchivedIndexMap::of(access::<IndexMapOf<i8, i8>>(bytes)?);
+    let map = small_map(bytes)?;
     let first = map.get_index_of(&1i8) == Some(0);
     let second = map.get_index_of(&3i8) == Some(1);
     let third = map.get_index_of(&5i8) == Some(2);

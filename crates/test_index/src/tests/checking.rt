@@ -1,6 +1,7 @@
 //! Tests of valid and invalid archives of index maps.
 
 use crate::tests::archives::{no_pairs, no_wide_pairs, one_pair, wide_pair};
+use crate::tests::opened::small_map;
 use rkyv_base::access::{access, access_in};
 use rkyv_base::errors::VerifyError;
 use rkyv_base::width::Wide;
@@ -9,11 +10,9 @@ use rkyv_scan::hash::FxHasher64;
 use std::test::Fail;
 use test_support::archives::four_entries;
 
-type Small = IndexMapOf<i8, i8>;
-
 // Returns the index and the length in the error of an index out of range, or zeros.
 fn index_error(bytes: &[u8]) -> (usize, usize) {
-    match access::<Small>(bytes) {
+    match small_map(bytes) {
         Err(VerifyError::PlaceOutOfRange { place, len }) => (place, len),
         _ => (0, 0),
     }
@@ -34,7 +33,7 @@ fn rejects_indices_out_of_range(rt: HostRuntime) -> Result<(), Fail> {
 fn an_empty_bucket_may_hold_any_index(rt: HostRuntime) -> Result<(), Fail> {
     let mut four = four_entries();
     four[8] = 4;
-    let map = ArchivedIndexMap::of(access::<Small>(&four)?);
+    let map = small_map(&four)?;
     expect_eq!(rt; map.len(), 4);
     expect_eq!(rt; map.get_index_of(&5), Some(2));
     let mut four = four_entries();
@@ -48,7 +47,7 @@ fn an_empty_bucket_may_hold_any_index(rt: HostRuntime) -> Result<(), Fail> {
 fn entries_may_be_anywhere(rt: HostRuntime) -> Result<(), Fail> {
     let mut bytes = four_entries();
     bytes[72] = 0xec;
-    let map = ArchivedIndexMap::of(access::<Small>(&bytes)?);
+    let map = small_map(&bytes)?;
     let mut digits = 0i32;
     for (key, value) in map {
         let pair = i32::from(key.to_native()).wrapping_mul(10);
@@ -62,7 +61,7 @@ fn entries_may_be_anywhere(rt: HostRuntime) -> Result<(), Fail> {
 #[test]
 fn empty_maps_are_accepted(rt: HostRuntime) -> Result<(), Fail> {
     let bytes = no_pairs();
-    let map = ArchivedIndexMap::of(access::<Small>(&bytes)?);
+    let map = small_map(&bytes)?;
     assert!(rt; map.is_empty());
     assert!(rt; map.get(&5).is_none());
     assert!(rt; map.iter().next().is_none());
@@ -77,7 +76,7 @@ fn empty_maps_are_accepted(rt: HostRuntime) -> Result<(), Fail> {
 fn range_error(byte: u8) -> Option<(i128, u128)> {
     let mut bytes = no_pairs();
     bytes[12] = byte;
-    match access::<Small>(&bytes) {
+    match small_map(&bytes) {
         Err(VerifyError::OutOfRange { pos, size }) => Some((pos, size)),
         _ => None,
     }

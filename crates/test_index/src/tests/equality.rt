@@ -1,5 +1,6 @@
 //! `==` of index maps and index sets.
 
+use crate::tests::opened::key_set;
 use crate::tests::writing::{narrow, set_archive, wide};
 use rkyv_base::access::{access, access_in};
 use rkyv_base::errors::VerifyError;
@@ -12,7 +13,7 @@ use rkyv_index::map::laws::{
 };
 use rkyv_index::set::laws::{index_sets_are_compared, read_index_sets_are_compared};
 use rkyv_index::width::IndexWidth;
-use rkyv_index::{ArchivedIndexMap, ArchivedIndexSet, IndexMapOf, IndexSetOf, OrderedPairs};
+use rkyv_index::{ArchivedIndexMap, IndexMapOf, IndexSetOf, OrderedPairs};
 use rkyv_keys::equality::ElementEq;
 use rkyv_scan::hash::FxHasher64;
 use std::alloc::Global;
@@ -28,9 +29,7 @@ fn equal<'a, W: IndexWidth>(first: &'a [u8], second: &'a [u8]) -> Result<bool, V
 
 // Whether the index sets in two archives are `==`.
 fn same_keys<'a>(first: &'a [u8], second: &'a [u8]) -> Result<bool, VerifyError> {
-    let own = access::<IndexSetOf<i8>>(first)?;
-    let other = access::<IndexSetOf<i8>>(second)?;
-    Ok(ArchivedIndexSet::of(own) == ArchivedIndexSet::of(other))
+    Ok(key_set(first)? == key_set(second)?)
 }
 
 // Whether two lists of pairs are archived as equal index maps.

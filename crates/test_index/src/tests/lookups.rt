@@ -1,6 +1,7 @@
 //! Tests of lookups, walks, equality and printing of index maps.
 
 use crate::tests::archives::{map_in_a_map, no_pairs, one_key_twice, one_pair};
+use crate::tests::opened::{Small, small_map};
 use crate::tests::writing::narrow;
 use rkyv_base::access::access;
 use rkyv_base::element::Element;
@@ -22,8 +23,6 @@ use std::cell::Cell;
 use std::test::Fail;
 use test_support::archives::four_entries;
 
-type Small = IndexMapOf<i8, i8>;
-
 #[test]
 fn a_key_is_found_with_its_index(rt: HostRuntime) -> Result<(), Fail> {
     index_maps_are_laid_out::<Narrow, FxHasher64, i8, i8, i8, i8>();
@@ -31,7 +30,7 @@ fn a_key_is_found_with_its_index(rt: HostRuntime) -> Result<(), Fail> {
     pairs_at_are_listed::<i8, i8, i8, i8, FxHasher64, Narrow>();
     walks_visit_in_order::<i8, i8, i8, i8, FxHasher64, Narrow>();
     let bytes = four_entries();
-    let map = ArchivedIndexMap::of(access::<Small>(&bytes)?);
+    let map = small_map(&bytes)?;
     let found = match map.get_full(&7) {
         Some((index, key, value)) => (index, key.to_native(), value.to_native()),
         None => (0, 0, 0),
@@ -66,7 +65,7 @@ fn a_decoded_header_leads_to_the_same_pair(rt: HostRuntime) {
 #[test]
 fn every_form_finds_the_same(rt: HostRuntime) -> Result<(), Fail> {
     let bytes = four_entries();
-    let map = ArchivedIndexMap::of(access::<Small>(&bytes)?);
+    let map = small_map(&bytes)?;
     let value = match map.get(&5) {
         Some(value) => value.to_native(),
         None => 0,
@@ -85,7 +84,7 @@ fn every_form_finds_the_same(rt: HostRuntime) -> Result<(), Fail> {
 #[test]
 fn lookup_takes_a_comparison(rt: HostRuntime) -> Result<(), Fail> {
     let bytes = four_entries();
-    let map = ArchivedIndexMap::of(access::<Small>(&bytes)?);
+    let map = small_map(&bytes)?;
     let found = match map.get_full_with(&5i8, |_: &i8, _: View<'_, i8>| true) {
         Some((index, _, value)) => (index, value.to_native()),
         None => (0, 0),
@@ -106,7 +105,7 @@ fn lookup_takes_a_comparison(rt: HostRuntime) -> Result<(), Fail> {
 
 // Returns the number of buckets of a map.
 fn capacity(bytes: &[u8]) -> Option<usize> {
-    Some(ArchivedIndexMap::of(access::<Small>(bytes).ok()?).capacity())
+    Some(small_map(bytes).ok()?.capacity())
 }
 
 #[test]
@@ -118,7 +117,7 @@ fn the_buckets_of_a_map(rt: HostRuntime) {
 fn a_walk_keeps_the_order(rt: HostRuntime) -> Result<(), Fail> {
     walks_by_for_are_iterations::<i8, i8, FxHasher64, Narrow>();
     let bytes = four_entries();
-    let map = ArchivedIndexMap::of(access::<Small>(&bytes)?);
+    let map = small_map(&bytes)?;
     let mut keys = 0i32;
     for key in map.keys() {
         keys = keys
@@ -165,7 +164,7 @@ fn next_value(rest: &mut Values<'_, i8, i8>) -> Option<i8> {
 // Walks over the pairs of a map. Returns the results of the first six steps. Then come `len` and
 // `size_hint` before the steps, after two of them and after all.
 fn pairs_of(bytes: &[u8]) -> Result<([Option<(i8, i8)>; 6], Lengths), VerifyError> {
-    let mut rest = ArchivedIndexMap::of(access::<Small>(bytes)?).iter();
+    let mut rest = small_map(bytes)?.iter();
     let before = (rest.len(), rest.size_hint());
     let (first, second) = (next_pair(&mut rest), next_pair(&mut rest));
     let after_two = (rest.len(), rest.size_hint());
@@ -182,7 +181,7 @@ fn pairs_of(bytes: &[u8]) -> Result<([Option<(i8, i8)>; 6], Lengths), VerifyErro
 
 // Does the same with keys.
 fn keys_of(bytes: &[u8]) -> Result<([Option<i8>; 6], Lengths), VerifyError> {
-    let mut rest = ArchivedIndexMap::of(access::<Small>(bytes)?).keys();
+    let mut rest = small_map(bytes)?.keys();
     let before = (rest.len(), rest.size_hint());
     let (first, second) = (next_key(&mut rest), next_key(&mut rest));
     let after_two = (rest.len(), rest.size_hint());
@@ -199,7 +198,7 @@ fn keys_of(bytes: &[u8]) -> Result<([Option<i8>; 6], Lengths), VerifyError> {
 
 // Does the same with values.
 fn values_of(bytes: &[u8]) -> Result<([Option<i8>; 6], Lengths), VerifyError> {
-    let mut rest = ArchivedIndexMap::of(access::<Small>(bytes)?).values();
+    let mut rest = small_map(bytes)?.values();
     let before = (rest.len(), rest.size_hint());
     let (first, second) = (next_value(&mut rest), next_value(&mut rest));
     let after_two = (rest.len(), rest.size_hint());
@@ -236,7 +235,7 @@ fn lengths_of_walks_are_exact(rt: HostRuntime) {
 #[test]
 fn of_equal_keys_the_first_is_found(rt: HostRuntime) -> Result<(), Fail> {
     let bytes = one_key_twice();
-    let map = ArchivedIndexMap::of(access::<Small>(&bytes)?);
+    let map = small_map(&bytes)?;
     let found = match map.get_full(&1) {
         Some((index, _, value)) => (index, value.to_native()),
         None => (9, 0),
@@ -255,7 +254,7 @@ fn of_equal_keys_the_first_is_found(rt: HostRuntime) -> Result<(), Fail> {
 #[test]
 fn a_comparison_that_accepts_none(rt: HostRuntime) -> Result<(), Fail> {
     let bytes = one_key_twice();
-    let map = ArchivedIndexMap::of(access::<Small>(&bytes)?);
+    let map = small_map(&bytes)?;
     let calls = Cell::new(0usize);
     let found = map.get_with(&1i8, |_: &i8, _: View<'_, i8>| {
         calls.set(calls.get().wrapping_add(1));
@@ -269,9 +268,9 @@ fn a_comparison_that_accepts_none(rt: HostRuntime) -> Result<(), Fail> {
 #[test]
 fn strides_are_counted(rt: HostRuntime) -> Result<(), Fail> {
     let four = four_entries();
-    let map = ArchivedIndexMap::of(access::<Small>(&four)?);
+    let map = small_map(&four)?;
     let none = no_pairs();
-    let empty = ArchivedIndexMap::of(access::<Small>(&none)?);
+    let empty = small_map(&none)?;
     let mut strides = Strides::new();
     let found = map.get_index_of_counted(&5i8, |_: &i8, _: View<'_, i8>| true, &mut strides);
     let one = strides.count();
@@ -290,7 +289,7 @@ fn strides_are_counted(rt: HostRuntime) -> Result<(), Fail> {
 #[test]
 fn strides_of_seventeen_keys_under_one_hash(rt: HostRuntime) -> Result<(), Fail> {
     let bytes = narrow(rt.alloc(), &[(1, 2); 17])?;
-    let map = ArchivedIndexMap::of(access::<Small>(bytes.as_slice())?);
+    let map = small_map(bytes.as_slice())?;
     let last = match map.get_index(16) {
         Some((key, _)) => key.pos(),
         None => 0,
@@ -311,7 +310,7 @@ fn strides_of_seventeen_keys_under_one_hash(rt: HostRuntime) -> Result<(), Fail>
 fn an_index_in_two_buckets(rt: HostRuntime) -> Result<(), Fail> {
     let mut bytes = one_key_twice();
     bytes[4] = 0;
-    let map = ArchivedIndexMap::of(access::<Small>(&bytes)?);
+    let map = small_map(&bytes)?;
     let found = match map.get_full(&1) {
         Some((index, key, value)) => (index, key.to_native(), value.to_native()),
         None => (9, 0, 0),
@@ -324,7 +323,7 @@ fn an_index_in_two_buckets(rt: HostRuntime) -> Result<(), Fail> {
 fn a_key_that_was_changed_is_misplaced(rt: HostRuntime) -> Result<(), Fail> {
     let mut bytes = one_pair();
     bytes[39] = 5;
-    let map = ArchivedIndexMap::of(access::<Small>(&bytes)?);
+    let map = small_map(&bytes)?;
     let pair = match map.get_index(0) {
         Some((key, value)) => (key.to_native(), value.to_native()),
         None => (0, 0),
@@ -348,11 +347,8 @@ fn equality_is_that_of_the_lists(rt: HostRuntime) -> Result<(), Fail> {
 
 // Returns whether the bytes are valid and their map prints as `text`.
 fn prints(alloc: Global, bytes: &[u8], text: &str) -> bool {
-    match access::<Small>(bytes) {
-        Ok(root) => {
-            let map = ArchivedIndexMap::of(root);
-            matches!(format!(in alloc; "{map:?}"), Ok(shown) if shown.as_str() == text)
-        }
+    match small_map(bytes) {
+        Ok(map) => matches!(format!(in alloc; "{map:?}"), Ok(shown) if shown.as_str() == text),
         Err(_) => false,
     }
 }
@@ -407,8 +403,7 @@ fn an_index_set_in_an_index_map(rt: HostRuntime) -> Result<(), Fail> {
 
 // Returns the length of a copy of a map.
 fn copied_len(bytes: &[u8]) -> Option<usize> {
-    let map = ArchivedIndexMap::of(access::<Small>(bytes).ok()?);
-    let copy = map.clone().ok()?;
+    let copy = small_map(bytes).ok()?.clone().ok()?;
     Some(copy.len())
 }
 

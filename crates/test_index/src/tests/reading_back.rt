@@ -1,16 +1,15 @@
 //! Tests of index maps and index sets that are read back into lists.
 
 use crate::tests::archives::{no_pairs, one_key_twice, wide_pair};
+use crate::tests::opened::key_set;
 use crate::tests::writing::set_archive;
-use rkyv_base::access::{access, access_in};
+use rkyv_base::access::access_in;
 use rkyv_base::width::{Narrow, Wide};
 use rkyv_index::map::laws::pairs_read_back_are_listed;
 use rkyv_index::round_trip::{items_round_trip, pairs_round_trip};
 use rkyv_index::set::laws::items_read_back_are_listed;
 use rkyv_index::width::IndexWidth;
-use rkyv_index::{
-    ArchivedIndexMap, ArchivedIndexSet, IndexMapOf, IndexSetOf, OrderedItems, OrderedPairs,
-};
+use rkyv_index::{ArchivedIndexMap, IndexMapOf, OrderedItems, OrderedPairs};
 use rkyv_scan::hash::FxHasher64;
 use std::alloc::Global;
 use std::test::Fail;
@@ -48,10 +47,7 @@ fn pairs_are_read_back_in_their_order(rt: HostRuntime) {
 
 // Returns the items in the archive of an index set, if it is valid and no allocation fails.
 fn items(alloc: Global, bytes: &[u8]) -> Option<Vec<i8>> {
-    match access::<IndexSetOf<i8>>(bytes) {
-        Ok(root) => ArchivedIndexSet::of(root).deserialize_items(alloc).ok(),
-        Err(_) => None,
-    }
+    key_set(bytes).ok()?.deserialize_items(alloc).ok()
 }
 
 // Returns whether these are exactly the items in the archive.

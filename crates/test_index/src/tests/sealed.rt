@@ -5,6 +5,7 @@ ghost use Rattle.rkyv_table.specs.{len_at};
 ghost use Rattle.rkyv_index.specs.{index_spec};
 
 use crate::tests::archives::{map_in_a_map, one_pair};
+use crate::tests::opened::{small_map, small_seal};
 use rkyv_base::access::{access, access_in, access_mut};
 use rkyv_base::element::{Element, Represents};
 use rkyv_base::errors::VerifyError;
@@ -29,7 +30,7 @@ type Small = IndexMapOf<i8, i8>;
 
 // Returns the value of a key, by a plain lookup.
 fn value_of(bytes: &[u8], key: i8) -> Result<Option<i8>, VerifyError> {
-    match ArchivedIndexMap::of(access::<Small>(bytes)?).get(&key) {
+    match small_map(bytes)?.get(&key) {
         Some(value) => Ok(Some(value.to_native())),
         None => Ok(None),
     }
@@ -55,7 +56,7 @@ fn replace_by(
     value: i8,
     accepts: bool,
 ) -> Result<Option<(usize, i8, i8)>, VerifyError> {
-    let whole = access_mut::<Small>(bytes)?;
+    let whole = small_seal(bytes)?;
     match ArchivedIndexMap::get_full_seal_with(whole, &key, |_: &i8, _: View<'_, i8>| accepts) {
         Some((index, stored, mut seal)) => {
             let before = (index, stored.to_native(), seal.to_native());
@@ -72,7 +73,7 @@ fn replace_beside_key(
     key: i8,
     value: i8,
 ) -> Result<Option<(i8, i8)>, VerifyError> {
-    let whole = access_mut::<Small>(bytes)?;
+    let whole = small_seal(bytes)?;
     match ArchivedIndexMap::get_key_value_seal(whole, &key) {
         Some((stored, mut seal)) => {
             let before = (stored.to_native(), seal.to_native());
@@ -90,7 +91,7 @@ fn replace_beside_key_by(
     value: i8,
     accepts: bool,
 ) -> Result<Option<(i8, i8)>, VerifyError> {
-    let whole = access_mut::<Small>(bytes)?;
+    let whole = small_seal(bytes)?;
     match ArchivedIndexMap::get_key_value_seal_with(
         whole,
         &key,
@@ -125,7 +126,7 @@ fn replace_value_by(
     value: i8,
     accepts: bool,
 ) -> Result<Option<i8>, VerifyError> {
-    let whole = access_mut::<Small>(bytes)?;
+    let whole = small_seal(bytes)?;
     match ArchivedIndexMap::get_seal_with(whole, &key, |_: &i8, _: View<'_, i8>| accepts) {
         Some(mut seal) => {
             let before = seal.to_native();

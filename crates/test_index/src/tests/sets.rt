@@ -2,6 +2,7 @@
 
 use crate::tests::archives::{no_pairs, one_key_parts};
 use crate::tests::lookups::{Lengths, next_key};
+use crate::tests::opened::key_set;
 use crate::tests::writing::set_archive;
 use rkyv_base::access::access;
 use rkyv_base::errors::{VerifyError, WriteError};
@@ -32,7 +33,7 @@ fn one_item_is_written(rt: HostRuntime) -> Result<(), Fail> {
     let alloc = rt.alloc();
     let bytes = set_archive(alloc, &[1])?;
     expect_eq!(rt; bytes.as_slice(), one_index_key().as_slice());
-    let set = ArchivedIndexSet::of(access::<Keys>(bytes.as_slice())?);
+    let set = key_set(bytes.as_slice())?;
     let found = match set.get_full(&1) {
         Some((index, key)) => (index, key.to_native()),
         None => (9, 0),
@@ -119,7 +120,7 @@ fn keys_are_found(rt: HostRuntime) -> Result<(), Fail> {
 
 // Returns the number of misplaced keys of a set, and whether it has the key 5.
 fn misplaced_and_five(bytes: &[u8]) -> Result<(usize, bool), VerifyError> {
-    let set = ArchivedIndexSet::of(access::<Keys>(bytes)?);
+    let set = key_set(bytes)?;
     Ok((set.misplaced(), set.contains(&5)))
 }
 
@@ -139,7 +140,7 @@ fn misplaced_keys_are_counted(rt: HostRuntime) -> Result<(), Fail> {
 // Walks over a set. Returns the results of the first five steps. Then come `len` and `size_hint`
 // before the steps, after one of them and after all.
 fn keys_of(bytes: &[u8]) -> Result<([Option<i8>; 5], Lengths), VerifyError> {
-    let mut rest = ArchivedIndexSet::of(access::<Keys>(bytes)?).iter();
+    let mut rest = key_set(bytes)?.iter();
     let before = (rest.len(), rest.size_hint());
     let first = next_key(&mut rest);
     let after_one = (rest.len(), rest.size_hint());
@@ -164,8 +165,8 @@ fn a_walk_keeps_the_order(rt: HostRuntime) -> Result<(), Fail> {
 
 // Returns whether the sets in two archives are equal by `eq_index`.
 fn are_equal(first: &[u8], second: &[u8]) -> Result<bool, VerifyError> {
-    let set = ArchivedIndexSet::of(access::<Keys>(first)?);
-    let other = ArchivedIndexSet::of(access::<Keys>(second)?);
+    let set = key_set(first)?;
+    let other = key_set(second)?;
     Ok(set.eq_index(other))
 }
 
@@ -183,11 +184,8 @@ fn equality_is_that_of_the_lists(rt: HostRuntime) -> Result<(), Fail> {
 
 // Returns whether the bytes are valid and their set prints as `text`.
 fn prints(alloc: Global, bytes: &[u8], text: &str) -> bool {
-    match access::<Keys>(bytes) {
-        Ok(root) => {
-            let set = ArchivedIndexSet::of(root);
-            matches!(format!(in alloc; "{set:?}"), Ok(shown) if shown.as_str() == text)
-        }
+    match key_set(bytes) {
+        Ok(set) => matches!(format!(in alloc; "{set:?}"), Ok(shown) if shown.as_str() == text),
         Err(_) => false,
     }
 }
@@ -206,7 +204,7 @@ fn sets_are_printed(rt: HostRuntime) -> Result<(), Fail> {
 
 // Returns the number of buckets of a set.
 fn capacity(bytes: &[u8]) -> Option<usize> {
-    Some(ArchivedIndexSet::of(access::<Keys>(bytes).ok()?).capacity())
+    Some(key_set(bytes).ok()?.capacity())
 }
 
 #[test]
@@ -216,8 +214,7 @@ fn the_buckets_of_a_set(rt: HostRuntime) {
 
 // Returns the length of a copy of a set.
 fn copied_len(bytes: &[u8]) -> Option<usize> {
-    let set = ArchivedIndexSet::of(access::<Keys>(bytes).ok()?);
-    let copy = set.clone().ok()?;
+    let copy = key_set(bytes).ok()?.clone().ok()?;
     Some(copy.len())
 }
 
