@@ -2,11 +2,11 @@
 //!
 //! These calls don't validate an archive, so the three bytes are none.
 
+use crate::tests::support::{Numbers, numbers_of, with_byte};
 use ffi_calls::containers::{
     Codes, Opened, container_width, explain_container, open_container, update_container,
     write_header,
 };
-use ffi_calls::explanation::Explanation;
 
 /// The container of the bytes 1, 2, 3 as a narrow map of texts to numbers of 64 bits.
 ///
@@ -79,14 +79,8 @@ fn opened(bytes: &[u8], codes: Codes) -> (u32, usize) {
 }
 
 // Returns the status, the position and the two numbers of the first error of a container.
-fn explained(bytes: &[u8], codes: Codes) -> (u32, i64, u64, u64) {
-    let Explanation {
-        status,
-        position,
-        first,
-        second,
-    } = explain_container(bytes, codes);
-    (status, position, first, second)
+fn explained(bytes: &[u8], codes: Codes) -> Numbers {
+    numbers_of(explain_container(bytes, codes))
 }
 
 // Returns the status of writing a header, and whether the header is then `expected`.
@@ -106,21 +100,13 @@ fn writes_codes(codes: Codes, expected: &[u8]) -> (u32, bool) {
 
 // Returns the status of opening the container with another byte at `pos`.
 fn status_with(pos: usize, byte: u8) -> u32 {
-    let mut bytes = TEXTS;
-    match bytes.get_mut(pos) {
-        Some(old) => *old = byte,
-        None => {}
-    }
+    let bytes = with_byte(TEXTS, pos, byte);
     opened(&bytes, map(4, 0x18, 4)).0
 }
 
 // Returns the status of updating the container with another byte at `pos`, and the byte at 24.
 fn updated_with(pos: usize, byte: u8) -> (u32, u8) {
-    let mut bytes = TEXTS;
-    match bytes.get_mut(pos) {
-        Some(old) => *old = byte,
-        None => {}
-    }
+    let mut bytes = with_byte(TEXTS, pos, byte);
     let status = update_container(&mut bytes);
     (status, bytes[24])
 }

@@ -5,25 +5,12 @@ use crate::tests::archives::{
     one_wide_great_number, one_wide_long_number,
 };
 use crate::tests::containers::{TEXTS, map};
+use crate::tests::support::{Numbers, numbers_of, with_byte};
 use ffi_calls::containers::explain_container;
-use ffi_calls::explanation::Explanation;
 use ffi_calls::form::Form;
 use ffi_calls::numbers::explain_numbers;
 use ffi_calls::texts::explain_texts;
 use test_support::archives::{no_items, one_number, one_symbol, one_wide_number};
-
-type Numbers = (u32, i64, u64, u64);
-
-// Returns the status, the position and the two numbers.
-fn numbers_of(explanation: Explanation) -> Numbers {
-    let Explanation {
-        status,
-        position,
-        first,
-        second,
-    } = explanation;
-    (status, position, first, second)
-}
 
 // Explains the bytes as a map of numbers.
 fn of_numbers(bytes: &[u8], form: Form) -> Numbers {
@@ -42,31 +29,19 @@ fn of_texts(bytes: &[u8], form: Form) -> Numbers {
 
 // Explains the map of 1 to 2 with another byte at `pos`.
 fn number_with(pos: usize, byte: u8) -> Numbers {
-    let mut bytes = one_number();
-    match bytes.get_mut(pos) {
-        Some(old) => *old = byte,
-        None => {}
-    }
+    let bytes = with_byte(one_number(), pos, byte);
     of_numbers(&bytes, SHORT)
 }
 
 // Explains the map of `main` to 4096 with another byte at `pos`.
 fn symbol_with(pos: usize, byte: u8) -> Numbers {
-    let mut bytes = one_symbol();
-    match bytes.get_mut(pos) {
-        Some(old) => *old = byte,
-        None => {}
-    }
+    let bytes = with_byte(one_symbol(), pos, byte);
     of_texts(&bytes, LONG)
 }
 
 // Explains the container of three bytes with another byte at `pos`.
 fn container_with(pos: usize, byte: u8) -> Numbers {
-    let mut bytes = TEXTS;
-    match bytes.get_mut(pos) {
-        Some(old) => *old = byte,
-        None => {}
-    }
+    let bytes = with_byte(TEXTS, pos, byte);
     numbers_of(explain_container(&bytes, map(4, 0x18, 4)))
 }
 

@@ -6,6 +6,7 @@ use crate::tests::index_archives::{
     one_number, one_number_twice, one_symbol, one_wide_great_number, one_wide_long_number,
     one_wide_number, two_texts,
 };
+use crate::tests::support::GREAT;
 use ffi_calls::building::Built;
 use ffi_calls::form::Form;
 use ffi_calls::index_items::{build_index_numbers, build_index_texts};
@@ -13,9 +14,6 @@ use ffi_calls::pairs::Pair;
 use ffi_calls::reading::NumberKey;
 use ffi_calls::status::DONE;
 use std::alloc::Global;
-
-// The number whose low 32 bits are 1, and whose high 32 bits are 1.
-const GREAT: u64 = 0x1_0000_0001;
 
 // Returns the status of a write of the items, and whether `built` has `bytes` if it is 0.
 // After an error the flag is whether `built` is unchanged.

@@ -8,6 +8,7 @@ use crate::tests::index_archives::{
     NO_PAIRS, NO_WIDE_PAIRS, long_number_twice, one_long_number, one_number, one_number_twice,
     one_wide_great_number, one_wide_long_number, one_wide_number,
 };
+use crate::tests::support::GREAT;
 use ffi_calls::form::Form;
 use ffi_calls::index_numbers::{
     decode_index_numbers, get_index_number, index_numbers_from, open_index_numbers,
@@ -15,9 +16,6 @@ use ffi_calls::index_numbers::{
 use ffi_calls::pairs::{Indexed, Pair};
 use ffi_calls::reading::NumberKey;
 use ffi_calls::status::DONE;
-
-// The number whose low 32 bits are 1, and whose high 32 bits are 1.
-const GREAT: u64 = 0x1_0000_0001;
 
 /// Returns whether the archive is valid in the form.
 pub(crate) fn is_map<K: NumberKey>(archive: &[u8], form: Form) -> bool

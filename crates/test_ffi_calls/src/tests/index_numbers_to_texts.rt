@@ -8,6 +8,7 @@ use crate::tests::index_text_archives::{
     great_to_wide_text, long_to_tea, long_to_two_texts, one_to_tea, one_to_two_texts,
     one_to_wide_text,
 };
+use crate::tests::support::GREAT;
 use ffi_calls::index_numbers_to_texts::{
     decode_index_numbers_to_texts, get_index_text_of_number, index_number_texts_from,
     open_index_numbers_to_texts,
@@ -15,9 +16,6 @@ use ffi_calls::index_numbers_to_texts::{
 use ffi_calls::pairs::{Indexed, Pair};
 use ffi_calls::reading::NumberKey;
 use ffi_calls::status::DONE;
-
-// The number whose low 32 bits are 1, and whose high 32 bits are 1.
-const GREAT: u64 = 0x1_0000_0001;
 
 // Returns whether the archive is valid.
 fn is_map<K: NumberKey>(archive: &[u8], wide: bool) -> bool

@@ -6,15 +6,13 @@ use crate::tests::index_archives::{
     one_number_twice, one_symbol, one_wide_great_number, one_wide_long_number, one_wide_number,
     two_texts,
 };
+use crate::tests::support::GREAT;
 use crate::tests::{index_numbers, index_texts};
 use ffi_calls::form::Form;
 use ffi_calls::index_numbers::{decode_index_numbers, get_index_number, set_index_number};
 use ffi_calls::index_texts::{decode_index_texts, get_index_text, set_index_text};
 use ffi_calls::pairs::Indexed;
 use ffi_calls::reading::NumberKey;
-
-// The number whose low 32 bits are 1, and whose high 32 bits are 1.
-const GREAT: u64 = 0x1_0000_0001;
 
 // Returns the status of an overwrite, if the archive is valid before and after it.
 fn number<K: NumberKey>(archive: &mut [u8], form: Form, key: K, value: u64) -> Option<u32> {

@@ -5,15 +5,13 @@ use crate::tests::index_text_archives::{
     empty_to_text, empty_to_wide_text, great_to_wide_text, long_to_tea, long_to_two_texts,
     one_to_tea, one_to_two_texts, one_to_wide_text, two_texts,
 };
+use crate::tests::support::GREAT;
 use ffi_calls::building::Built;
 use ffi_calls::index_text_items::{build_index_numbers_to_texts, build_index_texts_to_texts};
 use ffi_calls::pairs::Pair;
 use ffi_calls::reading::NumberKey;
 use ffi_calls::status::DONE;
 use std::alloc::Global;
-
-// The number whose low 32 bits are 1, and whose high 32 bits are 1.
-const GREAT: u64 = 0x1_0000_0001;
 
 // Returns the status of a write of the items, and whether `built` has `bytes` if it is 0.
 // After an error the flag is whether `built` is unchanged.

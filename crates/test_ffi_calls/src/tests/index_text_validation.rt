@@ -5,24 +5,11 @@ use crate::tests::index_text_archives::{
     empty_to_text, empty_to_wide_text, great_to_wide_text, long_to_tea, long_to_two_texts,
     one_to_tea, one_to_two_texts, one_to_wide_text, two_texts,
 };
-use ffi_calls::explanation::Explanation;
+use crate::tests::support::{Numbers, numbers_of, with_byte};
 use ffi_calls::index_numbers_to_texts::{
     explain_index_numbers_to_texts, open_index_numbers_to_texts,
 };
 use ffi_calls::index_texts_to_texts::{explain_index_texts_to_texts, open_index_texts_to_texts};
-
-type Numbers = (u32, i64, u64, u64);
-
-// Returns the status, the position and the two numbers.
-fn numbers_of(explanation: Explanation) -> Numbers {
-    let Explanation {
-        status,
-        position,
-        first,
-        second,
-    } = explanation;
-    (status, position, first, second)
-}
 
 // Returns the statuses of the bytes as an index map of numbers of 32 and of 64 bits, and of texts.
 fn opened(bytes: &[u8], wide: bool) -> [u32; 3] {
@@ -36,11 +23,7 @@ fn opened(bytes: &[u8], wide: bool) -> [u32; 3] {
 // Returns the status of the index map of numbers to texts with another byte at `pos`, and its
 // explanation.
 fn number_with(pos: usize, byte: u8) -> (u32, Numbers) {
-    let mut bytes = one_to_two_texts();
-    match bytes.get_mut(pos) {
-        Some(old) => *old = byte,
-        None => {}
-    }
+    let bytes = with_byte(one_to_two_texts(), pos, byte);
     let explanation = explain_index_numbers_to_texts::<u32>(&bytes, false);
     (
         open_index_numbers_to_texts::<u32>(&bytes, false),
@@ -50,11 +33,7 @@ fn number_with(pos: usize, byte: u8) -> (u32, Numbers) {
 
 // Does the same with keys of 64 bits.
 fn long_with(pos: usize, byte: u8) -> (u32, Numbers) {
-    let mut bytes = long_to_two_texts();
-    match bytes.get_mut(pos) {
-        Some(old) => *old = byte,
-        None => {}
-    }
+    let bytes = with_byte(long_to_two_texts(), pos, byte);
     let explanation = explain_index_numbers_to_texts::<u64>(&bytes, false);
     (
         open_index_numbers_to_texts::<u64>(&bytes, false),
@@ -64,11 +43,7 @@ fn long_with(pos: usize, byte: u8) -> (u32, Numbers) {
 
 // Does the same with keys that are texts.
 fn text_with(pos: usize, byte: u8) -> (u32, Numbers) {
-    let mut bytes = two_texts();
-    match bytes.get_mut(pos) {
-        Some(old) => *old = byte,
-        None => {}
-    }
+    let bytes = with_byte(two_texts(), pos, byte);
     let explanation = explain_index_texts_to_texts(&bytes, false);
     (
         open_index_texts_to_texts(&bytes, false),
@@ -79,17 +54,9 @@ fn text_with(pos: usize, byte: u8) -> (u32, Numbers) {
 // Returns the explanations of the wide index maps of 4,294,967,297 and of the empty text, with
 // another byte at `pos`.
 fn wide_with(pos: usize, byte: u8) -> (Numbers, Numbers) {
-    let mut bytes = great_to_wide_text();
-    match bytes.get_mut(pos) {
-        Some(old) => *old = byte,
-        None => {}
-    }
+    let bytes = with_byte(great_to_wide_text(), pos, byte);
     let number = numbers_of(explain_index_numbers_to_texts::<u64>(&bytes, true));
-    let mut bytes = empty_to_wide_text();
-    match bytes.get_mut(pos) {
-        Some(old) => *old = byte,
-        None => {}
-    }
+    let bytes = with_byte(empty_to_wide_text(), pos, byte);
     let text = numbers_of(explain_index_texts_to_texts(&bytes, true));
     (number, text)
 }

@@ -6,21 +6,10 @@ use crate::tests::index_archives::{
     one_number, one_symbol, one_wide_great_number, one_wide_long_number, one_wide_number,
     two_texts,
 };
-use ffi_calls::explanation::Explanation;
+use crate::tests::support::{Numbers, numbers_of, with_byte};
 use ffi_calls::form::Form;
 use ffi_calls::index_numbers::{explain_index_numbers, open_index_numbers};
 use ffi_calls::index_texts::{explain_index_texts, open_index_texts};
-
-// Returns the status, the position and the two numbers.
-fn numbers_of(explanation: Explanation) -> (u32, i64, u64, u64) {
-    let Explanation {
-        status,
-        position,
-        first,
-        second,
-    } = explanation;
-    (status, position, first, second)
-}
 
 // Returns the statuses of the bytes as an index map of numbers and as one of texts.
 fn opened(bytes: &[u8], form: Form) -> (u32, u32) {
@@ -31,48 +20,36 @@ fn opened(bytes: &[u8], form: Form) -> (u32, u32) {
 }
 
 // Explains the bytes as an index map of numbers.
-fn of_numbers(bytes: &[u8], form: Form) -> (u32, i64, u64, u64) {
+fn of_numbers(bytes: &[u8], form: Form) -> Numbers {
     numbers_of(explain_index_numbers::<u32>(bytes, form))
 }
 
 // Explains the bytes as an index map of numbers of 64 bits.
-fn of_long_numbers(bytes: &[u8], form: Form) -> (u32, i64, u64, u64) {
+fn of_long_numbers(bytes: &[u8], form: Form) -> Numbers {
     numbers_of(explain_index_numbers::<u64>(bytes, form))
 }
 
 // Explains the bytes as an index map of texts.
-fn of_texts(bytes: &[u8], form: Form) -> (u32, i64, u64, u64) {
+fn of_texts(bytes: &[u8], form: Form) -> Numbers {
     numbers_of(explain_index_texts(bytes, form))
 }
 
 // Returns the error of the index map of 1 to 2 with another byte at `pos`.
-fn number_with(pos: usize, byte: u8) -> (u32, i64, u64, u64) {
-    let mut bytes = one_number();
-    match bytes.get_mut(pos) {
-        Some(old) => *old = byte,
-        None => {}
-    }
+fn number_with(pos: usize, byte: u8) -> Numbers {
+    let bytes = with_byte(one_number(), pos, byte);
     of_numbers(&bytes, SHORT)
 }
 
 // Returns the error of the wide index map of 1 to 2 with a key of 64 bits, with another byte at
 // `pos`.
-fn long_with(pos: usize, byte: u8) -> (u32, i64, u64, u64) {
-    let mut bytes = one_wide_long_number();
-    match bytes.get_mut(pos) {
-        Some(old) => *old = byte,
-        None => {}
-    }
+fn long_with(pos: usize, byte: u8) -> Numbers {
+    let bytes = with_byte(one_wide_long_number(), pos, byte);
     of_long_numbers(&bytes, WIDE)
 }
 
 // Returns the error of the index map of two texts with another byte at `pos`.
-fn text_with(pos: usize, byte: u8) -> (u32, i64, u64, u64) {
-    let mut bytes = two_texts();
-    match bytes.get_mut(pos) {
-        Some(old) => *old = byte,
-        None => {}
-    }
+fn text_with(pos: usize, byte: u8) -> Numbers {
+    let bytes = with_byte(two_texts(), pos, byte);
     of_texts(&bytes, SHORT)
 }
 

@@ -7,12 +7,10 @@ use crate::tests::archives::{
     one_wide_long_number, two_long_numbers,
 };
 use crate::tests::numbers::{lookup, numbers_of, overwrite, overwrite_and_get, walk};
+use crate::tests::support::GREAT;
 use ffi_calls::form::Form;
 use ffi_calls::numbers::{explain_numbers, open_numbers};
 use ffi_calls::pairs::{Pair, Step};
-
-// The number whose low 32 bits are 1, and whose high 32 bits are 1.
-const GREAT: u64 = 0x1_0000_0001;
 
 // A step that no call stores.
 const NINE: Step<Pair<u64, u64>> = Step {

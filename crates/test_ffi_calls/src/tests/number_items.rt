@@ -4,6 +4,7 @@ use crate::tests::archives::{
     LONG, SHORT, WIDE, WIDE_LONG, one_great_number, one_long_number, one_number_twice,
     one_wide_great_number, one_wide_long_number, two_long_numbers,
 };
+use crate::tests::support::GREAT;
 use ffi_calls::building::Built;
 use ffi_calls::form::Form;
 use ffi_calls::number_items::build_numbers;
@@ -12,9 +13,6 @@ use ffi_calls::reading::NumberKey;
 use ffi_calls::status::DONE;
 use std::alloc::Global;
 use test_support::archives::{no_items, one_number, one_wide_number};
-
-// The number whose low 32 bits are 1, and whose high 32 bits are 1.
-const GREAT: u64 = 0x1_0000_0001;
 
 // Returns the status of a write of the items, and whether `built` has `bytes` if it is 0.
 // After an error the flag is whether `built` is unchanged.

@@ -4,8 +4,8 @@ ghost use Rattle.std.specs.Prelude.{IsTrue};
 ghost use Rattle.ffi_calls.specs.{IsNumberSet};
 
 use crate::tests::archives::{HEADER, HEADER_OF_TWO, WIDE_HEADER};
+use crate::tests::support::{GREAT, Numbers, numbers_of, with_byte};
 use ffi_calls::building::Built;
-use ffi_calls::explanation::Explanation;
 use ffi_calls::number_sets::{
     build_number_set, contains_number, decode_number_set, explain_number_set, next_number_members,
     open_number_set,
@@ -15,9 +15,6 @@ use ffi_calls::reading::NumberKey;
 use ffi_calls::status::DONE;
 use std::alloc::Global;
 use test_support::archives::{archive, no_items};
-
-// The number whose low 32 bits are 1, and whose high 32 bits are 1.
-const GREAT: u64 = 0x1_0000_0001;
 
 // The buckets of the set of 1, with 64 bits, and the first control bytes.
 const LONG_BUCKETS: [u8; 20] = [
@@ -139,34 +136,15 @@ fn several_long(archive: &[u8], wide: bool, from: u64) -> Option<(usize, u64, u6
     Some((count, members[0].pair.key, members[1].pair.key))
 }
 
-// Returns the numbers of an explanation.
-fn numbers_of(explanation: Explanation) -> (u32, i64, u64, u64) {
-    let Explanation {
-        status,
-        position,
-        first,
-        second,
-    } = explanation;
-    (status, position, first, second)
-}
-
 // Explains the set of 1 with another byte at `pos`.
-fn one_with(pos: usize, byte: u8) -> (u32, i64, u64, u64) {
-    let mut bytes = one();
-    match bytes.get_mut(pos) {
-        Some(old) => *old = byte,
-        None => {}
-    }
+fn one_with(pos: usize, byte: u8) -> Numbers {
+    let bytes = with_byte(one(), pos, byte);
     numbers_of(explain_number_set::<u32>(&bytes, false))
 }
 
 // Explains the wide set of 1, with 64 bits, with another byte at `pos`.
-fn long_with(pos: usize, byte: u8) -> (u32, i64, u64, u64) {
-    let mut bytes = wide_long_one();
-    match bytes.get_mut(pos) {
-        Some(old) => *old = byte,
-        None => {}
-    }
+fn long_with(pos: usize, byte: u8) -> Numbers {
+    let bytes = with_byte(wide_long_one(), pos, byte);
     numbers_of(explain_number_set::<u64>(&bytes, true))
 }
 

@@ -3,11 +3,11 @@
 ghost use Rattle.std.specs.Prelude.{IsTrue};
 ghost use Rattle.ffi_calls.specs.{IsNumberTextArchive};
 
+use crate::tests::support::{GREAT, Numbers, numbers_of, with_byte};
 use crate::tests::text_archives::{
     great_to_wide_text, long_to_tea, long_to_two_texts, one_to_tea, one_to_two_texts,
     one_to_wide_text,
 };
-use ffi_calls::explanation::Explanation;
 use ffi_calls::numbers_to_texts::{
     decode_numbers_to_texts, explain_numbers_to_texts, get_text_of_number, next_number_texts,
     open_numbers_to_texts,
@@ -16,9 +16,6 @@ use ffi_calls::pairs::{Pair, Step};
 use ffi_calls::reading::NumberKey;
 use ffi_calls::status::DONE;
 use test_support::archives::no_items;
-
-// The number whose low 32 bits are 1, and whose high 32 bits are 1.
-const GREAT: u64 = 0x1_0000_0001;
 
 // Returns whether the archive is valid.
 fn is_map<K: NumberKey>(archive: &[u8], wide: bool) -> bool
@@ -130,40 +127,20 @@ fn several_long(
 }
 
 // Returns the status of the map of 1 to two texts with another byte at `pos`, and its explanation.
-fn status_with(pos: usize, byte: u8) -> (u32, (u32, i64, u64, u64)) {
-    let mut bytes = one_to_two_texts();
-    match bytes.get_mut(pos) {
-        Some(old) => *old = byte,
-        None => {}
-    }
-    let Explanation {
-        status,
-        position,
-        first,
-        second,
-    } = explain_numbers_to_texts::<u32>(&bytes, false);
+fn status_with(pos: usize, byte: u8) -> (u32, Numbers) {
+    let bytes = with_byte(one_to_two_texts(), pos, byte);
     (
         open_numbers_to_texts::<u32>(&bytes, false),
-        (status, position, first, second),
+        numbers_of(explain_numbers_to_texts::<u32>(&bytes, false)),
     )
 }
 
 // Does the same for the map of 1 and 4,294,967,297 to two texts.
-fn long_status_with(pos: usize, byte: u8) -> (u32, (u32, i64, u64, u64)) {
-    let mut bytes = long_to_two_texts();
-    match bytes.get_mut(pos) {
-        Some(old) => *old = byte,
-        None => {}
-    }
-    let Explanation {
-        status,
-        position,
-        first,
-        second,
-    } = explain_numbers_to_texts::<u64>(&bytes, false);
+fn long_status_with(pos: usize, byte: u8) -> (u32, Numbers) {
+    let bytes = with_byte(long_to_two_texts(), pos, byte);
     (
         open_numbers_to_texts::<u64>(&bytes, false),
-        (status, position, first, second),
+        numbers_of(explain_numbers_to_texts::<u64>(&bytes, false)),
     )
 }
 

@@ -4,8 +4,8 @@ ghost use Rattle.std.specs.Prelude.{IsTrue};
 ghost use Rattle.ffi_calls.specs.{IsTextSet};
 
 use crate::tests::archives::{HEADER, HEADER_OF_TWO, WIDE_HEADER};
+use crate::tests::support::{Numbers, numbers_of, with_byte};
 use ffi_calls::building::Built;
-use ffi_calls::explanation::Explanation;
 use ffi_calls::pairs::{Pair, Step};
 use ffi_calls::status::DONE;
 use ffi_calls::text_set_items::{SetText, build_text_set};
@@ -98,24 +98,9 @@ fn several(archive: &[u8], wide: bool, from: u64) -> Option<(usize, usize, usize
     Some((count, members[0].pair.key.len(), members[1].pair.key.len()))
 }
 
-// Returns the numbers of an explanation.
-fn numbers_of(explanation: Explanation) -> (u32, i64, u64, u64) {
-    let Explanation {
-        status,
-        position,
-        first,
-        second,
-    } = explanation;
-    (status, position, first, second)
-}
-
 // Explains the set of the empty text with another byte at `pos`.
-fn with(pos: usize, byte: u8) -> (u32, i64, u64, u64) {
-    let mut bytes = empty_text();
-    match bytes.get_mut(pos) {
-        Some(old) => *old = byte,
-        None => {}
-    }
+fn with(pos: usize, byte: u8) -> Numbers {
+    let bytes = with_byte(empty_text(), pos, byte);
     numbers_of(explain_text_set(&bytes, false))
 }
 

@@ -1,5 +1,6 @@
 //! Tests of archives of pairs with texts as values.
 
+use crate::tests::support::GREAT;
 use crate::tests::text_archives::{
     empty_to_text, empty_to_two_texts, empty_to_wide_text, great_to_wide_text, long_to_tea,
     long_to_two_texts, one_to_tea, one_to_two_texts, one_to_wide_text,
@@ -12,9 +13,6 @@ use ffi_calls::status::DONE;
 use ffi_calls::texts_to_texts_items::build_texts_to_texts;
 use std::alloc::Global;
 use test_support::archives::no_items;
-
-// The number whose low 32 bits are 1, and whose high 32 bits are 1.
-const GREAT: u64 = 0x1_0000_0001;
 
 // Returns the status of a write of the items, and whether `built` has `bytes` if it is 0.
 // After an error the flag is whether `built` is unchanged.

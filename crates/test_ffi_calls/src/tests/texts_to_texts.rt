@@ -3,8 +3,8 @@
 ghost use Rattle.std.specs.Prelude.{IsTrue};
 ghost use Rattle.ffi_calls.specs.{IsTextTextArchive};
 
+use crate::tests::support::{Numbers, numbers_of, with_byte};
 use crate::tests::text_archives::{empty_to_text, empty_to_two_texts, empty_to_wide_text};
-use ffi_calls::explanation::Explanation;
 use ffi_calls::pairs::{Pair, Step};
 use ffi_calls::status::DONE;
 use ffi_calls::texts_to_texts::{
@@ -75,21 +75,11 @@ fn several(archive: &[u8], wide: bool, from: u64, next: u64, pair: [&[u8]; 2]) -
 }
 
 // Returns the status of the map of the empty text with another byte at `pos`, and its explanation.
-fn status_with(pos: usize, byte: u8) -> (u32, (u32, i64, u64, u64)) {
-    let mut bytes = empty_to_text();
-    match bytes.get_mut(pos) {
-        Some(old) => *old = byte,
-        None => {}
-    }
-    let Explanation {
-        status,
-        position,
-        first,
-        second,
-    } = explain_texts_to_texts(&bytes, false);
+fn status_with(pos: usize, byte: u8) -> (u32, Numbers) {
+    let bytes = with_byte(empty_to_text(), pos, byte);
     (
         open_texts_to_texts(&bytes, false),
-        (status, position, first, second),
+        numbers_of(explain_texts_to_texts(&bytes, false)),
     )
 }
 

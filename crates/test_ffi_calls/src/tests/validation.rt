@@ -1,6 +1,7 @@
 //! Tests of the statuses of validation errors.
 
 use crate::tests::archives::{LONG, SHORT, WIDE, WIDE_LONG, empty_text, empty_wide_text};
+use crate::tests::support::with_byte;
 use ffi_calls::form::Form;
 use ffi_calls::numbers::open_numbers;
 use ffi_calls::texts::open_texts;
@@ -8,21 +9,13 @@ use test_support::archives::{no_items, one_number, one_symbol, one_wide_number};
 
 // Returns the status of the map of 1 to 2 with another byte at `pos`.
 fn number_with(pos: usize, byte: u8) -> u32 {
-    let mut bytes = one_number();
-    match bytes.get_mut(pos) {
-        Some(old) => *old = byte,
-        None => {}
-    }
+    let bytes = with_byte(one_number(), pos, byte);
     open_numbers::<u32>(&bytes, SHORT)
 }
 
 // Returns the status of the map of `main` to 4096 with another byte at `pos`.
 fn symbol_with(pos: usize, byte: u8) -> u32 {
-    let mut bytes = one_symbol();
-    match bytes.get_mut(pos) {
-        Some(old) => *old = byte,
-        None => {}
-    }
+    let bytes = with_byte(one_symbol(), pos, byte);
     open_texts(&bytes, LONG)
 }
 

@@ -1,0 +1,29 @@
+//! Helpers of several tests.
+
+use ffi_calls::explanation::Explanation;
+
+/// The number whose low 32 bits are 1, and whose high 32 bits are 1.
+pub(crate) const GREAT: u64 = 0x1_0000_0001;
+
+/// The status, the position and the two numbers of an explanation.
+pub(crate) type Numbers = (u32, i64, u64, u64);
+
+/// Returns the numbers of an explanation.
+pub(crate) fn numbers_of(explanation: Explanation) -> Numbers {
+    let Explanation {
+        status,
+        position,
+        first,
+        second,
+    } = explanation;
+    (status, position, first, second)
+}
+
+/// Returns the bytes with another byte at `pos`, if they have this position.
+pub(crate) fn with_byte<const N: usize>(bytes: [u8; N], pos: usize, byte: u8) -> [u8; N] {
+    let mut changed = bytes;
+    if let Some(old) = changed.get_mut(pos) {
+        *old = byte;
+    }
+    changed
+}
