@@ -159,6 +159,7 @@ impl<'a, K: Element, V: Element, H, W: IndexWidth> ArchivedIndexMap<'a, K, V, H,
         }
         Some(self.pair(index))
     }
+
     /// Returns the first key and its value, in insertion order, or `None` if the map has no pairs.
     ///
     /// # Examples

@@ -385,6 +385,7 @@ impl<'a, K: KeyElement, V: Element, H: KeyHasher, W: IndexWidth> ArchivedIndexMa
     {
         self.find_key(key).is_some()
     }
+
     /// Returns the value of the key that the query finds.
     ///
     /// A lookup in an untrusted map may read all of its control bytes.
