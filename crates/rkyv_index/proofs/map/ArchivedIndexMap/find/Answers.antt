@@ -2,7 +2,7 @@ use Rattle.std.proofs.Common.{None, refl, subst, sym, ◌∙◌, ◌<◌}
 use Rattle.rkyv_keys.specs.{hash_at}
 use Rattle.rkyv_index.specs.{IsKeyOf, index_len}
 use Rattle.rkyv_index.proofs.Lookups.{counts_index, item_index}
-use Rattle.rkyv_index.proofs.IndicesFound.{gets_index, reads_few, stored_index_found}
+use Rattle.rkyv_index.proofs.IndicesFound.{gets_index, stored_index_found}
 use Rattle.rkyv_index.proofs.map.ArchivedIndexMap.find.Goals as goal
 
 pub find_index-requires : goal.find_index-requires
@@ -38,11 +38,6 @@ returns-clause-found g c =
     (λ h r x. (x.2.0, subst (λ n. IsKeyOf m n x.2.0) x.1 x.2.1, x.2.2))
     c.hash_value-hash.result _ c.hash_value-hash.ensures f.item f.found c.find_index.result
     (f.is ∙ stored_index_found m g.W.Index.Scalar.encoding g.met.W.Index.Scalar.laws g.met.W.IndexWidth.index c.table-table.result c.table-table.ensures.at f.item f.found.walked)
-
-pub returns-clause-bounded : goal.returns-clause-bounded
-returns-clause-bounded g c =
-    reads_few c.args.self g.W.Index.Scalar.encoding g.met.W.Index.Scalar.laws g.met.W.IndexWidth.index
-    c.table-table.result c.table-table.ensures.at _ _ c.find_index.ensures.counts.bounded
 
 pub returns-clause-counted : goal.returns-clause-counted
 returns-clause-counted g c = λ accept compares.

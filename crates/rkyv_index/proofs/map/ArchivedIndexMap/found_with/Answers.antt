@@ -1,10 +1,7 @@
-use Rattle.std.proofs.Common.{refl, rules}
+use Rattle.std.proofs.Common.{rules}
 use Rattle.rkyv_table.proofs.FoundWrites.{unwritten_if_none, written_at_found}
 use Rattle.rkyv_index.proofs.FoundValues.{found_implied}
 use Rattle.rkyv_index.proofs.map.ArchivedIndexMap.found_with.Goals as goal
-
-pub write-requires : goal.write-requires
-write-requires g c = c.requires.callable _ c.in_ok-pos.pos refl c.in_ok-pos.ensures.inside c.in_ok-pos.ensures.viewable
 
 pub returns : goal.returns
 returns g c =

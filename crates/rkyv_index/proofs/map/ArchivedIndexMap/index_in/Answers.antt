@@ -1,12 +1,8 @@
 use Rattle.std.proofs.Common.{◌∙◌, ap}
 use Rattle.rkyv_index.specs.{index_part}
-use Rattle.rkyv_index.proofs.FoundValues.{bytes_read, index_below}
+use Rattle.rkyv_index.proofs.FoundValues.{bytes_read}
 use Rattle.rkyv_index.proofs.SealedIndex.{found_key_read}
 use Rattle.rkyv_index.proofs.map.ArchivedIndexMap.index_in.Goals as goal
-
-pub returns-clause-below : goal.returns-clause-below
-returns-clause-below g c =
-    index_below c.of.result _ _ (bytes_read c.of.ensures.view c.new.ensures.0) (ap (λ v. v.pos) c.of.ensures.view ∙ c.new.ensures.1) c.get_index_of.result c.get_index_of.ensures.walked
 
 pub returns-clause-finds : goal.returns-clause-finds
 returns-clause-finds g c =

@@ -1,7 +1,7 @@
 use Rattle.std.proofs.Common.{subst, ◌≡◌, ◌+◌, ◌-◌, ◌<◌, ◌≤◌, ◌^◌, ◌⊎◌, ◌∙◌, arith, sym, Bool, ℕ}
 use Rattle.std.specs.List.{range_with_len, sum_by}
 use Rattle.rkyv_keys.specs.{hash_at}
-use Rattle.rkyv_table.proofs.MisplacedIn.{past_all, past_cut, reads_on, within_cut}
+use Rattle.rkyv_table.proofs.MisplacedIn.{past_all, past_cut, reads_on}
 use Rattle.rkyv_index.specs.{index_len, index_of, is_misplaced, keys_strides, own_strides}
 use Rattle.rkyv_index.proofs.Counted.{count_is_all, left_first, none_more, one_more, sum_end, sum_first, sum_step}
 use Rattle.rkyv_index.proofs.map.ArchivedIndexMap.misplaced_up_to_counted.Goals.{After-is_misplaced-is_misplaced, else-is_misplaced, then-is_misplaced}
@@ -35,9 +35,6 @@ module _ (g : _) (c : After-is_misplaced-is_misplaced g) where
 
   on : c.loop-index.strides ≤ c.is_misplaced-is_misplaced.new.strides
   on = reads_on _ _ _ _ c.is_misplaced-is_misplaced.ensures.bounded
-
-pub is_past-requires : goal.is_past-requires
-is_past-requires g c = omega (arith, on g (goal.at.is_past-requires g c).After-is_misplaced-is_misplaced, c.loop-index.invariant.within.0, c.count.ensures)
 
 pub returns-then-is_past-clause-counts : goal.returns-then-is_past-clause-counts
 returns-then-is_past-clause-counts g c =
@@ -103,6 +100,3 @@ returns-clause-counted g c =
     let test = c.loop-index-test.false in
     let rest = sum_end (own_strides m key_hash g.K.ElementEq.same) c.loop-index.index (index_len c.args.self) (omega (arith, test, end)) in
     omega (arith, rest, c.loop-index.invariant.spent, c.count-before.ensures)
-
-pub returns-clause-bounded : goal.returns-clause-bounded
-returns-clause-bounded g c = within_cut c.count-before.ensures c.loop-index.invariant.within

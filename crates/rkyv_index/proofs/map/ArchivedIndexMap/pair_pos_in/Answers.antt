@@ -1,17 +1,8 @@
-use Rattle.std.proofs.Common.{◌≡◌, ◌<◌, ◌∙◌, refl, subst, sym, List, ℕ}
-use Rattle.rkyv_base.specs.{Viewable, entry_spec}
-use Rattle.rkyv_base.specs.Lemmas.Entry.{entry_element}
-use Rattle.rkyv_table.specs.{len_at}
+use Rattle.std.proofs.Common.{◌≡◌, ◌∙◌, refl, subst, sym, List, ℕ}
 use Rattle.rkyv_index.specs.{IsPairPos, key_pos, pair_at}
-use Rattle.rkyv_index.proofs.ValidIndexMap.{entry_viewable}
-use Rattle.rkyv_table.proofs.Moved.{moved}
 use Rattle.rkyv_index.proofs.SealedIndex.{as_read}
 use Rattle.rkyv_index.proofs.ValueWrites.{pair_position}
 use Rattle.rkyv_index.proofs.map.ArchivedIndexMap.pair_pos_in.Goals as goal
-
-pub entry-requires : goal.entry-requires
-entry-requires g c =
-    record { below = moved (λ d r. c.args.index < len_at g.W.Word.word d r) _ _ _ _ (sym c.read.ensures.bytes) (sym c.read.ensures.pos) c.requires.below }
 
 pub returns-clause-at : goal.returns-clause-at
 returns-clause-at g c =
@@ -23,11 +14,3 @@ returns-clause-at g c =
     ∙ as_read c.read.result _ _ c.read.ensures.bytes c.read.ensures.pos (λ d r. key_pos c.read.result c.args.index ≡ there d r) refl in
     subst (IsPairPos w k v _ _ c.args.index) (sym is)
     (pair_position w g.met.W.Width.layout.kind k v g.K.HasSpec.laws g.V.HasSpec.laws _ _ c.requires.map c.args.index c.requires.below)
-
-pub returns-clause-entry : goal.returns-clause-entry
-returns-clause-entry g c =
-    let k = g.K.HasSpec.spec in
-    let v = g.V.HasSpec.spec in
-    let at = returns-clause-at g c in
-    subst (Viewable (entry_spec k v) _) (sym at.pos)
-    (entry_viewable g.W.Word.word g.met.W.Width.layout.kind (entry_spec k v) (entry_element k v g.K.HasSpec.laws g.V.HasSpec.laws) _ _ c.requires.map c.args.index c.requires.below)

@@ -1,11 +1,10 @@
-use Rattle.std.proofs.Common.{arith, ◌≡◌, ◌+◌, ◌*◌, ℕ, List, sym, subst, ap, ◌∙◌, inl, pos, ◌-ℤ◌, ◌++◌, rules}
+use Rattle.std.proofs.Common.{arith, ◌≡◌, ◌+◌, ◌*◌, ℕ, List, subst, ap, ◌∙◌, pos, ◌-ℤ◌, ◌++◌, rules}
 use Rattle.std.specs.Prelude.{FitsSigned}
 use Rattle.std.specs.Int.{byte_len, cast_unsigned, to_le_bytes, w64}
 use Rattle.std.proofs.lemmas.Int.{to_z-of_z}
-use Rattle.std.proofs.lemmas.Result.{err_from_is_err_and}
-use Rattle.rkyv_table.specs.{HeaderOverflows, IsHeader, capacity}
+use Rattle.rkyv_table.specs.{IsHeader, capacity}
 use Rattle.rkyv_index.specs.{IndexResolver}
-use Rattle.rkyv_index.proofs.Headers.{header_of, overflow_of}
+use Rattle.rkyv_index.proofs.Headers.{header_of}
 use Rattle.rkyv_index.proofs.map.ArchivedIndexMap.resolve_from_len.Goals as goal
 
 pub returns : goal.returns
@@ -21,11 +20,3 @@ returns g c =
       distance_value = c.in-Some.ensures.0 ∙ ap (λ n. pos c.resolver.inside.entries -ℤ pos n) at ∙ ap (λ (r : IndexResolver). pos r.entries -ℤ pos (c.args.pos + 3 * byte_len g.W.Word.word)) c.resolver.view_is;
       is = ap (λ (y : List ℕ). c.resolve_from_len.new.out ++ y) (c.write_distance.ensures ∙ ap (λ d. to_le_bytes g.W.Word.word (cast_unsigned g.W.Word.word d)) (to_z-of_z w64 c.in-Some.distance fits));
     })
-
-pub returns-in_err-resolve_from_len : goal.returns-in_err-resolve_from_len
-returns-in_err-resolve_from_len g c =
-    let p = err_from_is_err_and c.from_residual.result c.from_residual.ensures.1 in
-    rw p.1 (
-      overflow_of g.W.Word.word _ c.args.len c.args.load_factor c.args.pos c.requires.same (inl (subst (λ (r : IndexResolver). HeaderOverflows g.W.Word.word c.args.len r.table.pos c.args.pos) c.resolver.view_is c.in_err-resolve_from_len.ensures.0)),
-      ap (λ (y : List ℕ). y ++ c.split_at_mut-table.result.1.now) c.in_err-resolve_from_len.ensures.1 ∙ sym c.split_at_mut-table.ensures.value,
-    )

@@ -1,14 +1,6 @@
 use Rattle.std.proofs.Common.{◌∙◌, ap}
-use Rattle.rkyv_index.proofs.FoundValues.{bytes_read, value_found, value_inside, value_viewable}
+use Rattle.rkyv_index.proofs.FoundValues.{bytes_read, value_found}
 use Rattle.rkyv_index.proofs.map.ArchivedIndexMap.value_pos_in.Goals as goal
-
-pub returns-clause-inside : goal.returns-clause-inside
-returns-clause-inside g c =
-    value_inside c.of-map.result _ _ (bytes_read c.of-map.ensures.view c.new.ensures.0) (ap (λ v. v.pos) c.of-map.ensures.view ∙ c.new.ensures.1) c.get.result c.found_pos.result c.found_pos.ensures c.get.ensures.walked
-
-pub returns-clause-viewable : goal.returns-clause-viewable
-returns-clause-viewable g c =
-    value_viewable c.of-map.result _ _ (bytes_read c.of-map.ensures.view c.new.ensures.0) (ap (λ v. v.pos) c.of-map.ensures.view ∙ c.new.ensures.1) c.get.result c.found_pos.result c.found_pos.ensures c.get.ensures.walked
 
 pub returns-clause-finds : goal.returns-clause-finds
 returns-clause-finds g c =

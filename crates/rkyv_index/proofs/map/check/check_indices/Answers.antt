@@ -37,9 +37,6 @@ all_below-requires g c =
     subst (λ n. c.buckets_begin.result + n * byte_len w ≤ length b) (sym c.capacity.ensures)
     (decoded_inside w g.W.Word.kind b c.args.pos c.requires header is c.buckets_begin.result c.buckets_begin.ensures.none c.buckets_begin.ensures.some)
 
-pub returns-then-all_below-clause-len : goal.returns-then-all_below-clause-len
-returns-then-all_below-clause-len g c = moved_from_view c.of-table.result.view c.new.result c.args.bytes c.args.pos c.of-table.ensures.view c.new.ensures (λ d r. c.len-len.result ≡ len_at g.W.Word.word d r) c.len-len.ensures
-
 pub returns-then-all_below-clause-below : goal.returns-then-all_below-clause-below
 returns-then-all_below-clause-below g c =
     let w = g.W.Word.word in

@@ -1,13 +1,9 @@
-use Rattle.std.proofs.Common.{◌∙◌, ap, subst}
-use Rattle.rkyv_base.specs.{ScalarRepresents, with_value}
+use Rattle.std.proofs.Common.{subst}
+use Rattle.rkyv_base.specs.{ScalarRepresents}
 use Rattle.rkyv_base.specs.Lemmas.Scalar.{scalar_local}
 use Rattle.rkyv_keys.specs.Lemmas.QueryLaws.{hash_local}
 use Rattle.rkyv_index.proofs.ValueWrites.{index_kept, value_nested, value_written, written_value_represents}
 use Rattle.rkyv_index.proofs.map.in_place.set_value_at.Goals as goal
-
-pub returns-clause-written : goal.returns-clause-written
-returns-clause-written g c =
-    c.set_at.ensures.written ∙ ap (λ q. with_value g.N.Scalar.encoding c.args.archive.now q c.args.value) c.value_pos_at-pos.ensures.at
 
 pub returns-clause-kept : goal.returns-clause-kept
 returns-clause-kept g c =

@@ -1,14 +1,8 @@
-use Rattle.std.proofs.Common.{subst}
-use Rattle.rkyv_base.specs.{Uppercases}
 use Rattle.rkyv_base.specs.Lemmas.Text.{text_element}
 use Rattle.rkyv_keys.specs.Lemmas.QueryLaws.{hash_local}
 use Rattle.rkyv_index.proofs.UppercaseTexts.{text_written, uppercased_listed}
 use Rattle.rkyv_index.proofs.ValueWrites.{index_kept, value_nested}
 use Rattle.rkyv_index.proofs.map.in_place.text.make_ascii_uppercase_at.Goals as goal
-
-pub returns-clause-uppercases : goal.returns-clause-uppercases
-returns-clause-uppercases g c =
-    subst (λ q. Uppercases g.W.Word.word c.args.archive.now q c.uppercase_at.new.bytes c.uppercase_at.result) c.value_pos_at-pos.ensures.at c.uppercase_at.ensures
 
 pub returns-clause-kept : goal.returns-clause-kept
 returns-clause-kept g c =
