@@ -1,9 +1,10 @@
 -- Steps of the validation of an index map.
 use Rattle.std.proofs.Common.{◌≡◌, ℕ, inl, inr, ◌+◌, ◌-◌, ◌*◌, ◌%◌, ◌<◌, ◌≤◌, refl, sym, ap, subst, ◌∙◌, arith, List, [], Bool, true, false, filter, length, ℤ, FitsSigned, to_z, of_z}
+use Rattle.std.proofs.lemmas.Grind.{common_steps}
 use Rattle.std.specs.Borrow.{Bor}
 use Rattle.std.specs.Int.{Width, byte_len, w128}
 use Rattle.std.specs.List.{list_all, range_with_len}
-use Rattle.std.proofs.Math.Nat.{add-mul, mul-le-mul_right, mul-zero}
+use Rattle.std.proofs.Math.Nat.{add-mul, mul-zero}
 use Rattle.std.proofs.lemmas.Bool.{cases_eq}
 use Rattle.std.proofs.lemmas.List.Elements.{All-map, All-weaker}
 use Rattle.std.proofs.lemmas.Int.{to_z-of_z}
@@ -78,10 +79,7 @@ all_left n = let z : n - 0 ≡ n = omega arith in ap (range_with_len 0) z
 
 -- a word of several is inside the bytes
 pub word_inside : (size begin i count len : ℕ) → i < count → begin + count * size ≤ len → begin + i * size + size ≤ len
-word_inside size begin i count len small inside =
-    let most : (i + 1) * size ≤ count * size = mul-le-mul_right size (omega arith) in
-    let next : (i + 1) * size ≡ i * size + 1 * size = add-mul i 1 size in
-    omega arith
+word_inside size begin i count len small inside = grind (arith, common_steps)
 
 -- one index more is below the length
 pub below_next : (w : Width) (b : List ℕ) (begin n len : ℕ) → AreBelow w b begin n len → number_at w b (begin + n * byte_len w) < len → AreBelow w b begin (n + 1) len
@@ -147,7 +145,4 @@ module _ (w : Width) (kind : IsArchiveWord w) (b : List ℕ) (p : ℕ) (v : View
 
     -- they begin at the last one
     pub decoded_begin : 0 < cap_at w b p → begin ≡ controls_pos w b p - cap_at w b p * byte_len w
-    decoded_begin some =
-        let cap = is.cap in
-        let there : 0 < header.cap = omega (arith, cap) in
-        some_at there ∙ ap (λ c. c - header.cap * byte_len w) (is.controls_pos there) ∙ ap (λ m. controls_pos w b p - m * byte_len w) cap
+    decoded_begin some = grind (arith, common_steps)

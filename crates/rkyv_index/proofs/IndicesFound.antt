@@ -1,8 +1,8 @@
 -- A found item of a table of indices, and the index in it.
 use Rattle.rkyv_base.specs.declared.element.HasSpec.{Ghosts as Specs}
 use Rattle.rkyv_base.specs.declared.width.Word.{Ghosts as Words}
-use Rattle.std.proofs.Common.{◌≡◌, ℕ, ◌+◌, ◌/◌, ◌≤◌, ◌∙◌, ap, refl, subst, sym, true, Bool, List, None, Option, Some, length}
-use Rattle.std.specs.Borrow.{Bor}
+use Rattle.std.proofs.Common.{arith, ◌≡◌, ℕ, ◌+◌, ◌≤◌, ◌∙◌, ap, refl, subst, sym, true, Bool, List, None, Option, Some, length}
+use Rattle.std.proofs.lemmas.Grind.{common_steps}
 use Rattle.std.specs.Int.{Width, byte_len}
 use Rattle.std.specs.Option.{option_map}
 use Rattle.std.specs.Prelude.{IfSome}
@@ -10,7 +10,7 @@ use Rattle.std.proofs.lemmas.Option.{IfSome_then}
 use Rattle.rkyv_scan.specs.{generic_kind}
 use Rattle.rkyv_base.specs.{Encoding, IsAt, IsIndexEncoding, IsScalar, bytes_of, number_at, pos_of, pos_of_found}
 use Rattle.rkyv_base.specs.declared.view.View.{View}
-use Rattle.rkyv_table.specs.{CountsStrides, CountsWithin, FindsItem, IsItem, ReadsWithin, cap_at, len_at, probe_capacity, table_pos}
+use Rattle.rkyv_table.specs.{CountsStrides, CountsWithin, FindsItem, IsItem}
 use Rattle.rkyv_table.specs.declared.table.ArchivedHashTable.{ArchivedHashTable}
 use Rattle.rkyv_index.specs.{GetsBy, IsAccepted, IsKeyOf, IsStoredIndex, ReadsWithinBound, index_archive, index_bytes, index_found, index_of, index_part, index_pos, stored_index}
 use Rattle.rkyv_index.specs.declared.map.ArchivedIndexMap.{ArchivedIndexMap}
@@ -57,9 +57,7 @@ module _ {K V H W P N : Type 0} {ks : Specs K} {vs : Specs V} {ts : Specs P} {wt
 
   -- the strides of a lookup in the table are those of a lookup in the map
   pub reads_few : (before after : ℕ) → CountsWithin t before after → ReadsWithinBound m before after
-  reads_few before after counts =
-      subst (λ q. ReadsWithin (len_at w (index_bytes m) q) (probe_capacity (cap_at w (index_bytes m) q) / 16) before after) at.1
-      (subst (λ (x : List ℕ). ReadsWithin (len_at w x (table_pos t)) (probe_capacity (cap_at w x (table_pos t)) / 16) before after) (ap (λ (x : Bor (List ℕ)). x.now) at.0) counts)
+  reads_few before after counts = grind (arith, common_steps)
 
   -- the comparison accepted the key at the index in a found item
   pub index_accepted : (Post : View P → Bool → Type 0) (post' : View K → Bool → Type 0) (post_at_key : (h : View P) (r : Bool) → Post h r → (key : View K) × IsKeyOf m (number_at w (bytes_of h) h.pos) key × post' key r)

@@ -1,7 +1,8 @@
 -- From a lookup in a table of indices to a lookup in an index map.
 use Rattle.rkyv_base.specs.declared.element.HasSpec.{Ghosts as Specs}
 use Rattle.rkyv_base.specs.declared.width.Word.{Ghosts as Words}
-use Rattle.std.proofs.Common.{◌≡◌, ℕ, ◌+◌, ◌<◌, ◌≤◌, ◌∙◌, ap, sym, subst, Bool, length, map, List, Option}
+use Rattle.std.proofs.Common.{arith, ◌≡◌, ℕ, ◌+◌, ◌<◌, ◌≤◌, ◌∙◌, ap, sym, subst, Bool, length, map, List, Option}
+use Rattle.std.proofs.lemmas.Grind.{common_steps}
 use Rattle.std.specs.Borrow.{Bor}
 use Rattle.std.specs.Int.{Width, byte_len}
 use Rattle.std.specs.List.{find}
@@ -51,9 +52,7 @@ module _ {K V H W P N : Type 0} {ks : Specs K} {vs : Specs V} {ts : Specs P} {wt
 
   -- an item of the table is in a full bucket of the map
   item_there : (h : View P) → IsItem t h → (i : ℕ) × IsWalked w (index_bytes m) (index_pos m) i × (h.pos ≡ item_at w (byte_len w) (index_bytes m) (index_pos m) i)
-  item_there h item =
-      let walked = subst (λ q. IsWalked w (index_bytes m) q item.0) at.1 (subst (λ (x : List ℕ). IsWalked w x (table_pos t) item.0) bytes_same item.1.walked) in
-      (item.0, walked, item.1.pos ∙ table_is (λ n x q. item_at w n x q item.0))
+  item_there h item = grind (arith, common_steps)
 
   -- an item of the table is read in the archive of the map
   pub read_there : (h : View P) → IsItem t h → bytes_of h ≡ index_bytes m
@@ -75,9 +74,7 @@ module _ {K V H W P N : Type 0} {ks : Specs K} {vs : Specs V} {ts : Specs P} {wt
 
   -- a full bucket of the map has that index
   pub item_stored : (h : View P) → IsItem t h → IsStored m (number_at w (bytes_of h) h.pos)
-  item_stored h item =
-      let there = item_there h item in
-      (there.0, there.1, ap (number_at w (index_bytes m)) (sym there.2) ∙ ap (λ (x : List ℕ). number_at w x h.pos) (sym (read_there h item)))
+  item_stored h item = grind (arith, common_steps)
 
   -- the index at the found position is the one that the map finds
   pub index_is : (result : Option (View P)) (hash : ℕ) (accept : ℕ → Bool)
@@ -116,9 +113,7 @@ module _ {K V H W P N : Type 0} {ks : Specs K} {vs : Specs V} {ts : Specs P} {wt
     accept_at q = accept (number_at w (index_bytes m) q)
 
     items_compare : ComparesBy Post t accept_at
-    items_compare h r item is =
-        let x = post_at_key h r is in
-        compares (number_at w (bytes_of h) h.pos) x.0 r x.1 x.2 ∙ ap (λ (y : List ℕ). accept (number_at w y h.pos)) (read_there h item)
+    items_compare h r item is = grind (arith, common_steps)
 
     pub finds_index : FindsFound Post generic_kind t hash (pos_of_found result)
         → option_map (number_at w (index_bytes m)) (pos_of_found result) ≡ index_found w (index_bytes m) (index_pos m) hash accept

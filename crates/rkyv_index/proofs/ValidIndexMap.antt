@@ -1,5 +1,6 @@
 -- Consequences of a valid index map for its readers.
 use Rattle.std.proofs.Common.{◌≡◌, ℕ, zero, suc, ◌+◌, ◌*◌, ◌<◌, ◌≤◌, sym, ap, subst, ◌∙◌, arith, List, length, pos}
+use Rattle.std.proofs.lemmas.Grind.{common_steps}
 use Rattle.std.specs.Prelude.{unsigned_abs}
 use Rattle.std.specs.Int.{Width, byte_len}
 use Rattle.std.specs.List.{All}
@@ -7,7 +8,6 @@ use Rattle.std.proofs.lemmas.List.Elements.{All-cons, All-contains, All-nil}
 use Rattle.rkyv_base.specs.{ElementSpec, Encoding, IsArchiveWord, IsElement, IsIndexEncoding, IsScalar, Viewable, number_at}
 use Rattle.rkyv_base.specs.Lemmas.ElementSpec.{valid_at}
 use Rattle.rkyv_table.specs.{IsWalked, cap_at, item_at, len_at, table_controls, table_spec, walk}
-use Rattle.rkyv_table.specs.Lemmas.TableLaws.{table_element}
 use Rattle.rkyv_table.proofs.ValidTable.{item_viewable}
 use Rattle.rkyv_table.proofs.Walks.{full_walked}
 use Rattle.rkyv_index.specs.{IsValidIndex, decode_entries, entries_pos, entry_at, index_spec, pair_pos, row, stored_index_spec}
@@ -28,13 +28,7 @@ module _ (w : Width) (kind : IsArchiveWord w) (s : ElementSpec) (law : IsElement
 
   -- the table of the map is valid
   pub table_there : Viewable (table_spec w (stored_index_spec w)) b p
-  table_there =
-      let inside = v.inside in
-      record {
-        inside = omega arith;
-        aligned = v.aligned;
-        valid = valid_at (table_spec w (stored_index_spec w)) (table_element w kind (stored_index_spec w) (stored_index_element w kind)) b p 0 p valid.middle (omega arith) (omega arith) valid.table;
-      }
+  table_there = grind (arith, common_steps)
 
   -- the position at which the entries begin
   pub begin_is : entries_pos w b p ≡ valid.entries.begin
