@@ -6,7 +6,7 @@ use Rattle.std.proofs.lemmas.Result.{err_from_is_err_and}
 use Rattle.rkyv_base.specs.{PairRepresents}
 use Rattle.rkyv_keys.specs.{DeserializeMembers, entry_deserialize_fails}
 use Rattle.rkyv_collections.specs.{map_archive, map_len, map_pos}
-use Rattle.rkyv_collections.proofs.StdReading.{none_left, walks_fail, walks_first, walks_last, walks_next, walks_some}
+use Rattle.rkyv_collections.proofs.StdReading.{none_left, walks_fail, walks_first, walks_next, walks_some}
 use Rattle.rkyv_collections.proofs.map.ArchivedHashMap.deserialize_std.Goals as goal
 
 pub loop-key-init : goal.loop-key-init
@@ -52,10 +52,3 @@ returns-in_err-insert_read g c =
           c.loop-key.key-iterator c.next.new.self c.in-Some.key.pos (get g.A.PartialEq.eq c.loop-key.map) (keys c.loop-key.map) step.0 on.0 fails error
           (subst (λ (a : Bor (List ℕ)). fails a.now c.in-Some.key.pos error) (step.1.at.0 ∙ on.0.same_archive) part))
     ])
-
-pub returns : goal.returns
-returns g c =
-    let on = c.loop-key.invariant in
-    let read = walks_last g.W.Word.word g.K.HasSpec.spec g.V.HasSpec.spec g.K.Represents.represents g.V.Represents.represents g.A.PartialEq.eq (map_archive c.args.self) (map_pos c.args.self)
-    c.loop-key.key-iterator (get g.A.PartialEq.eq c.loop-key.map) (keys c.loop-key.map) on.0 c.in-None.ensures.steps.none in
-    (record { pairs = on.0.pairs; read = read; inserted = (on.0.inserted, on.1); stored = on.0.first_kept }, on.2 ∙ c.reserve.ensures.hasher ∙ c.with_hasher-map.ensures.hasher)

@@ -1,13 +1,9 @@
-use Rattle.std.proofs.Common.{◌≡◌, sym, ◌∙◌}
+use Rattle.std.proofs.Common.{◌≡◌, ◌∙◌}
 use Rattle.rkyv_base.specs.{archive_in, pos_in}
 use Rattle.rkyv_collections.specs.{IsViewAt}
 use Rattle.rkyv_keys.specs.{query_of}
-use Rattle.rkyv_collections.proofs.SealedMap.{entry_read, satisfies_read}
+use Rattle.rkyv_collections.proofs.SealedMap.{satisfies_read}
 use Rattle.rkyv_collections.proofs.map.ArchivedHashMap.find_key_pos.Goals as goal
-
-pub returns-clause-walked : goal.returns-clause-walked
-returns-clause-walked g c =
-    entry_read c.map_in.result (archive_in c.args.this.now) (pos_in c.args.this.now) c.map_in.ensures.bytes c.map_in.ensures.pos c.find_key.result c.found_pos.result (sym c.found_pos.ensures) c.find_key.ensures.walked
 
 pub returns-clause-finds : goal.returns-clause-finds
 returns-clause-finds g c =

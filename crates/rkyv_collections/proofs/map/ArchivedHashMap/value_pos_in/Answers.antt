@@ -1,22 +1,10 @@
-use Rattle.std.proofs.Common.{◌≡◌, sym, ◌∙◌}
+use Rattle.std.proofs.Common.{◌≡◌, ◌∙◌}
 use Rattle.std.specs.Option.{option_map}
 use Rattle.rkyv_base.specs.{value_pos}
 use Rattle.rkyv_collections.specs.{IsValueAt}
 use Rattle.rkyv_keys.specs.{query_of}
-use Rattle.rkyv_collections.proofs.SealedMap.{satisfies_read, value_inside, value_read, value_viewable}
+use Rattle.rkyv_collections.proofs.SealedMap.{satisfies_read}
 use Rattle.rkyv_collections.proofs.map.ArchivedHashMap.value_pos_in.Goals as goal
-
-pub returns-clause-walked : goal.returns-clause-walked
-returns-clause-walked g c =
-    value_read c.map_over.result c.args.archive.now c.args.root c.map_over.ensures.bytes c.map_over.ensures.pos c.get.result c.found_pos.result (sym c.found_pos.ensures) c.get.ensures.walked
-
-pub returns-clause-inside : goal.returns-clause-inside
-returns-clause-inside g c =
-    value_inside g.W.Word.word g.K.HasSpec.spec g.V.HasSpec.spec g.K.HasSpec.laws g.V.HasSpec.laws c.args.archive.now c.args.root c.requires.map c.found_pos.result (value_read c.map_over.result c.args.archive.now c.args.root c.map_over.ensures.bytes c.map_over.ensures.pos c.get.result c.found_pos.result (sym c.found_pos.ensures) c.get.ensures.walked)
-
-pub returns-clause-viewable : goal.returns-clause-viewable
-returns-clause-viewable g c =
-    value_viewable g.W.Word.word g.K.HasSpec.spec g.V.HasSpec.spec g.K.HasSpec.laws g.V.HasSpec.laws c.args.archive.now c.args.root c.requires.map c.found_pos.result (value_read c.map_over.result c.args.archive.now c.args.root c.map_over.ensures.bytes c.map_over.ensures.pos c.get.result c.found_pos.result (sym c.found_pos.ensures) c.get.ensures.walked)
 
 pub returns-clause-finds : goal.returns-clause-finds
 returns-clause-finds g c =

@@ -3,16 +3,12 @@ use Rattle.rkyv_base.specs.{ScalarRepresents}
 use Rattle.rkyv_base.specs.Lemmas.Scalar.{scalar_local}
 use Rattle.rkyv_keys.specs.Lemmas.QueryLaws.{hash_local}
 use Rattle.rkyv_keys.specs.{hash_at}
-use Rattle.rkyv_collections.specs.{SetsFound, map_spec}
+use Rattle.rkyv_collections.specs.{SetsFound}
 use Rattle.rkyv_collections.proofs.FirstWrites.{first_behind, none_behind}
-use Rattle.rkyv_table.proofs.NestedEntries.{unwritten}
 use Rattle.rkyv_collections.proofs.NestedWrites.{value_nested_at}
 use Rattle.rkyv_collections.proofs.SealedMap.{satisfies_implied}
 use Rattle.rkyv_collections.proofs.ValueWrites.{map_kept_at}
 use Rattle.rkyv_collections.proofs.map.in_place.set_value_of.Goals as goal
-
-pub set_at-requires : goal.set_at-requires
-set_at-requires g c = c.in-Some.ensures.inside
 
 pub returns-in-Some-clause-sets : goal.returns-in-Some-clause-sets
 returns-in-Some-clause-sets g c =
@@ -59,6 +55,3 @@ returns-in-Some-clause-parts g c =
     let t = c.in-Some.ensures.walked in
     value_nested_at g.W.Word.word g.K.HasSpec.spec g.N.HasSpec.spec g.K.HasSpec.laws g.N.HasSpec.laws
     c.args.archive.now c.set_at.new.bytes c.args.root t.0 c.in-Some.pos c.requires.map t.1 t.2 c.set_at.ensures.sealed c.set_at.ensures.is_valid
-
-pub returns-in-None-clause-parts : goal.returns-in-None-clause-parts
-returns-in-None-clause-parts g c = unwritten (map_spec g.W.Word.word g.K.HasSpec.spec g.N.HasSpec.spec) c.args.archive.now c.args.root

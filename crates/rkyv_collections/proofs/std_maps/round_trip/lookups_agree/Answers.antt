@@ -1,5 +1,4 @@
 use Rattle.std.proofs.Common.{ℕ, ◌-◌, subst, sym, length, List}
-use Rattle.std.proofs.lemmas.Result.{err_from_is_err_and}
 use Rattle.rkyv_base.specs.{IsValidArchive, bytes_of, pos_of}
 use Rattle.rkyv_base.specs.Lemmas.Entry.{entry_element}
 use Rattle.rkyv_base.proofs.AtViews.{back_at}
@@ -34,8 +33,3 @@ pub returns-in_default-clause-same : goal.returns-in_default-clause-same
 returns-in_default-clause-same g c =
     let s = map_spec g.W.Word.word g.A.Archived.HasSpec.spec g.B.Archived.HasSpec.spec in
     c.in_default.ensures.accepts (subst (IsValidArchive g.W.Width.LIMIT s) (sym c.as_slice.ensures.value) c.in_ok-bytes.ensures.0)
-
-pub returns-in_err-bytes-clause-error : goal.returns-in_err-bytes-clause-error
-returns-in_err-bytes-clause-error g c =
-    let p = err_from_is_err_and c.from_residual.result c.from_residual.ensures.1 in
-    rw (p.1, p.2) c.in_err-bytes.ensures
