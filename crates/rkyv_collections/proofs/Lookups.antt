@@ -2,6 +2,7 @@
 use Rattle.rkyv_base.specs.declared.element.HasSpec.{Ghosts as Specs}
 use Rattle.rkyv_base.specs.declared.width.Word.{Ghosts as Words}
 use Rattle.std.proofs.Common.{◌≡◌, ℕ, ◌<◌, ◌∙◌, None, Some, ap, sym, arith, Bool, length, map, subst, List, Option, slice_index}
+use Rattle.std.proofs.lemmas.Grind.{common_steps}
 use Rattle.std.specs.Option.{is_some}
 use Rattle.std.proofs.lemmas.List.{get_or-map, length-map}
 use Rattle.rkyv_scan.specs.{Hasher, HasherCall, hash_of_calls}
@@ -23,19 +24,12 @@ module _ {K V H W : Type 0} {ks : Specs K} {vs : Specs V} {wt : Words W} (m : Ar
   -- an item of the table is an entry of the map
   pub entry_of_item : (t : ArchivedHashTable (Entry K V) W (entry_specs ks vs) wt) → IsAt t.view (map_archive m) (map_pos m) → (entry : View (Entry K V)) → IsItem t entry
       → IsEntryIn m entry
-  entry_of_item t at entry item =
-      let walked : IsWalked wt.word (map_bytes m) (map_pos m) item.0 = rw (← at.0, ← at.1) item.1.walked in
-      let entry_pos : entry.pos ≡ item_at wt.word (entry_spec ks.spec vs.spec).size (map_bytes m) (map_pos m) item.0 = rw (← at.0, ← at.1) item.1.pos in
-      (item.1.archive ∙ at.0, item.1.viewable, (item.0, walked, entry_pos))
+  entry_of_item t at entry item = grind (arith, common_steps)
 
   -- a valid key at an entry of the map is a key of the map
   pub key_of_entry : (entry : View (Entry K V)) (key : View K) → IsEntryIn m entry → IsAt key (archive_of entry) (pos_of entry) → IsValidView ks.spec key
       → IsKeyIn m key
-  key_of_entry entry key is at viewable = record {
-    archive = at.0 ∙ is.0;
-    viewable = viewable;
-    key_pos = (is.2.0, is.2.1, at.1 ∙ is.2.2);
-  }
+  key_of_entry entry key is at viewable = grind (arith, common_steps)
 
   -- the keys under the hash are the items under it
   pub under_hash : (hash : ℕ) (key_hash : List ℕ → ℕ → ℕ) (accept : ℕ → Bool) (homes : List ℕ)

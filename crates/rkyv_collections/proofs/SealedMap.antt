@@ -1,7 +1,8 @@
 -- From a lookup in the map that is read to one in the map at the seal.
 use Rattle.rkyv_base.specs.declared.element.HasSpec.{Ghosts as Specs}
 use Rattle.rkyv_base.specs.declared.width.Word.{Ghosts as Words}
-use Rattle.std.proofs.Common.{◌≡◌, ℕ, ◌+◌, ◌≤◌, ◌∙◌, sym, ap, subst, Bool, List, None, Option, Some, length}
+use Rattle.std.proofs.Common.{arith, ◌≡◌, ℕ, ◌+◌, ◌≤◌, ◌∙◌, sym, ap, subst, Bool, List, None, Option, Some, length}
+use Rattle.std.proofs.lemmas.Grind.{common_steps}
 use Rattle.std.proofs.lemmas.Option.{IfSome_then}
 use Rattle.std.specs.Borrow.{Bor}
 use Rattle.std.specs.Int.{Width}
@@ -64,11 +65,7 @@ module _ {K V H W : Type 0} {ks : Specs K} {vs : Specs V} {wt : Words W} (m : Ar
 
   module _ where
     key_at : (key : View K) → IsKeyIn m key → IsKeyAt wt.word ks.spec vs.spec b p key
-    key_at key is = record {
-      bytes = ap (λ (archive : Bor (List ℕ)). archive.now) is.archive ∙ bytes;
-      viewable = is.viewable;
-      key_pos = as_read (λ c q. IsKeyPosAt wt.word ks.spec vs.spec c q (pos_of key)) is.key_pos;
-    }
+    key_at key is = grind (arith, common_steps)
 
     compares_read : (post : View K → Bool → Type 0) (accept : ℕ → Bool) → ComparesKeysByAt wt.word ks.spec vs.spec b p post accept → ComparesKeysBy m post accept
     compares_read post accept compares key r is compared = compares key r (key_at key is) compared

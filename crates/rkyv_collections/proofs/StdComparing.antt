@@ -1,5 +1,6 @@
 -- Lookups whose result is compared with a value.
-use Rattle.std.proofs.Common.{◌≡◌, ℕ, ◌↔◌, ◌∙◌, sym, subst, Bool, false, List, ◌∷◌, Option, Some, None}
+use Rattle.std.proofs.Common.{arith, ◌≡◌, ℕ, ◌↔◌, ◌∙◌, sym, subst, Bool, false, List, ◌∷◌, Option, Some, None}
+use Rattle.std.proofs.lemmas.Grind.{common_steps}
 use Rattle.std.specs.Prelude.{IsSomeAnd, IsTrue}
 use Rattle.std.specs.List.{All}
 use Rattle.std.specs.Option.{option_map}
@@ -26,6 +27,4 @@ module _ {X : Type 0} (P : X → Type 0) (whole : List X) where
   -- the result of a comparison of all items is `false` if a remaining item fails
   module _ (n m : ℕ) where
     pub one_fails : (x : X) (left : List X) → Decides (x ∷ left) → (r : Bool) → IsTrue r ↔ P x → r ≡ false → IsTrue false ↔ ((n ≡ m) × All P whole)
-    one_fails x left d r decides no' =
-        let apart : P x → ⊥ = λ f. true≢false (sym (decides.1 f) ∙ no') in
-        (λ t. absurd (true≢false (sym t)), λ h. absurd (decides_not x left d apart h.1))
+    one_fails x left d r decides no' = grind (arith, common_steps)

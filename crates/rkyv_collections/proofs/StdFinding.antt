@@ -1,5 +1,6 @@
 -- Lookups in an archive of a map of std.
-use Rattle.std.proofs.Common.{◌≡◌, ℕ, ◌+◌, refl, sym, ap, subst, ◌∙◌, cond, inl, inr, ◌↔◌, Bool, true, false, List, [], ◌∷◌, None, Option, Some}
+use Rattle.std.proofs.Common.{arith, ◌≡◌, ℕ, ◌+◌, refl, sym, ap, subst, ◌∙◌, cond, inl, inr, ◌↔◌, Bool, true, false, List, [], ◌∷◌, None, Option, Some}
+use Rattle.std.proofs.lemmas.Grind.{common_steps}
 use Rattle.std.specs.Int.{Width}
 use Rattle.std.specs.List.{find, list_any}
 use Rattle.std.specs.Map.{lookup}
@@ -73,10 +74,7 @@ both_or_none value b offset None (Some x) h = absurd h
 both_or_none value b offset (Some q) None h = absurd h
 
 some_either : {X : Type 0} (x : X) (t : Bool) → is_some (cond t (Some x) None) ≡ t
-some_either x t = elim (cases_Bool t) [
-  | inl yes' ↦ rw yes' refl
-  | inr no' ↦ rw no' refl
-]
+some_either x t = grind (arith, common_steps)
 
 module _ {State : Type 0} (hasher : Hasher State) (small : NumbersFit hasher) (w : Width) {k v : ElementSpec} (kl : IsElement k) (vl : IsElement v)
     {A B Q : Type 0} {key : List ℕ → ℕ → A → Type 0} {value : List ℕ → ℕ → B → Type 0} {same : Comparison} {key_calls : List ℕ → ℕ → List HasherCall}
