@@ -1,10 +1,10 @@
 -- From the entry that a lookup finds to its result.
 use Rattle.rkyv_base.specs.declared.element.HasSpec.{Ghosts as Specs}
 use Rattle.rkyv_base.specs.declared.width.Word.{Ghosts as Words}
-use Rattle.std.proofs.Common.{◌≡◌, ℕ, ◌+◌, ◌<◌, ◌^◌, ◌∙◌, Bool, List, None, Option, Some, ap, refl, sym, subst}
+use Rattle.std.proofs.Common.{◌≡◌, ℕ, ◌+◌, ◌<◌, ◌^◌, ◌∙◌, Bool, List, None, Option, Some, ap, sym, subst}
 use Rattle.std.specs.Borrow.{Bor}
 use Rattle.std.specs.Option.{option_map}
-use Rattle.std.specs.Prelude.{IfSome, IsSome}
+use Rattle.std.specs.Prelude.{IfSome}
 use Rattle.std.proofs.lemmas.Option.{IfSome_then}
 use Rattle.rkyv_scan.specs.{Hasher, HasherCall, hash_of_calls}
 use Rattle.rkyv_base.specs.{ElementSpec, IsElement, IsValidView, entry_spec, pos_of_found, value_offset}
@@ -119,8 +119,3 @@ module _ {K V H W : Type 0} {ks : Specs K} {vs : Specs V} {wt : Words W} {m : Ar
 
   pub no_member : GetsKey pair_part m a None → GetsKey key_part m a None
   no_member got = record { walked = tt; finds = got.finds; first = got.first; complete = got.complete }
-
--- an entry that has a position is found
-pub some_found : {E : Type 0} (found : Option (View E)) (key_pos : Option ℕ) → IsViewAt found key_pos → IsSome key_pos → IsSome found
-some_found None key_pos at some = subst IsSome (sym at) some
-some_found (Some entry) key_pos at some = refl

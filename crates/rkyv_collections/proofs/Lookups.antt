@@ -12,7 +12,7 @@ use Rattle.rkyv_base.specs.declared.view.View.{View}
 use Rattle.rkyv_base.specs.declared.entry.Entry.{Entry}
 use Rattle.rkyv_keys.specs.{Comparison, IsFoundAt, IsQuery, hash_at}
 use Rattle.rkyv_keys.specs.Lemmas.OfEntries.{valid_key}
-use Rattle.rkyv_table.specs.{IsItem, IsUnderHash, IsWalked, home_positions, item_at}
+use Rattle.rkyv_table.specs.{IsItem, IsUnderHash, home_positions}
 use Rattle.rkyv_table.specs.declared.table.ArchivedHashTable.{ArchivedHashTable}
 use Rattle.rkyv_table.proofs.ValidTable.{item_viewable}
 use Rattle.rkyv_collections.specs.{AreUnderHash, IsEntryIn, IsKeyIn, IsMap, IsViewAt, MapWrittenAt}

@@ -1,10 +1,9 @@
 -- From a lookup in the map that is read to one in the map at the seal.
 use Rattle.rkyv_base.specs.declared.element.HasSpec.{Ghosts as Specs}
 use Rattle.rkyv_base.specs.declared.width.Word.{Ghosts as Words}
-use Rattle.std.proofs.Common.{arith, ◌≡◌, ℕ, ◌+◌, ◌≤◌, ◌∙◌, sym, ap, subst, Bool, List, None, Option, Some, length}
+use Rattle.std.proofs.Common.{arith, ◌≡◌, ℕ, ◌+◌, ◌≤◌, sym, subst, Bool, List, None, Option, Some, length}
 use Rattle.std.proofs.lemmas.Grind.{common_steps}
 use Rattle.std.proofs.lemmas.Option.{IfSome_then}
-use Rattle.std.specs.Borrow.{Bor}
 use Rattle.std.specs.Int.{Width}
 use Rattle.std.specs.Prelude.{IfSome}
 use Rattle.rkyv_base.specs.{ElementSpec, IsElement, Viewable, entry_spec, pos_of, value_pos}
@@ -14,7 +13,7 @@ use Rattle.rkyv_table.proofs.ValidTable.{item_viewable}
 use Rattle.rkyv_table.proofs.Moved.{moved}
 use Rattle.rkyv_table.proofs.SealedTable.{value_kept}
 use Rattle.rkyv_base.specs.declared.entry.Entry.{Entry}
-use Rattle.rkyv_collections.specs.{AreUnderHashAt, ComparesKeysBy, ComparesKeysByAt, FindsBy, FindsFirstBy, FindsFirstKey, FindsFirstKeyAt, FindsKey, FindsKeyAt, FindsOneKey, FindsOneKeyAt, FoundByHasAt, FoundKeyHasAt, IsAcceptedKey, IsEntryIn, IsKeyAt, IsKeyIn, IsKeyPosAt, IsPairPos, IsValueIn, IsViewAt, MapAt, map_at, map_bytes, map_pos, map_spec}
+use Rattle.rkyv_collections.specs.{AreUnderHashAt, ComparesKeysBy, ComparesKeysByAt, FindsBy, FindsFirstBy, FindsFirstKey, FindsFirstKeyAt, FindsKey, FindsKeyAt, FindsOneKey, FindsOneKeyAt, FoundByHasAt, FoundKeyHasAt, IsAcceptedKey, IsEntryIn, IsKeyAt, IsKeyIn, IsKeyPosAt, IsPairPos, IsViewAt, MapAt, map_at, map_bytes, map_pos, map_spec}
 use Rattle.rkyv_keys.specs.{KeyLookup}
 use Rattle.rkyv_collections.specs.declared.map.ArchivedHashMap.{ArchivedHashMap}
 
@@ -74,12 +73,6 @@ module _ {K V H W : Type 0} {ks : Specs K} {vs : Specs V} {wt : Words W} (m : Ar
     pub entry_read : (result : Option (View (Entry K V))) (pos : Option ℕ) → IsViewAt result pos → IfSome result (IsEntryIn m) → IfSome pos (IsKeyPosAt wt.word ks.spec vs.spec b p)
     entry_read result pos at found =
         found_pos_satisfies (IsEntryIn m) (IsKeyPosAt wt.word ks.spec vs.spec b p) (λ x is. as_read (λ c q. IsKeyPosAt wt.word ks.spec vs.spec c q (pos_of x)) is.2) result pos at found
-
-    pub value_read : (result : Option (View V)) (pos : Option ℕ) → IsViewAt result pos → IfSome result (IsValueIn m)
-        → IfSome pos (λ q. (key : ℕ) × IsKeyPosAt wt.word ks.spec vs.spec b p key × (q ≡ value_pos ks.spec vs.spec key))
-    value_read result pos at found =
-        found_pos_satisfies (IsValueIn m) (λ q. (key : ℕ) × IsKeyPosAt wt.word ks.spec vs.spec b p key × (q ≡ value_pos ks.spec vs.spec key))
-        (λ x is. (is.key, as_read (λ c q. IsKeyPosAt wt.word ks.spec vs.spec c q is.key) is.walked, is.at.1)) result pos at found
 
     -- the property of a lookup in the map that is read, for its bytes and its position
     module _ (Fact Implied : Option ℕ → Type 0) (implies : (found : Option ℕ) → Fact found → Implied found) where

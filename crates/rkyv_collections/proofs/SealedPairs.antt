@@ -14,7 +14,7 @@ use Rattle.rkyv_table.specs.declared.table.raw_iter_seal.RawIterSeal.{RawIterSea
 use Rattle.rkyv_table.proofs.ValidTable.{item_viewable}
 use Rattle.rkyv_table.proofs.SealedItems.{cursor_kept, full_skipped}
 use Rattle.rkyv_table.proofs.SealedTable.{table_kept}
-use Rattle.rkyv_collections.specs.{IsPairIter, IsPairPos, IsSplitPair, KeepsPairs, YieldsKeyPos, YieldsPairAt}
+use Rattle.rkyv_collections.specs.{IsPairIter, IsPairPos, KeepsPairs, YieldsKeyPos, YieldsPairAt}
 use Rattle.rkyv_table.proofs.PairSeals.{pair_lent}
 use Rattle.rkyv_table.proofs.Walks.{full_end}
 use Rattle.rkyv_collections.proofs.SealedMap.{pair_pos}
@@ -29,17 +29,6 @@ none_full controls cap none_at (suc n) from h = elim (cases_lt from cap) [
     | inr empty ↦ full_skipped controls cap from below empty ∙ none_full controls cap none_at n (from + 1) (omega arith)
   ]
 ]
-
--- the archive of a cursor, split at the value behind the key at `q`
-pub pair_split : {K V : Type 0} (k v : ElementSpec) (q : ℕ) (archive b : List ℕ) → archive ≡ b → (result : Option (View K × Seal V))
-    → IfSome result (λ (pair : View K × Seal V). (pos_of pair.0 ≡ q) × (bytes_of pair.0 ≡ take (value_pos k v q) archive))
-    → IfSome result (λ (pair : View K × Seal V). (seal_pos pair.1 ≡ 0) × (bytes_in pair.1 ≡ drop (value_pos k v q) archive)) → IfSome result (IsSplitPair k v b)
-pair_split k v q archive b same None key value = tt
-pair_split k v q archive b same (Some pair) key value = record {
-  front = subst (λ n. bytes_of pair.0 ≡ take (value_pos k v n) b) (sym key.0) (key.1 ∙ ap (take (value_pos k v q)) same);
-  back = subst (λ n. bytes_in pair.1 ≡ drop (value_pos k v n) b) (sym key.0) (value.1 ∙ ap (drop (value_pos k v q)) same);
-  begin = value.0;
-}
 
 module _ {K V : Type 0} (k v : ElementSpec) (kl : IsElement k) (vl : IsElement v) where
   -- a map of entries that are too large has no entries

@@ -1,11 +1,10 @@
 -- Lookups whose result is compared with a value.
-use Rattle.std.proofs.Common.{arith, ◌≡◌, ℕ, ◌↔◌, ◌∙◌, sym, subst, Bool, false, List, ◌∷◌, Option, Some, None}
+use Rattle.std.proofs.Common.{arith, ◌≡◌, ℕ, ◌↔◌, sym, subst, Bool, false, List, ◌∷◌, Option, Some, None}
 use Rattle.std.proofs.lemmas.Grind.{common_steps}
 use Rattle.std.specs.Prelude.{IsSomeAnd, IsTrue}
 use Rattle.std.specs.List.{All}
 use Rattle.std.specs.Option.{option_map}
-use Rattle.std.proofs.lemmas.Bool.{true≢false}
-use Rattle.std.proofs.lemmas.List.Elements.{All-cons, All-head, All-tail}
+use Rattle.std.proofs.lemmas.List.Elements.{All-cons, All-tail}
 use Rattle.std.proofs.lemmas.Option.{none-some, same_Some}
 
 -- `x`: `f` of the found position. `P x` if and only if a position `q` is found with `P (f q)`
@@ -20,9 +19,6 @@ module _ {X : Type 0} (P : X → Type 0) (whole : List X) where
 
   pub decides_next : (x : X) (left : List X) → Decides (x ∷ left) → P x → Decides left
   decides_next x left d h = (λ all. d.0 (All-cons P x left h all), λ all. All-tail P x left (d.1 all))
-
-  decides_not : (x : X) (left : List X) → Decides (x ∷ left) → (P x → ⊥) → All P whole → ⊥
-  decides_not x left d h all = h (All-head P x left (d.1 all))
 
   -- the result of a comparison of all items is `false` if a remaining item fails
   module _ (n m : ℕ) where
