@@ -77,17 +77,6 @@ none_left i n above = let z : n - i ≡ 0 = omega arith in ap (range_with_len i)
 pub all_left : (n : ℕ) → range_with_len 0 (n - 0) ≡ range_with_len 0 n
 all_left n = let z : n - 0 ≡ n = omega arith in ap (range_with_len 0) z
 
--- a word of several is inside the bytes
-pub word_inside : (size begin i count len : ℕ) → i < count → begin + count * size ≤ len → begin + i * size + size ≤ len
-word_inside size begin i count len small inside = grind (arith, common_steps)
-
--- one index more is below the length
-pub below_next : (w : Width) (b : List ℕ) (begin n len : ℕ) → AreBelow w b begin n len → number_at w b (begin + n * byte_len w) < len → AreBelow w b begin (n + 1) len
-below_next w b begin n len h last i small = elim (cases_eq i n) [
-  | inl e ↦ subst (λ j. number_at w b (begin + j * byte_len w) < len) (sym e) last
-  | inr other ↦ h i (omega (arith, small, other))
-]
-
 -- the indices of the full buckets are below `n` if those of all buckets are
 module _ (w : Width) (kind : IsArchiveWord w) (b : List ℕ) (p n begin : ℕ) (v : Viewable (table_spec w (stored_index_spec w)) b p) (at : 0 < cap_at w b p → begin ≡ controls_pos w b p - cap_at w b p * byte_len w) where
   bucket_below : AreBelow w b begin (cap_at w b p) n → (i : ℕ) → IsWalked w b p i → number_at w b (item_at w (byte_len w) b p i) < n

@@ -1,8 +1,7 @@
 -- A found item of a table of indices, and the index in it.
 use Rattle.rkyv_base.specs.declared.element.HasSpec.{Ghosts as Specs}
 use Rattle.rkyv_base.specs.declared.width.Word.{Ghosts as Words}
-use Rattle.std.proofs.Common.{arith, ◌≡◌, ℕ, ◌+◌, ◌≤◌, ◌∙◌, ap, refl, subst, sym, true, Bool, List, None, Option, Some, length}
-use Rattle.std.proofs.lemmas.Grind.{common_steps}
+use Rattle.std.proofs.Common.{◌≡◌, ℕ, ◌+◌, ◌≤◌, ◌∙◌, ap, refl, subst, sym, true, Bool, List, None, Option, Some, length}
 use Rattle.std.specs.Int.{Width, byte_len}
 use Rattle.std.specs.Option.{option_map}
 use Rattle.std.specs.Prelude.{IfSome}
@@ -10,9 +9,9 @@ use Rattle.std.proofs.lemmas.Option.{IfSome_then}
 use Rattle.rkyv_scan.specs.{generic_kind}
 use Rattle.rkyv_base.specs.{Encoding, IsAt, IsIndexEncoding, IsScalar, bytes_of, number_at, pos_of, pos_of_found}
 use Rattle.rkyv_base.specs.declared.view.View.{View}
-use Rattle.rkyv_table.specs.{CountsStrides, CountsWithin, FindsItem, IsItem}
+use Rattle.rkyv_table.specs.{CountsStrides, FindsItem, IsItem}
 use Rattle.rkyv_table.specs.declared.table.ArchivedHashTable.{ArchivedHashTable}
-use Rattle.rkyv_index.specs.{GetsBy, IsAccepted, IsKeyOf, IsStoredIndex, ReadsWithinBound, index_archive, index_bytes, index_found, index_of, index_part, index_pos, stored_index}
+use Rattle.rkyv_index.specs.{GetsBy, IsAccepted, IsKeyOf, IsStoredIndex, index_archive, index_bytes, index_found, index_of, index_part, index_pos, stored_index}
 use Rattle.rkyv_index.specs.declared.map.ArchivedIndexMap.{ArchivedIndexMap}
 use Rattle.rkyv_index.proofs.Lookups.{finds_first_index, finds_index, item_index, item_stored, read_there}
 
@@ -54,10 +53,6 @@ module _ {K V H W P N : Type 0} {ks : Specs K} {vs : Specs V} {ts : Specs P} {wt
   pub index_stored : (found : Option (View P)) → IfSome found (IsItem t) → IfSome (option_map (stored_index w) found) (IsStoredIndex m)
   index_stored None item = item
   index_stored (Some h) item = (item_stored m e pk index t at h item, (item_index m e pk index t at h item).1)
-
-  -- the strides of a lookup in the table are those of a lookup in the map
-  pub reads_few : (before after : ℕ) → CountsWithin t before after → ReadsWithinBound m before after
-  reads_few before after counts = grind (arith, common_steps)
 
   -- the comparison accepted the key at the index in a found item
   pub index_accepted : (Post : View P → Bool → Type 0) (post' : View K → Bool → Type 0) (post_at_key : (h : View P) (r : Bool) → Post h r → (key : View K) × IsKeyOf m (number_at w (bytes_of h) h.pos) key × post' key r)
