@@ -17,7 +17,6 @@ capacity_fits len load_factor max l has = omega (arith, has.1, l.capacity_small,
 
 module _ {X R : Type 0} (yields : List (ℕ × X) → Type 0) (len : ℕ) (load_factor : ℕ × ℕ) (max : ℕ) (w : Width) (s : ElementSpec) (f : Format X R) (o o' : Output) (limit : ℕ)
     (has : HasCapacity len load_factor max) where
-
   module _ (some : 0 < len) where
     pub wrote_some : (z : ℕ) → capacity len load_factor < 2 ^ bits w → WroteNonempty yields len (capacity len load_factor) s f o o' limit z
         → WroteItems yields len load_factor max (table_format w s f load_factor) o o' limit (record { pos = z; len = len; load_factor = load_factor })
