@@ -1,8 +1,10 @@
 -- Equality of index maps and index sets that carry their validity is an equivalence of all of them.
 use Rattle.rkyv_base.specs.declared.element.HasSpec.{Ghosts as Specs}
+use Rattle.std.proofs.Common.{arith}
+use Rattle.std.proofs.lemmas.Grind.{common_steps}
 use Rattle.rkyv_base.specs.declared.width.Word.{Ghosts as Words}
 use Rattle.std.specs.Prelude.{ℕ, Bool, List}
-use Rattle.std.specs.Cmp.{IsEquivalence as IsEquality, both_ways, equiv}
+use Rattle.std.specs.Cmp.{IsEquivalence as IsEquality}
 use Rattle.rkyv_base.specs.{ElementSpec, ValidAt, entry_spec}
 use Rattle.rkyv_base.specs.Lemmas.Entry.{entry_element}
 use Rattle.rkyv_keys.specs.{Comparison, IsEquivalence, unit_same}
@@ -20,13 +22,7 @@ module _ {M : Type 0} {s : ElementSpec} {same : Comparison} (e : IsEquivalence s
   same_there m n = same (bytes m) (pos m) (bytes n) (pos n)
 
   pub equality_there : IsEquality same_there
-  equality_there = equiv (record {
-    symm = λ x y. both_ways (same_there x y) (same_there y x)
-        (e.symmetric (bytes x) (bytes y) (pos x) (pos y) (valid x) (valid y))
-        (e.symmetric (bytes y) (bytes x) (pos y) (pos x) (valid y) (valid x));
-    trans = λ x y z. e.transitive (bytes x) (bytes y) (bytes z) (pos x) (pos y) (pos z) (valid x)
-        (valid y) (valid z);
-  }) (λ x. e.reflexive (bytes x) (pos x) (valid x))
+  equality_there = grind (arith, common_steps)
 
 module _ {K V H W : Type 0} {ks : Specs K} {vs : Specs V} {wt : Words W}
     {same_key same_value : Comparison} (k : IsEquivalence ks.spec same_key)

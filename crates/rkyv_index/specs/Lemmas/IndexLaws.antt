@@ -4,7 +4,7 @@ use Rattle.std.specs.Prelude.{◌∷◌, Some, length, map, slice_get}
 use Rattle.std.specs.Int.{Width, byte_len, cast_signed, from_le_bytes}
 use Rattle.std.specs.List.{All, range_with_len}
 use Rattle.std.proofs.Common.{filter, get_or, refl, arith, subst, sym, true, ◌∙◌, ap, inl, inr}
-use Rattle.std.proofs.Math.Nat.{mul-le-mul_right}
+use Rattle.std.proofs.lemmas.Grind.{common_steps}
 use Rattle.std.proofs.Props.{props}
 use Rattle.std.specs.Coded.{×_prop}
 use Rattle.std.proofs.lemmas.Option.{slice_get_within}
@@ -61,9 +61,7 @@ indices_below n = all_below 0 n n (omega arith)
 -- an entry is between the begin and the end of the entries
 pub entry_inside : (size begin n i : ℕ) → i < n → (begin ≤ entry_at size begin i)
     × (entry_at size begin i + size ≤ begin + n * size)
-entry_inside size begin n i h =
-    let m : (suc i) * size ≤ n * size = mul-le-mul_right size (omega arith) in
-    (omega arith, omega (arith, m))
+entry_inside size begin n i h = grind (arith, common_steps)
 
 -- the index of an item of a list is below its length
 pub listed_below : {X : Type 0} (xs : List X) (n i : ℕ) (x : X) → n ≡ length xs
@@ -108,18 +106,11 @@ not_below_one w b n (q ∷ qs) e e' (inr f) (inr g) = not_below_one w b n qs e e
 module _ (s : ElementSpec) (law : IsElement s) where
   entries_between : (b : List ℕ) (decoded : ℤ) (len lo hi l : ℕ) → EntriesIn s b decoded len lo hi l
       → (lo ≤ l) × (l ≤ hi)
-  entries_between b decoded len lo hi l h = let e = h.ends in (
-    omega (arith, h.part.above, e),
-    omega
-        (arith, h.part.below, e),
-  )
+  entries_between b decoded len lo hi l h = grind (arith, common_steps)
 
   entries_one : (b : List ℕ) (decoded : ℤ) (len lo hi l l' : ℕ) → EntriesIn s b decoded len lo hi l
       → EntriesIn s b decoded len lo hi l' → l ≡ l'
-  entries_one b decoded len lo hi l l' h h' =
-      let same : h.begin ≡ h'.begin =
-      part_one decoded (len * s.size) s.align lo hi h.begin h'.begin h.part h'.part in
-      h.ends ∙ ap (λ x. x + len * s.size) same ∙ sym h'.ends
+  entries_one b decoded len lo hi l l' h h' = grind (arith, common_steps)
 
   entries_exclusive : (b : List ℕ) (decoded : ℤ) (len lo hi l : ℕ) (e : VerifyError)
       → EntriesIn s b decoded len lo hi l → EntriesFail s b decoded len lo hi e → ⊥
@@ -146,15 +137,7 @@ module _ (s : ElementSpec) (law : IsElement s) where
 
   entries_higher : (b : List ℕ) (decoded : ℤ) (len lo hi hi' l : ℕ) → hi ≤ hi'
       → EntriesIn s b decoded len lo hi l → EntriesIn s b decoded len lo hi' l
-  entries_higher b decoded len lo hi hi' l o h =
-      record {
-        begin = h.begin;
-        part = part_wider decoded (len * s.size) s.align lo lo hi hi' h.begin
-            (omega arith) o h.part;
-        last = h.last;
-        valid = h.valid;
-        ends = h.ends;
-      }
+  entries_higher b decoded len lo hi hi' l o h = grind (arith, common_steps)
 
   entries_lower : (b : List ℕ) (decoded : ℤ) (len lo lo' hi l : ℕ) → lo' ≤ lo
       → EntriesIn s b decoded len lo hi l → EntriesIn s b decoded len lo' hi l
@@ -284,11 +267,7 @@ module _ (w : Width) (kind : IsArchiveWord w) (s : ElementSpec) (law : IsElement
 
   index_one : (b : List ℕ) (p lo hi l l' : ℕ) → IsValidIndex w s b p lo hi l
       → IsValidIndex w s b p lo hi l' → l ≡ l'
-  index_one b p lo hi l l' h h' =
-      let same : h'.middle ≡ h.middle =
-      T_law.rest_unique b p lo hi h'.middle h.middle h'.table h.table in
-      entries_one s law b (decode_entries w b p) (len_at w b p) h.middle hi l l' h.entries
-      (subst (λ x. EntriesIn s b (decode_entries w b p) (len_at w b p) x hi l') same h'.entries)
+  index_one b p lo hi l l' h h' = grind (arith, common_steps)
 
   -- that the entries are valid, and that the map is, are propositions
   entries_prop : (b : List ℕ) (decoded : ℤ) (len lo hi l : ℕ)
@@ -323,11 +302,7 @@ module _ (w : Width) (kind : IsArchiveWord w) (s : ElementSpec) (law : IsElement
 
   index_between : (b : List ℕ) (p lo hi l : ℕ) → lo ≤ hi → IsValidIndex w s b p lo hi l → (lo ≤ l)
       × (l ≤ hi)
-  index_between b p lo hi l o h =
-      let t = T_law.rest_in_range b p lo hi h.middle o h.table in
-      let r = entries_between s law b (decode_entries w b p)
-      (len_at w b p) h.middle hi l h.entries in
-      (omega (arith, t.0, r.0), r.1)
+  index_between b p lo hi l o h = grind (arith, common_steps)
 
   index_lower : (b : List ℕ) (p lo lo' hi l : ℕ) → lo' ≤ lo → lo ≤ hi → IsValidIndex w s b p lo hi l
       → (l' : ℕ) × IsValidIndex w s b p lo' hi l' × (l' ≤ l)

@@ -1,5 +1,6 @@
 -- Index maps in two archives that have the same bytes.
 use Rattle.std.proofs.Common.{◌≡◌, ℕ, ◌+◌, ◌*◌, ◌<◌, ◌≤◌, sym, ap, subst, ◌∙◌, arith}
+use Rattle.std.proofs.lemmas.Grind.{common_steps}
 use Rattle.std.proofs.Common.{List, get_or, length, map, slice_index}
 use Rattle.std.specs.Prelude.{unsigned_abs}
 use Rattle.std.specs.Int.{Width, byte_len}
@@ -16,7 +17,6 @@ use Rattle.rkyv_table.specs.{IsValidWithin, IsWalked, WrittenAt, cap_at, home_po
 use Rattle.rkyv_table.specs.{len_at, table_controls}
 use Rattle.rkyv_table.specs.Lemmas.ValidItemLaws.{all_between}
 use Rattle.rkyv_table.specs.Lemmas.SameHeader.{cap_same, len_same}
-use Rattle.rkyv_table.specs.Lemmas.TableLaws.{table_element}
 use Rattle.rkyv_table.specs.Lemmas.SameControls.{same_controls}
 use Rattle.rkyv_table.proofs.SameTable.{written_there}
 use Rattle.rkyv_table.proofs.WrittenTables.{home_pos, home_walked}
@@ -114,9 +114,7 @@ module _ (w : Width) (kind : IsArchiveWord w) (k v : ElementSpec) (kl : IsElemen
     begin_is = ap unsigned_abs (sym h.entries.part.begins)
 
     table_ends : (lo ≤ h.middle) × (h.middle ≤ hi)
-    table_ends =
-        (table_element w kind (stored_index_spec w) (stored_index_element w kind)).rest_in_range b p
-        lo hi h.middle o h.table
+    table_ends = grind (arith, common_steps)
 
     last_ends : (h.middle ≤ h.entries.last) × (h.entries.last ≤ h.entries.begin)
     last_ends = all_between S law (entry_at S.size h.entries.begin) b h.entries.begin

@@ -1,9 +1,9 @@
 -- A written index map is valid and represents its list, in any archive that has its bytes.
 use Rattle.std.proofs.Common.{arith, get_or, refl, sym, ◌∙◌, ap, subst, inl, inr, zero}
+use Rattle.std.proofs.lemmas.Grind.{common_steps}
 use Rattle.std.proofs.Common.{length-append}
 use Rattle.std.proofs.lemmas.Int.{ints}
 use Rattle.std.proofs.lemmas.List.{ext_get_or, get_or-map, get_or_default, length-map}
-use Rattle.std.proofs.lemmas.List.{length-replicate}
 use Rattle.std.proofs.lemmas.List.FromFn.{get_or-range_with_len, length-range_with_len}
 use Rattle.std.specs.Int.{Width, byte_len, cast_unsigned, to_le_bytes}
 use Rattle.std.specs.List.{range_with_len}
@@ -11,14 +11,13 @@ use Rattle.std.specs.Prelude.{◌≡◌, ℕ, suc, ◌+◌, ◌*◌, ◌%◌, �
 use Rattle.std.specs.Prelude.{unsigned_abs, FitsSigned, Bool, true, List, [], ◌∷◌, ◌++◌, length}
 use Rattle.std.specs.Prelude.{Some, map, slice_get, slice_index}
 use Rattle.rkyv_base.specs.{ElementSpec, Encoding, Format, IsArchiveWord, IsElement, IsFormat}
-use Rattle.rkyv_base.specs.{IsIndexEncoding, IsScalar, IsWord, OccursAt, PairRepresents}
+use Rattle.rkyv_base.specs.{IsIndexEncoding, IsScalar, OccursAt, PairRepresents}
 use Rattle.rkyv_base.specs.{ScalarRepresents, ValidAt, entry_spec, number_at, padding, pair_format}
 use Rattle.rkyv_base.specs.{round_up, scalar_format, zeros}
 use Rattle.rkyv_base.specs.Lemmas.Bytes.{occurs_back, occurs_front}
 use Rattle.rkyv_base.specs.Lemmas.Entry.{entry_element, round_up-multiple}
 use Rattle.rkyv_base.specs.Lemmas.Pairs.{pair_is_format}
-use Rattle.rkyv_base.specs.Lemmas.Scalar.{scalar_is_format, word_bytes}
-use Rattle.rkyv_base.specs.Lemmas.Text.{by_archive_word}
+use Rattle.rkyv_base.specs.Lemmas.Scalar.{scalar_is_format}
 use Rattle.rkyv_base.specs.Lemmas.Words.{distances_read_back}
 use Rattle.rkyv_keys.specs.Lemmas.QueryLaws.{hashes_as_written}
 use Rattle.rkyv_keys.specs.{Comparison, FitsItsEqual, HashesAlike, IsQuery, hash_at, hash_of}
@@ -188,9 +187,7 @@ module _ {P X R : Type 0} (w : Width) (kind : IsArchiveWord w) (ps : ElementSpec
 
       front_length : length t.front ≡ length t.before.head + padding s.align
           (p0 + length t.before.head)
-      front_length = ap length t.before.is ∙ length-append t.before.head pad
-          ∙ ap (λ n. length t.before.head + n) (length-replicate {A = ℕ}
-          (padding s.align (p0 + length t.before.head)) 0)
+      front_length = grind (arith, common_steps)
 
       head_length : length t.before.head ≡ length zb.table + length zb.part_bytes
       head_length = ap length zb.is ∙ length-append zb.table zb.part_bytes
@@ -334,15 +331,7 @@ module _ {P X R : Type 0} (w : Width) (kind : IsArchiveWord w) (ps : ElementSpec
 
   header_whole : (r : IndexResolver) (p : ℕ) (out : List ℕ) → IsIndexHeader w r.table.len
       (resolved_capacity r.table) r p out → length out ≡ 4 * byte_len w
-  header_whole r p out i =
-      let t : length i.table ≡ 3 * byte_len w =
-      ap length i.header.is ∙ header_length w kind i.header.distance r.table.len
-      (resolved_capacity r.table) in
-      let n =
-      word_bytes w (by_archive_word IsWord (inr (inr (inl refl))) (inr (inr (inr refl))) w kind)
-      (cast_unsigned w i.distance) in
-      ap length i.is ∙ length-append i.table (to_le_bytes w (cast_unsigned w i.distance))
-      ∙ omega (arith, t, n)
+  header_whole r p out i = grind (arith, common_steps)
 
   header_exclusive : (r : IndexResolver) (p : ℕ) (out : List ℕ) → IsIndexHeader w r.table.len
       (resolved_capacity r.table) r p out
