@@ -19,6 +19,7 @@ use crate::errors::{SymbolsError, file_error, invalid_error, write_error};
 use crate::outcome::{Outcome, exit_status};
 use example_symbols::lines::parse;
 use example_symbols::table::{address_in, archive, check};
+use std::alloc::AllocError;
 use std::io::{BufWriter, Write};
 use std::process::ExitCode;
 use std::{env, fs, io};
@@ -237,7 +238,10 @@ fn execute(rt: &HostRuntime, name: &str, arguments: &[String]) -> Result<Outcome
 /// Executes the command of the command line.
 fn run(rt: &HostRuntime) -> Result<Outcome, SymbolsError> {
     let given = env::args(rt).map_err(SymbolsError::Arguments)?;
-    let words: Vec<_> = given.skip(1).collect(rt.alloc())?;
+    let mut words = Vec::new(rt.alloc());
+    for word in given.skip(1) {
+        words.push(word).map_err(AllocError::from)?;
+    }
     match words.as_slice().split_first() {
         Some((name, arguments)) => execute(rt, name.as_str(), arguments),
         None => Ok(print_usage(rt)),

@@ -16,6 +16,7 @@ use crate::options::{Options, USAGE};
 use crate::outcome::{Outcome, exit_status};
 use rkyv_container::contents::Contents;
 use rkyv_inspect::{ContainerLine, Drawing, Printed};
+use std::alloc::AllocError;
 use std::io::{BufWriter, Write};
 use std::process::ExitCode;
 use std::{env, fs, io};
@@ -96,7 +97,10 @@ fn execute(rt: &HostRuntime, words: &[String]) -> Result<Outcome, ProgramError>
 /// Executes the command of the command line.
 fn run(rt: &HostRuntime) -> Result<Outcome, ProgramError> {
     let given = env::args(rt).map_err(ProgramError::Arguments)?;
-    let words: Vec<_> = given.skip(1).collect(rt.alloc())?;
+    let mut words = Vec::new(rt.alloc());
+    for word in given.skip(1) {
+        words.push(word).map_err(AllocError::from)?;
+    }
     execute(rt, words.as_slice())
 }
 
