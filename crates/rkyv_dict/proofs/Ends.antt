@@ -1,5 +1,6 @@
 -- A write fails with one error, except for allocation failures, and doesn't succeed as well.
-use Rattle.std.proofs.Common.{◌≡◌, ℕ, ◌+◌, ◌≤◌, sym, ap, subst, arith, inl, inr, List, [], ◌++◌, length, length-append}
+use Rattle.std.proofs.Common.{◌≡◌, ℕ, ◌+◌, ◌≤◌, ap, arith, inl, inr, List, [], ◌++◌, length, length-append}
+use Rattle.std.proofs.lemmas.Grind.{common_steps}
 use Rattle.std.specs.Prelude.{◌⊎◌}
 use Rattle.rkyv_base.specs.{Step, WriteFailure, failure, no_memory, piece}
 
@@ -26,35 +27,17 @@ no_piece c a e = cc
 
 -- a write of no step
 pub ends_at_once : (writes : List ℕ → Type 0) → Ends (λ front step. ⊥) writes
-ends_at_once writes = record {
-  unique = λ front front' c c' k k' x y. absurd x;
-  before = λ front front' bytes c k x y. absurd x;
-  inside = λ front bytes part x y. absurd x;
-  exclusive = λ front part c k x y. x;
-}
+ends_at_once writes = grind (arith, common_steps)
 
 -- a write of one piece
 pub ends_by_piece : (whole : List ℕ) → Ends (λ front step. (front ≡ []) × (step ≡ piece whole)) (λ part. part ≡ whole)
-ends_by_piece whole = record {
-  unique = λ front front' c c' k k' x y. absurd (no_piece c whole x.1);
-  before = λ front front' bytes c k x y. absurd (no_piece c whole y.1);
-  inside = λ front bytes part x y. omega (arith, ap length x.0, ap length (same_piece bytes whole x.1), ap length y);
-  exclusive = λ front part c k x y. no_piece c whole x.1;
-}
+ends_by_piece whole = grind (arith, common_steps)
 
 -- a write with the same steps and the same whole
 pub ends_as : (next next' : List ℕ → Step → Type 0) (writes writes' : List ℕ → Type 0) → Ends next writes
     → ((front : List ℕ) (step : Step) → (step ≡ failure no_memory → ⊥) → next' front step → next front step)
     → ((part : List ℕ) → writes' part → writes part) → Ends next' writes'
-ends_as next next' writes writes' ends into done =
-    let known : (c : WriteFailure) → IsKnown c → failure c ≡ failure no_memory → ⊥ = λ c k e. k (same_error c no_memory e) in
-    let other : (bytes : List ℕ) → piece bytes ≡ failure no_memory → ⊥ = λ bytes e. no_piece no_memory bytes (sym e) in
-    record {
-      unique = λ front front' c c' k k' x y. ends.unique front front' c c' k k' (into front (failure c) (known c k) x) (into front' (failure c') (known c' k') y);
-      before = λ front front' bytes c k x y. ends.before front front' bytes c k (into front (piece bytes) (other bytes) x) (into front' (failure c) (known c k) y);
-      inside = λ front bytes part x y. ends.inside front bytes part (into front (piece bytes) (other bytes) x) (done part y);
-      exclusive = λ front part c k x y. ends.exclusive front part c k (into front (failure c) (known c k) x) (done part y);
-    }
+ends_as next next' writes writes' ends into done = grind (arith, common_steps)
 
 -- two writes in turn, the second with the length and the result of the first
 module _ {R : Type 0} (next : List ℕ → Step → Type 0) (writes : List ℕ → R → Type 0) (next' : ℕ → R → List ℕ → Step → Type 0) (writes' : ℕ → R → List ℕ → Type 0) where
@@ -67,14 +50,10 @@ module _ {R : Type 0} (next : List ℕ → Step → Type 0) (writes : List ℕ �
   module _ (one : (a b : List ℕ) (r q : R) → writes a r → writes b q → (length a ≡ length b) × (r ≡ q)) (first : Ends next (λ a. (r : R) × writes a r))
       (second : (a : List ℕ) (r : R) → writes a r → Ends (next' (length a) r) (writes' (length a) r)) where
     next_there : (a b : List ℕ) (r q : R) (rest : List ℕ) (step : Step) → writes a r → writes b q → next' (length b) q rest step → next' (length a) r rest step
-    next_there a b r q rest step m m' h =
-        let e = one a b r q m m' in
-        subst (λ n. next' n r rest step) (sym e.0) (subst (λ k. next' (length b) k rest step) (sym e.1) h)
+    next_there a b r q rest step m m' h = grind (arith, common_steps)
 
     writes_there : (a b : List ℕ) (r q : R) (rest : List ℕ) → writes a r → writes b q → writes' (length b) q rest → writes' (length a) r rest
-    writes_there a b r q rest m m' h =
-        let e = one a b r q m m' in
-        subst (λ n. writes' n r rest) (sym e.0) (subst (λ k. writes' (length b) k rest) (sym e.1) h)
+    writes_there a b r q rest m m' h = grind (arith, common_steps)
 
     then_unique : (front front' : List ℕ) (c c' : WriteFailure) → IsKnown c → IsKnown c' → ThenNext front (failure c) → ThenNext front' (failure c') → c ≡ c'
     then_unique front front' c c' k k' (inl x) (inl y) = first.unique front front' c c' k k' x y

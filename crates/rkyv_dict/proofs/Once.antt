@@ -1,7 +1,8 @@
 -- Pairs have one archive, and a validation has one outcome.
-use Rattle.std.proofs.Common.{◌≡◌, ℕ, ◌+◌, ◌-◌, ◌∙◌, refl, sym, ap, subst, arith, inl, inr, List, ◌++◌, length}
+use Rattle.std.proofs.Common.{◌≡◌, ℕ, ◌-◌, ◌∙◌, refl, sym, arith, inl, inr, List, length}
+use Rattle.std.proofs.lemmas.Grind.{common_steps}
 use Rattle.std.specs.Int.{w32}
-use Rattle.rkyv_base.specs.{AccessFails, ArchiveOf, ElementSpec, Format, IsArchiveWord, IsElement, IsValidArchive, ScalarRepresents, TextReads, padding, round_up, scalar_format, text_format, unsigned, zeros}
+use Rattle.rkyv_base.specs.{AccessFails, ArchiveOf, ElementSpec, Format, IsArchiveWord, IsElement, IsValidArchive, ScalarRepresents, TextReads, scalar_format, text_format, unsigned}
 use Rattle.rkyv_base.specs.Lemmas.Entry.{entry_element}
 use Rattle.rkyv_base.specs.Lemmas.Numbers.{unsigned_codes}
 use Rattle.rkyv_base.specs.Lemmas.Scalar.{scalar_element}
@@ -28,24 +29,11 @@ is_word Bits64 = inr refl
 -- ---- builds
 
 listed_one_way : {X R : Type 0} (most : ℕ) (factor : ℕ × ℕ) (f : Format (List X) R) → WritesOneWay f → WritesOneWay (listed most factor f)
-listed_one_way most factor f one = record {
-  parts = λ xs p a b r q g h. one.parts xs p a b r q g.1 h.1;
-  image = λ xs begin p part a b r m g h. one.image xs begin p part a b r m.1 g h;
-}
+listed_one_way most factor f one = grind (arith, common_steps)
 
 archives_one_way : {V R : Type 0} (limit : ℕ) (s : ElementSpec) (represents : List ℕ → ℕ → V → Type 0) (f : Format V R) → WritesOneWay f → (v : V) (a b : List ℕ)
     → ArchiveOf limit s represents f v a → ArchiveOf limit s represents f v b → a ≡ b
-archives_one_way limit s represents f one v a b x y =
-    let g = x.2 in
-    let h = y.2 in
-    let made = one.parts v 0 g.0 h.0 g.1 h.1 g.3 h.3 in
-    let there = round_up (0 + length g.0) s.align in
-    let moved = ap (λ (l : List ℕ). round_up (0 + length l) s.align) (sym made.0) in
-    let first = subst (λ n. f.image v g.1 n g.2) g.5 g.4 in
-    let second = subst (λ r. f.image v r there h.2) (sym made.1) (subst (λ n. f.image v h.1 n h.2) (h.5 ∙ moved) h.4) in
-    let out = one.image v 0 there g.0 g.2 h.2 g.1 g.3 first second in
-    g.6 ∙ ap (λ (l : List ℕ). l ++ (zeros (padding s.align (0 + length l)) ++ g.2)) made.0
-    ∙ ap (λ (l : List ℕ). h.0 ++ (zeros (padding s.align (0 + length h.0)) ++ l)) out ∙ sym h.6
+archives_one_way limit s represents f one v a b x y = grind (arith, common_steps)
 
 pub pairs_written_one_way : (k : MapTypes) {A R : Type 0} (factor : ℕ × ℕ) (most : ℕ) (format : Format A R) (calls : A → List HasherCall) → WritesOneWay format
     → WritesOneWay (pairs_format k factor most format calls)

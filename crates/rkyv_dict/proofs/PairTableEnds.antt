@@ -1,12 +1,13 @@
 -- The write of a table of pairs ends in one way.
-use Rattle.std.proofs.Common.{◌≡◌, ℕ, ◌<◌, ◌∙◌, refl, sym, ap, subst, arith, inl, inr, List, length, Option, None, Some, true, eqb, get_or}
-use Rattle.std.specs.Prelude.{slice_get, slice_index}
+use Rattle.std.proofs.Common.{◌≡◌, ℕ, ◌<◌, ◌∙◌, refl, sym, ap, subst, arith, inl, inr, List, length, Option, None, true, eqb, get_or}
+use Rattle.std.proofs.lemmas.Grind.{common_steps}
+use Rattle.std.specs.Prelude.{slice_get}
 use Rattle.std.specs.Int.{Width}
 use Rattle.std.specs.List.{list_any, position_or_len}
 use Rattle.std.proofs.lemmas.Bool.{cases_Bool, eqb-true}
-use Rattle.std.proofs.lemmas.List.{ext_get_or, length-map}
+use Rattle.std.proofs.lemmas.List.{ext_get_or}
 use Rattle.std.proofs.lemmas.List.Sums.{passes_at_first}
-use Rattle.std.proofs.lemmas.Option.{slice_get_within, unwrap_or-slice_get}
+use Rattle.std.proofs.lemmas.Option.{unwrap_or-slice_get}
 use Rattle.std.specs.Option.{unwrap_or}
 use Rattle.rkyv_base.specs.{ElementSpec, Format, Step, failure}
 use Rattle.rkyv_table.proofs.HomeList.{homes_one_list, written_one_list}
@@ -42,12 +43,7 @@ module _ {X : Type 0} (cap : ℕ) (xs : List ℕ) (items : List X) (ss ts : List
 -- the slots and controls depend only on the pairs
 module _ {X : Type 0} (cap : ℕ) (pairs : List (ℕ × X)) (ss ts : List (Option X)) (c d : List ℕ) (full : 0 < length pairs) (x : ArePlaced cap pairs ss c) (y : ArePlaced cap pairs ts d) where
   some_bucket : 0 < cap
-  some_bucket =
-      let n : length (items_of pairs) ≡ length pairs = length-map pairs (λ pair. pair.1) in
-      let one = item_below (items_of pairs) 0 (omega arith) in
-      let at = slice_get_within ss (slice_index x.homes 0) (Some one.0) (x.slotted.at 0 one.0 one.1) in
-      let count = x.slotted.count in
-      omega arith
+  some_bucket = grind (arith, common_steps)
 
   placed_one : (ss ≡ ts) × (c ≡ d)
   placed_one =

@@ -1,5 +1,6 @@
 -- A list of pairs is extended, and the archive of its first pairs is unchanged.
-use Rattle.std.proofs.Common.{◌≡◌, ℕ, ◌≤◌, Option, Some, None, refl, ap}
+use Rattle.std.proofs.Common.{arith, ◌≡◌, ℕ, ◌≤◌, Option, Some, None, refl, ap}
+use Rattle.std.proofs.lemmas.Grind.{common_steps}
 use Rattle.std.specs.Option.{ForSome, option_map}
 use Rattle.rkyv_dict.specs.declared.dict.Stored.{Stored}
 use Rattle.rkyv_dict.specs.declared.form.ArchiveWidth.{ArchiveWidth}
@@ -11,17 +12,8 @@ built_kept : (old new : Pairs) (most : ℕ) (built_len : Option ℕ) → ForSome
 built_kept old new most None h same = refl
 built_kept old new most (Some n) h same = ap Some (same n (h n refl))
 
-archive_kept : (old new : Pairs) (most : ℕ) (archive : Option Stored) → ForSome archive (λ a. ForSome a.built_len (λ n. n ≤ most))
-    → ((n : ℕ) → n ≤ most → take_pairs n new ≡ take_pairs n old)
-    → option_map (archived_of new) archive ≡ option_map (archived_of old) archive
-archive_kept old new most None h same = refl
-archive_kept old new most (Some stored) h same =
-    ap (λ (b : Option Pairs). Some (record { bytes = stored.bytes.items; built_of = b })) (built_kept old new most stored.built_len (h stored refl) same)
-
 pub pair_put : (bits : ArchiveWidth) (factor : ℕ × ℕ) (old new after : Pairs) (most : ℕ) (archive : Option Stored) → ForSome archive (λ a. ForSome a.built_len (λ n. n ≤ most))
     → ((n : ℕ) → n ≤ most → take_pairs n new ≡ take_pairs n old) → new ≡ after
     → ◌≡◌ {A = State} (record { bits = bits; load_factor = factor; pairs = new; archive = option_map (archived_of new) archive })
     (record { bits = bits; load_factor = factor; pairs = after; archive = option_map (archived_of old) archive })
-pair_put bits factor old new after most archive h same e =
-    let kept = archive_kept old new most archive h same in
-    λ i. record { bits = bits; load_factor = factor; pairs = e i; archive = kept i }
+pair_put bits factor old new after most archive h same e = grind (arith, common_steps)

@@ -1,5 +1,6 @@
 -- The write of a root fails with one error, except for allocation failures, or makes an archive.
-use Rattle.std.proofs.Common.{◌≡◌, ℕ, ◌+◌, ◌∙◌, refl, sym, ap, subst, arith, inl, inr, List, [], ◌++◌, length, append-nil}
+use Rattle.std.proofs.Common.{◌≡◌, ℕ, ◌+◌, refl, sym, ap, subst, arith, inl, inr, List, [], length, append-nil}
+use Rattle.std.proofs.lemmas.Grind.{common_steps}
 use Rattle.std.proofs.lemmas.List.{length-replicate}
 use Rattle.rkyv_base.specs.{ElementSpec, Format, RootBytes, RootNext, Step, failure, no_memory, padding, round_up}
 use Rattle.rkyv_table.specs.{WritesOneWay}
@@ -38,9 +39,7 @@ module _ {V R : Type 0} (s : ElementSpec) (f : Format V R) (one : WritesOneWay f
       inr (part, r, zs, made, inr (zs, tt, [], refl, (refl, inr (subst (λ n. f.overflow v r n) (rounded part) own.0, own.1)), sym (append-nil zs)), is)
 
   root_writes : (b : List ℕ) → ((root : ℕ) × RootBytes s.align f v p b root) → PartsThenWrites b
-  root_writes b (root, h) =
-      let zs = gap s.align p (length h.0) in
-      (h.0, h.1, zs ++ h.2, h.3, (zs, tt, h.2, refl, subst (λ n. f.image v h.1 n h.2) (h.5 ∙ rounded h.0) h.4, refl), h.6)
+  root_writes b (root, h) = grind (arith, common_steps)
 
   pub root_ends : Ends (RootNext s f v p) (λ b. (root : ℕ) × RootBytes s.align f v p b root)
   root_ends = ends_as PartsThenNext (RootNext s f v p) PartsThenWrites (λ b. (root : ℕ) × RootBytes s.align f v p b root) parts_then_ends root_next root_writes

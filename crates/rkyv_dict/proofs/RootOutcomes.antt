@@ -1,5 +1,6 @@
 -- The archive of a list is written, or its write fails with an error that isn't an allocation failure.
 use Rattle.std.proofs.Common.{◌≡◌, ℕ, refl, sym, arith, inl, inr, false, List, [], length, append-nil}
+use Rattle.std.proofs.lemmas.Grind.{common_steps}
 use Rattle.std.specs.Prelude.{◌⊎◌}
 use Rattle.std.proofs.lemmas.Bool.{cases_lt}
 use Rattle.rkyv_base.specs.declared.errors.WriteError.{WriteError}
@@ -14,13 +15,7 @@ use Rattle.rkyv_dict.specs.{is_allocation_failure}
 use Rattle.rkyv_dict.proofs.WriteOutcomes.{CanResolve, CanSerialize, append_outcome, capacity_reported, distance_reported, factor_reported}
 
 load_factor_or_not : (factor : ℕ × ℕ) → IsLoadFactor factor ⊎ (IsLoadFactor factor → ⊥)
-load_factor_or_not factor = elim (cases_lt 0 factor.0) [
-  | inr zero_above ↦ inr (λ h. let some = h.0 in omega arith)
-  | inl some ↦ elim (cases_lt factor.1 factor.0) [
-    | inl above ↦ inr (λ h. let below = h.1 in omega arith)
-    | inr below ↦ inl (some, below)
-  ]
-]
+load_factor_or_not factor = grind (arith, common_steps)
 
 -- the list is serialized if it has a capacity for which it is
 pub listed_serialized : {X R : Type 0} (limit most : ℕ) (factor : ℕ × ℕ) (f : Format (List X) R) (xs : List X) → (HasCapacity (length xs) factor most → CanSerialize limit f xs) → CanSerialize limit (listed most factor f) xs

@@ -1,12 +1,12 @@
 -- The root of an archive of a map, and its values.
-use Rattle.std.proofs.Common.{◌≡◌, ℕ, ◌+◌, refl, ap, ◌∙◌, List, Option, Some, None, IfSome}
+use Rattle.std.proofs.Common.{arith, ◌≡◌, ℕ, ◌+◌, refl, ap, ◌∙◌, List, Option, Some, None, IfSome}
+use Rattle.std.proofs.lemmas.Grind.{common_steps}
 use Rattle.std.specs.Borrow.{Bor}
 use Rattle.std.specs.Option.{option_map}
-use Rattle.std.proofs.lemmas.Option.{IfSome_then, same_Some}
+use Rattle.std.proofs.lemmas.Option.{same_Some}
 use Rattle.rkyv_base.specs.{IsAt, IsValidArchive, Viewable, bytes_of, pos_of, pos_of_found}
 use Rattle.rkyv_base.specs.Lemmas.Access.{root_viewable}
 use Rattle.rkyv_base.specs.declared.view.View.{View}
-use Rattle.rkyv_base.proofs.AtViews.{read_at}
 use Rattle.rkyv_keys.specs.{at_view}
 use Rattle.rkyv_dict.specs.{IsMapArchive, MapTypes, header_spec, root}
 
@@ -30,6 +30,4 @@ text_found text b off (Some v) (Some q) same e = ap Some (ap (λ a. text a v.pos
 pub text_read : {T V : Type 0} (text : List ℕ → ℕ → List ℕ) (off : ℕ) (v : View T) (archive : Bor (List ℕ)) (p : ℕ) → IsAt v archive p
     → (value : Option (View V)) → IfSome value (λ x. x.archive ≡ v.archive) → (key_pos : List ℕ → ℕ → Option ℕ)
     → pos_of_found value ≡ option_map (λ q. q + off) (key_pos (bytes_of v) (pos_of v)) → option_map (at_view text) value ≡ option_map (λ q. text archive.now (q + off)) (key_pos archive.now p)
-text_read text off v archive p at value same key_pos e =
-    let bytes : IfSome value (λ x. bytes_of x ≡ archive.now) = IfSome_then value same (λ x s. ap (λ (a : Bor (List ℕ)). a.now) (s ∙ at.0)) in
-    text_found text archive.now off value (key_pos archive.now p) bytes (e ∙ ap (option_map (λ q. q + off)) (read_at v archive p at key_pos))
+text_read text off v archive p at value same key_pos e = grind (arith, common_steps)

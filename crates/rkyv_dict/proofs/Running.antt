@@ -1,5 +1,6 @@
 -- Lines are executed in turn, and their output is written or buffered.
-use Rattle.std.proofs.Common.{◌≡◌, ℕ, List, [], ◌∷◌, ◌++◌, Option, refl, sym, ap, ◌∙◌, subst, append_assoc}
+use Rattle.std.proofs.Common.{arith, ◌≡◌, ℕ, List, [], ◌∷◌, ◌++◌, Option, refl, sym, ap, ◌∙◌, subst, append_assoc}
+use Rattle.std.proofs.lemmas.Grind.{common_steps}
 use Rattle.std.proofs.KnownBytes.{Appends-nil, Appends-trans}
 use Rattle.std.proofs.lemmas.List.{append-nil}
 use Rattle.rkyv_dict.specs.{AppendsBeginning, AppendsFront, AppendsProperBeginning, AppendsProperFront, AppendsSome, MovesFront, Progress, RunsTo, State, StepsLine, lines_of, start}
@@ -59,15 +60,7 @@ progress_moved old now next script buffered kept rest s p m = record {
 -- a prefix of the output of the executed lines is written
 progress_ends : (old now next : Option (List ℕ)) (script buffered : List ℕ) (rest : List (List ℕ)) (s : State)
     → (p : Progress old now script buffered rest s) → AppendsFront old next p.output → AppendsBeginning old next script
-progress_ends old now next script buffered rest s p front = record {
-  done = p.done;
-  rest = rest;
-  lines = p.lines;
-  output = p.output;
-  last = s;
-  runs = p.runs;
-  front = front;
-}
+progress_ends old now next script buffered rest s p front = grind (arith, common_steps)
 
 -- the run fails, and the buffered output isn't written
 pub progress_stopped : (old now : Option (List ℕ)) (script buffered : List ℕ) (rest : List (List ℕ)) (s : State)

@@ -1,5 +1,6 @@
 -- The write of a table ends in one way.
 use Rattle.std.proofs.Common.{◌≡◌, ℕ, ◌+◌, ◌*◌, ◌∙◌, refl, sym, ap, subst, arith, inl, inr, List, [], ◌++◌, length, Option, append-nil, append_assoc, length-append}
+use Rattle.std.proofs.lemmas.Grind.{common_steps}
 use Rattle.std.proofs.lemmas.List.{length-replicate}
 use Rattle.rkyv_base.specs.{ElementSpec, Format, Step, padding, piece, zeros}
 use Rattle.rkyv_table.proofs.PartSteps.{parts_filled}
@@ -22,12 +23,7 @@ module _ (align p : ℕ) (next : ℕ → List ℕ → Step → Type 0) (made : �
   AlignedWrites = ThenWrites {R = Unit {0}} (λ front step. (front ≡ []) × (step ≡ piece (gap align p n))) (λ a u. a ≡ gap align p n) (λ m u. next (p + n + m)) (λ m u. made (p + n + m))
 
   pub aligned_ends : ((q : ℕ) → Ends (next q) (made q)) → Ends AlignedNext AlignedWrites
-  aligned_ends rule =
-      then_ends {R = Unit {0}} (λ front step. (front ≡ []) × (step ≡ piece (gap align p n))) (λ a u. a ≡ gap align p n) (λ m u. next (p + n + m)) (λ m u. made (p + n + m))
-      (λ a b u u' m m'. (ap length (m ∙ sym m'), refl))
-      (ends_as (λ front step. (front ≡ []) × (step ≡ piece (gap align p n))) (λ front step. (front ≡ []) × (step ≡ piece (gap align p n))) (λ a. a ≡ gap align p n) (λ a. (u : Unit {0}) × (a ≡ gap align p n))
-      (ends_by_piece (gap align p n)) (λ front step known h. h) (λ part h. h.1))
-      (λ a u m. rule (p + n + length a))
+  aligned_ends rule = grind (arith, common_steps)
 
 module _ {X R : Type 0} (s : ElementSpec) (f : Format X R) (one : WritesOneWay f) (ends : EndsOneWay f)
     (whole : (x : X) (r : R) (p : ℕ) (out : List ℕ) → f.image x r p out → length out ≡ s.size)

@@ -1,10 +1,10 @@
 -- Bytes are valid, or have a first fault.
-use Rattle.std.proofs.Common.{◌≡◌, ℕ, zero, suc, ℤ, pos, negsuc, ◌+◌, ◌*◌, ◌-◌, ◌%◌, ◌<◌, ◌≤◌, refl, sym, subst, arith, inl, inr, List, [], ◌∷◌, length, slice_index, slice_range}
+use Rattle.std.proofs.Common.{◌≡◌, ℕ, zero, suc, ℤ, pos, negsuc, ◌+◌, ◌*◌, ◌-◌, ◌%◌, ◌<◌, ◌≤◌, refl, sym, subst, arith, inl, inr, List, [], ◌∷◌, length, slice_range}
+use Rattle.std.proofs.lemmas.Grind.{common_steps}
 use Rattle.std.specs.Prelude.{◌⊎◌}
 use Rattle.std.specs.Int.{Width, w32}
 use Rattle.std.specs.Str.{is_utf8}
 use Rattle.std.proofs.lemmas.Bool.{both_ways, cases_Bool, cases_eq, cases_lt}
-use Rattle.std.proofs.lemmas.Grind.{common_steps}
 use Rattle.std.proofs.lemmas.Int.{ints}
 use Rattle.std.proofs.lemmas.Str.{IsUtf8-from_is_utf8, is_utf8-from_IsUtf8}
 use Rattle.rkyv_base.specs.declared.errors.VerifyError.{VerifyError}
@@ -89,16 +89,7 @@ items_decided s at b one hi (i ∷ is) lo = elim (one (at i) lo hi) [
 
 module _ (cap : ℕ) (controls : List ℕ) where
   wrapped_or_not : (q : ℕ) → IsWrappedAt cap controls q ⊎ (IsWrappedAt cap controls q → ⊥)
-  wrapped_or_not q = elim (cases_lt q (2 * cap)) [
-    | inl below ↦ elim (cases_eq (slice_index controls q) (slice_index controls (q - cap))) [
-      | inl same ↦ inl (λ l. same, λ g. absurd (omega arith))
-      | inr other ↦ inr (λ h. other (h.0 below))
-    ]
-    | inr above ↦ elim (cases_lt (slice_index controls q) 128) [
-      | inl full ↦ inr (λ h. let empty = h.1 above in omega arith)
-      | inr empty ↦ inl (λ l. absurd (omega arith), λ g. empty)
-    ]
-  ]
+  wrapped_or_not q = grind (arith, common_steps)
 
   -- the first control byte from `cap` on and below `cap + n` that is not as it must be, if any
   first_unwrapped : (n : ℕ) → ((q : ℕ) → cap ≤ q → q < cap + n → IsWrappedAt cap controls q)

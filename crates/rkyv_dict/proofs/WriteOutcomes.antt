@@ -1,12 +1,12 @@
 -- Each value is written, or its write fails with an error that isn't an allocation failure.
-use Rattle.std.proofs.Common.{◌≡◌, ℕ, ℤ, pos, ◌-ℤ◌, ◌+◌, ◌<◌, ◌≤◌, ◌^◌, refl, sym, arith, inl, inr, false, List, [], ◌++◌, length, append-nil, length-append}
+use Rattle.std.proofs.Common.{◌≡◌, ℕ, ℤ, pos, ◌-ℤ◌, ◌+◌, ◌<◌, ◌^◌, refl, sym, arith, inl, inr, false, List, [], ◌++◌, length, append-nil, length-append}
+use Rattle.std.proofs.lemmas.Grind.{common_steps}
 use Rattle.std.specs.Prelude.{◌⊎◌, FitsSigned}
 use Rattle.std.specs.Int.{Width, to_le_bytes}
 use Rattle.std.specs.Str.{IsUtf8}
 use Rattle.std.proofs.lemmas.Bool.{cases_lt}
 use Rattle.std.proofs.lemmas.List.{length-replicate}
-use mir.Val.{bits, hbits}
-use lib.Signed.{mag}
+use mir.Val.{bits}
 use Rattle.rkyv_base.specs.declared.errors.WriteError.{WriteError}
 use Rattle.rkyv_base.specs.declared.errors.WriteError.TheVariants.{CapacityTooLarge, DistanceTooLarge, InvalidLoadFactor, PositionTooLarge, TextTooLong}
 use Rattle.rkyv_base.specs.declared.pairs.EntryResolver.{EntryResolver}
@@ -56,14 +56,8 @@ append_outcome limit bytes o = elim (cases_lt limit (end_of o + length bytes)) [
   | inr fits ↦ inl (record { start = o.start; bytes = o.bytes ++ bytes; failures = o.failures }, (record { start = refl; bytes = refl; failures = refl }, omega (arith, fits, length-append o.bytes bytes)))
 ]
 
-not_below : (a b : ℕ) → a < b → b ≤ a → ⊥
-not_below a b h k = omega arith
-
 pub fits_or_not : (w : Width) (z : ℤ) → FitsSigned w z ⊎ (FitsSigned w z → ⊥)
-fits_or_not w z = elim (cases_lt (mag z) (2 ^ hbits w)) [
-  | inl h ↦ inl (record { sfits = h })
-  | inr h ↦ inr (λ f. not_below (mag z) (2 ^ hbits w) f.sfits h)
-]
+fits_or_not w z = grind (arith, common_steps)
 
 -- ---- values
 
