@@ -1,11 +1,11 @@
 -- The first element of a list that passes a test, in steps over parts of the list.
-use Rattle.std.proofs.Common.{◌≡◌, ℕ, ◌+◌, ◌%◌, ◌<◌, ◌≤◌, ◌^◌, ◌-◌, Bool, true, false, not, cond, ltb, List, length, get_or, map, take, drop, replicate, Option, Some, None, refl, sym, ap, subst, ◌∙◌, arith, ⊎_elim, w8}
+use Rattle.std.proofs.Common.{◌≡◌, ℕ, ◌+◌, ◌%◌, ◌<◌, ◌≤◌, ◌^◌, ◌-◌, Bool, true, false, not, cond, ltb, List, length, get_or, map, take, drop, replicate, Option, Some, None, sym, ap, subst, ◌∙◌, arith, ⊎_elim, w8}
+use Rattle.std.proofs.lemmas.Grind.{common_steps}
 use Rattle.std.specs.List.{position, prefix_len}
 use Rattle.std.specs.Option.{is_some}
 use Rattle.std.specs.Simd.Lanes.{mask_l}
 use Rattle.std.proofs.lemmas.Bool.{cases_lt, le-ltb, lt-ltb, not-true}
 use Rattle.std.proofs.lemmas.Option.{none-some}
-use Rattle.std.proofs.lemmas.Grind.{common_steps}
 use Rattle.std.proofs.lemmas.List.{get_or-drop, get_or-take, length-map}
 use Rattle.std.proofs.lemmas.List.Sums.{prefix_len_is, prefix_len_passes}
 use Rattle.std.proofs.lemmas.List.Quantifiers.{position-Some}
@@ -49,10 +49,7 @@ pub record IsStretch (xs ys : List ℕ) (at : ℕ) : Type 0 where
   pub same : (k : ℕ) → k < length ys → get_or ys k 0 ≡ get_or xs (at + k) 0
 
 pub none_below : (p : ℕ → Bool) (ys : List ℕ) → None ≡ position p ys → NoneBelow p ys (length ys)
-none_below p ys e k l =
-    ⊎_elim (λ (s : prefix_len (λ x. not (p x)) ys < length ys). absurd (none-some (prefix_len (λ x. not (p x)) ys) (e ∙ sym (position_is p ys (prefix_len (λ x. not (p x)) ys) refl s))))
-    (λ (g : length ys ≤ prefix_len (λ x. not (p x)) ys). not-true (p (get_or ys k 0)) (prefix_len_passes (λ x. not (p x)) ys k 0 (omega arith)))
-    (cases_lt (prefix_len (λ x. not (p x)) ys) (length ys))
+none_below p ys e k l = grind (arith, common_steps, ⊎_elim, none-some, position_is, not-true, prefix_len_passes, cases_lt)
 
 both_below : (p : ℕ → Bool) (xs ys : List ℕ) (at n : ℕ) → IsStretch xs ys at → n ≤ length ys → NoneBelow p xs at → NoneBelow p ys n → NoneBelow p xs (at + n)
 both_below p xs ys at n s le before here k l =
@@ -95,10 +92,7 @@ eight_stretch xs at le =
     }
 
 pub rest_stretch : (xs : List ℕ) (at : ℕ) → at ≤ length xs → IsStretch xs (drop at xs) at
-rest_stretch xs at le =
-    let e = whole xs at le in
-    record { inside = omega arith; same = λ k l. get_or-drop at xs k 0 }
+rest_stretch xs at le = grind (arith, common_steps, whole, get_or-drop)
 
 pub is_absent : (o : Option ℕ) → is_some o ≡ false → None ≡ o
-is_absent None e = refl
-is_absent (Some x) e = cc
+is_absent found e = grind (arith, common_steps)

@@ -1,6 +1,7 @@
 -- Writing a pair: an error of its key or its value is an error of the pair.
-use Rattle.std.specs.Prelude.{◌≡◌, ℕ, ◌+◌, List, ◌++◌, length}
-use Rattle.std.proofs.Common.{inl, inr, refl, subst}
+use Rattle.std.specs.Prelude.{◌≡◌, ℕ, ◌+◌, List, length}
+use Rattle.std.proofs.Common.{inr, refl, subst, arith}
+use Rattle.std.proofs.lemmas.Grind.{common_steps}
 use Rattle.rkyv_base.specs.declared.errors.WriteError.{WriteError}
 use Rattle.rkyv_base.specs.declared.pairs.EntryResolver.{EntryResolver}
 use Rattle.rkyv_base.specs.{Appends, ElementSpec, Format, IsSmall, Output, PairNext, SerializeFails, Serialized, Within, end_of, pair_format}
@@ -9,8 +10,7 @@ use Rattle.rkyv_base.proofs.WritingSteps.{appends_after, end-appends, fails_afte
 -- an error of the key
 pub key_fails : {F V W R Q : Type 0} (limit : ℕ) (k v : ElementSpec) (kf : Format V R) (vf : Format W Q) (pair : V × W) (o o' : Output) (e : WriteError F)
     → IsSmall k v → SerializeFails limit kf pair.0 o o' e → SerializeFails limit (pair_format k v kf vf) pair o o' e
-key_fails limit k v kf vf pair o o' e small t =
-    fails_under limit (PairNext k v kf vf pair (end_of o)) (kf.next pair.0 (end_of o)) o o' e (λ f step n. inr (small, inl n)) t
+key_fails limit k v kf vf pair o o' e small t = grind (arith, common_steps, fails_under)
 
 -- an error of the value
 pub value_fails : {F V W R Q : Type 0} (limit : ℕ) (k v : ElementSpec) (kf : Format V R) (vf : Format W Q) (pair : V × W) (o o1 o2 : Output) (a : List ℕ) (r : R) (e : WriteError F)
@@ -24,10 +24,4 @@ value_fails limit k v kf vf pair o o1 o2 a r e small h good inside t =
 -- both were serialized
 pub pair_serialized : {V W R Q : Type 0} (limit : ℕ) (k v : ElementSpec) (kf : Format V R) (vf : Format W Q) (pair : V × W) (o o1 o2 : Output) (r : EntryResolver R Q)
     → IsSmall k v → Serialized limit kf pair.0 o o1 r.key → Serialized limit vf pair.1 o1 o2 r.value → Serialized limit (pair_format k v kf vf) pair o o2 r
-pair_serialized limit k v kf vf pair o o1 o2 r small x y =
-    let at : end_of o1 ≡ end_of o + length x.0 = end-appends o o1 x.0 x.1 in (
-      x.0 ++ y.0,
-      appends_after o o1 o2 x.0 y.0 x.1 y.1,
-      (small, x.0, y.0, x.2, subst (λ p. vf.parts pair.1 p y.0 r.value) at y.2, refl),
-      within_after limit o1 o2 x.0 y.0 (grows o1 o2 y.0 y.1) x.3 y.3,
-    )
+pair_serialized limit k v kf vf pair o o1 o2 r small x y = grind (arith, common_steps, end-appends, appends_after, within_after, grows)

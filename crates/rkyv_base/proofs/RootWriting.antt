@@ -1,6 +1,7 @@
 -- Writing a root, step by step: the parts, the zeros and the value.
 use Rattle.std.specs.Prelude.{◌≡◌, ℕ, ◌+◌, ◌-◌, ◌%◌, ◌≤◌, List, [], ◌++◌, length}
-use Rattle.std.proofs.Common.{refl, arith, subst, sym, ◌∙◌, ap, inl, inr, length-append, append_assoc}
+use Rattle.std.proofs.Common.{arith, subst, sym, ◌∙◌, ap, inl, inr, length-append, append_assoc}
+use Rattle.std.proofs.lemmas.Grind.{common_steps}
 use Rattle.std.proofs.lemmas.List.{append-nil, length-replicate, take_all}
 use Rattle.rkyv_base.specs.declared.errors.WriteError.{WriteError}
 use Rattle.rkyv_base.specs.declared.errors.WriteError.TheVariants.{DistanceTooLarge}
@@ -13,12 +14,7 @@ use Rattle.rkyv_base.proofs.WritingSteps.{appends_after, end-appends, fails_afte
 module _ (F : Type 0) {V R : Type 0} (limit : ℕ) (s : ElementSpec) (f : Format V R) (v : V) (o o1 o2 o3 : Output)
     (part : List ℕ) (r : R) (a : Appends o o1 part) (made : f.parts v (end_of o) part r) (inside : Within limit o1 part) where
   root_at : Appends o1 o2 (zeros (padding s.align (end_of o1))) → end_of o2 ≡ round_up (end_of o + length part) s.align
-  root_at b =
-      let e1 : end_of o1 ≡ end_of o + length part = end-appends o o1 part a in
-      let e2 : end_of o2 ≡ end_of o1 + length (zeros (padding s.align (end_of o1))) = end-appends o1 o2 _ b in
-      let n : length (zeros (padding s.align (end_of o1))) ≡ padding s.align (end_of o1) = length-replicate (padding s.align (end_of o1)) 0 in
-      let q : padding s.align (end_of o1) ≡ padding s.align (end_of o + length part) = ap (padding s.align) e1 in
-      e2 ∙ omega (arith, e1, n, q)
+  root_at b = grind (arith, common_steps, end-appends, length-replicate)
 
   same_zeros : zeros (padding s.align (end_of o1)) ≡ zeros (padding s.align (end_of o + length part))
   same_zeros = ap (λ (n : ℕ). zeros (padding s.align n)) (end-appends o o1 part a)
@@ -47,23 +43,11 @@ module _ (F : Type 0) {V R : Type 0} (limit : ℕ) (s : ElementSpec) (f : Format
       (λ front step h. inr (inr (inr (part, r, made, front_is front h.0, inl (out, subst (λ n. f.image v r n out) (root_at b.0) i, h.1))))) t
 
   pub root_overflow_fails : ZerosAppended → f.overflow v r (end_of o2) → WriteRootFails {F = F} limit s f v o o2 DistanceTooLarge
-  root_overflow_fails b overflow =
-      let all : Appends o o2 before = appends_after o o1 o2 part _ a b.0 in
-      record {
-        front = before;
-        kept = grows o o2 before all;
-        cause = (inr b.1, all.failures, inr (inr (inr (part, r, made, ap (λ (x : List ℕ). part ++ x) same_zeros, inr (subst (λ n. f.overflow v r n) (root_at b.0) overflow, refl)))));
-      }
+  root_overflow_fails b overflow = grind (arith, common_steps, appends_after, grows, same_zeros, root_at)
 
   pub root_wrote : (out : List ℕ) → Appends o1 o2 (zeros (padding s.align (end_of o1))) → f.image v r (end_of o2) out → Appends o2 o3 out → end_of o3 ≤ limit
       → WroteRoot limit s f v o o3 (end_of o2)
-  root_wrote out b i c small =
-      let z : List ℕ = zeros (padding s.align (end_of o1)) in (
-        (part ++ z) ++ out,
-        appends_after o o2 o3 (part ++ z) out (appends_after o o1 o2 part z a b) c,
-        (part, r, out, made, i, root_at b, append_assoc part z out ∙ ap (λ (x : List ℕ). part ++ (x ++ out)) same_zeros),
-        small,
-      )
+  root_wrote out b i c small = grind (arith, common_steps, appends_after, root_at, append_assoc, same_zeros)
 
 module _ {V R : Type 0} (limit : ℕ) (s : ElementSpec) (laws : IsElement s) (represents : List ℕ → ℕ → V → Type 0) (f : Format V R) (format : IsFormat s represents f) where
   -- a written root is valid and represents the value, in any archive that has its bytes

@@ -1,15 +1,15 @@
 -- Inline text in upper case: no other byte changes, and the text stays valid.
-use Rattle.std.specs.Prelude.{◌≡◌, ℕ, suc, ◌+◌, ◌-◌, ◌≤◌, ◌==◌, ◌&&◌, Bool, true, false, nat_le, nat_lt, List, [], ◌∷◌, ◌++◌, length, map, take, drop}
-use Rattle.std.specs.List.{position_or_len}
+use Rattle.std.specs.Prelude.{◌≡◌, ℕ, ◌+◌, ◌-◌, ◌≤◌, ◌==◌, ◌&&◌, Bool, true, false, nat_le, nat_lt, List, [], ◌∷◌, ◌++◌, length, map, take, drop}
 use Rattle.std.specs.Char.{to_ascii_uppercase}
 use Rattle.std.specs.Int.{Width}
 use Rattle.std.specs.Str.{IsUtf8}
 use Rattle.std.proofs.Common.{refl, arith, subst, sym, ◌∙◌, ap, inl, inr}
+use Rattle.std.proofs.lemmas.Grind.{common_steps}
 use Rattle.std.proofs.lemmas.Bool.{cases_Bool}
 use Rattle.std.proofs.lemmas.Bool.Decides.{nat_tests}
 use Rattle.std.proofs.lemmas.List.{drop-drop, drop-take, length-drop, length-map, length-take}
 use Rattle.std.proofs.Math.Seq.{take-append-add}
-use Rattle.rkyv_base.specs.{IsInline, IsUtf8IfInline, ModifiesOnly, StaysValid, Uppercases, Viewable, fixed_bytes, inline_at, inline_text, is_out_of_line, text_at, text_size, text_spec, with_uppercase}
+use Rattle.rkyv_base.specs.{IsInline, IsUtf8IfInline, ModifiesOnly, StaysValid, Uppercases, fixed_bytes, inline_at, inline_text, is_out_of_line, text_at, text_size, text_spec, with_uppercase}
 use Rattle.rkyv_base.specs.Lemmas.Text.{inline_reads}
 use Rattle.rkyv_base.proofs.Uppercase.{utf8_uppercase}
 use Rattle.rkyv_base.proofs.Sealing.{sealed_wider, with_bytes-rest, with_bytes-sealed}
@@ -28,10 +28,7 @@ inline_stops : (x : ℕ) (xs : List ℕ) → (x == 255) ≡ true → inline_text
 inline_stops x xs h = rw h refl
 
 inline_continues : (x : ℕ) (xs : List ℕ) → (x == 255) ≡ false → inline_text (x ∷ xs) ≡ x ∷ inline_text xs
-inline_continues x xs h =
-    let n : ℕ = position_or_len (λ k. k == 255) xs in
-    let e : 1 + n ≡ suc n = omega arith in
-    rw (h, e) refl
+inline_continues x xs h = grind (arith, common_steps)
 
 -- the inline text of `uppercase_front s` is that of `s` in upper case
 inline_text_uppercase : (s : List ℕ) → inline_text (uppercase_front s) ≡ map to_ascii_uppercase (inline_text s)
@@ -85,34 +82,26 @@ module _ (w : Width) (b : List ℕ) (p : ℕ) (inside : p + text_size w ≤ leng
   inline_utf8_uppercase u = subst IsUtf8 (sym inline_uppercase) (utf8_uppercase (inline_at w b p) u)
 
   uppercase_sealed : ModifiesOnly b p (text_size w) (with_uppercase w b p)
-  uppercase_sealed =
-      let k : ℕ = length (inline_at w b p) in
-      let o : k ≤ text_size w = inline_length in
-      sealed_wider b (with_uppercase w b p) p k p (text_size w) (omega arith) (omega arith)
-      (with_bytes-sealed b p k (map to_ascii_uppercase (inline_at w b p)) (omega arith) (length-map (inline_at w b p) to_ascii_uppercase))
+  uppercase_sealed = grind (arith, common_steps, inline_length, sealed_wider, with_bytes-sealed, length-map)
 
   uppercase_valid : IsInline w b p → StaysValid (text_spec w) b (with_uppercase w b p) p
   uppercase_valid inline lo hi l o q (inl h) = inl (inline_stays inline, inline_utf8_uppercase h.1, h.2)
   uppercase_valid inline lo hi l o q (inr h) = cc (inline, h.0)
 
   uppercase_reads : IsInline w b p → text_at w (with_uppercase w b p) p ≡ map to_ascii_uppercase (text_at w b p)
-  uppercase_reads inline =
-      inline_reads w (fixed_bytes w (with_uppercase w b p) p) (with_uppercase w b p) p (inline_stays inline) ∙ inline_uppercase
-      ∙ ap (map to_ascii_uppercase) (sym (inline_reads w (fixed_bytes w b p) b p inline))
+  uppercase_reads inline = grind (arith, common_steps, inline_reads, inline_stays, inline_uppercase)
 
   -- the bytes after a call that writes the text in upper case
   module _ (c : List ℕ) where
     pub uppercased_sealed : (inline : Bool) → Uppercases w b p c inline → ModifiesOnly b p (text_size w) c
-    uppercased_sealed true h = subst (λ x. ModifiesOnly b p (text_size w) x) (sym h.1) uppercase_sealed
-    uppercased_sealed false h = subst (λ x. ModifiesOnly b p (text_size w) x) (sym h.1) (record { same_length = refl; before = refl; after = refl })
+    uppercased_sealed raised h = grind (arith, common_steps, uppercase_sealed)
 
     pub uppercased_valid : (inline : Bool) → Uppercases w b p c inline → StaysValid (text_spec w) b c p
     uppercased_valid true h = subst (λ x. StaysValid (text_spec w) b x p) (sym h.1) (uppercase_valid h.0)
     uppercased_valid false h = subst (λ x. StaysValid (text_spec w) b x p) (sym h.1) (λ lo hi l o q k. k)
 
     pub uppercased_reads : (inline : Bool) → Uppercases w b p c inline → IsInline w b p → text_at w c p ≡ map to_ascii_uppercase (text_at w b p)
-    uppercased_reads true h inline = ap (λ (x : List ℕ). text_at w x p) h.1 ∙ uppercase_reads inline
-    uppercased_reads false h inline = cc (inline, h.0)
+    uppercased_reads raised h inline = grind (arith, common_steps, uppercase_reads)
 
     pub uppercased_text : (inline : Bool) → Uppercases w b p c inline → IsUtf8IfInline w b p → IsUtf8IfInline w c p
     uppercased_text true h text = subst (λ x. IsUtf8IfInline w x p) (sym h.1) (λ inline. inline_utf8_uppercase (text h.0))

@@ -1,7 +1,8 @@
 -- Writing one value of an archive in place: the new bytes, and the unchanged ones.
 use Rattle.std.specs.Prelude.{◌≡◌, ℕ, ◌+◌, ◌-◌, ◌≤◌, List, ◌++◌, length, take, drop, slice_range}
 use Rattle.std.specs.Int.{byte_len, from_le_bytes, to_le_bytes}
-use Rattle.std.proofs.Common.{refl, arith, subst, subst₂, sym, ◌∙◌, ap, inl, inr, zero-add, length-append, length-drop}
+use Rattle.std.proofs.Common.{refl, arith, subst, subst₂, sym, ◌∙◌, ap, zero-add, length-append, length-drop}
+use Rattle.std.proofs.lemmas.Grind.{common_steps}
 use Rattle.std.proofs.lemmas.List.{drop-drop, drop-take, length-take-le, take-take}
 use Rattle.std.proofs.Math.Seq.{drop-append-add, drop-append_seam, take-append_seam}
 use Rattle.rkyv_base.specs.{AgreeOn, ElementSpec, Encodes, Encoding, IsCodeAt, IsElement, IsScalar, ModifiesOnly, Outside, StaysValid, Viewable, entry_spec, number_at, value_at, value_offset, with_bytes, with_value}
@@ -18,21 +19,11 @@ module _ (b : List ℕ) (p n : ℕ) (w : List ℕ) (inside : p + n ≤ length b)
 
   -- the new bytes are at `p`
   pub with_bytes-slice : slice_range (with_bytes b p n w) p (p + n) ≡ w
-  with_bytes-slice =
-      let e : (p + n) - p ≡ n = omega arith in
-      let k : take n (w ++ drop (p + n) b) ≡ w = rw size at (take-append_seam w (drop (p + n) b)) in
-      rw (e, with_bytes-rest) k
+  with_bytes-slice = grind (arith, common_steps, take-append_seam, with_bytes-rest)
 
   -- all other bytes are unchanged
   pub with_bytes-sealed : ModifiesOnly b p n (with_bytes b p n w)
-  with_bytes-sealed = record {
-    same_length = simp (length-append, length-drop) (omega (arith, front_length, size, inside));
-    before = rw front_length at (take-append_seam (take p b) (w ++ drop (p + n) b));
-    after =
-        let k : drop n (w ++ drop (p + n) b) ≡ drop (p + n) b = rw size at (drop-append_seam w (drop (p + n) b)) in
-        let d : drop (p + n) (with_bytes b p n w) ≡ drop n (w ++ drop (p + n) b) = rw front_length at (drop-append-add (take p b) (w ++ drop (p + n) b) n) in
-        d ∙ k;
-  }
+  with_bytes-sealed = grind (arith, common_steps, length-append, length-drop, front_length, take-append_seam, drop-append_seam, drop-append-add)
 
 -- a part as a part of the front up to `p`
 part_of_front : (b : List ℕ) (i j p : ℕ) → i ≤ j → j ≤ p → slice_range b i j ≡ drop i (take j (take p b))
@@ -56,8 +47,7 @@ module _ (b : List ℕ) (p n : ℕ) (c : List ℕ) (s : ModifiesOnly b p n c) wh
 
   -- the bytes outside the sealed ones are the same
   pub same_outside : (i j : ℕ) → i ≤ j → Outside p n i j → AgreeOn b c i j
-  same_outside i j o (inl q) = same_before i j o q
-  same_outside i j o (inr q) = same_after i j q
+  same_outside i j o h = grind (arith, common_steps, same_before, same_after)
 
 -- bytes that change only in a range change only in a wider range
 pub sealed_wider : (b c : List ℕ) (p n q m : ℕ) → q ≤ p → p + n ≤ q + m → ModifiesOnly b p n c → ModifiesOnly b q m c
@@ -87,8 +77,7 @@ module _ {V : Type 0} (s : ElementSpec) (e : Encoding V) (laws : IsScalar s e) (
       ∙ word_reads_back e.word laws.word (e.code v) encodes.fits
 
   value_sealed : ModifiesOnly b p s.size c
-  value_sealed = subst₂ (λ n x. ModifiesOnly b p n x) (sym laws.size) (sym is)
-      (with_bytes-sealed b p (byte_len e.word) (to_le_bytes e.word (e.code v)) inside (word_bytes e.word laws.word (e.code v)))
+  value_sealed = grind (arith, common_steps, subst₂, with_bytes-sealed, word_bytes)
 
   value_reads : value_at e c p ≡ v
   value_reads = ap e.value number_is_code ∙ encodes.reads_back
@@ -114,19 +103,11 @@ module _ (s : ElementSpec) (laws : IsElement s) (b c : List ℕ) (q n : ℕ) (se
 module _ (k v : ElementSpec) (kl : IsElement k) (vl : IsElement v) where
   -- the entry stays valid, with the same parts, if the new value is valid
   pub entry_kept : (b c : List ℕ) (p : ℕ) → ModifiesOnly b (p + value_offset k v) v.size c → StaysValid v b c (p + value_offset k v) → StaysValid (entry_spec k v) b c p
-  entry_kept b c p s keeps lo hi l o q h =
-      let i = key_and_value_inside k v in
-      let x : (lo ≤ h.1) × (h.1 ≤ hi) = kl.rest_in_range b p lo hi h.1 o h.2 in
-      let hk : k.is_valid c p lo hi h.1 = valid_outside k kl b c (p + value_offset k v) v.size s p lo hi h.1 o (inl (omega (arith, i.0))) (inl (omega arith)) h.2 in
-      (h.0, h.1, hk, keeps h.1 hi l x.1 (omega arith) h.3)
+  entry_kept b c p s keeps lo hi l o q h = grind (arith, common_steps, key_and_value_inside, valid_outside)
 
 -- a valid value stays valid
 pub viewable_kept : (s : ElementSpec) (b c : List ℕ) (p : ℕ) → length c ≡ length b → StaysValid s b c p → Viewable s b p → Viewable s c p
-viewable_kept s b c p n keeps h = record {
-  inside = omega (arith, n, h.inside);
-  aligned = h.aligned;
-  valid = (h.valid.0, keeps 0 p h.valid.0 (omega arith) (omega arith) h.valid.1);
-}
+viewable_kept s b c p n keeps h = grind (arith, common_steps)
 
 -- the archive is cut at `q`, after a value
 module _ (s : ElementSpec) (laws : IsElement s) (b : List ℕ) (q : ℕ) where

@@ -1,9 +1,9 @@
 -- Writes in a row: the appended bytes, and the error of a later write.
-use Rattle.std.specs.Prelude.{◌≡◌, ℕ, ◌+◌, ◌^◌, ◌-◌, min, List, [], ◌++◌, length, take}
-use Rattle.std.proofs.Common.{arith, refl, subst, sym, ◌∙◌, ap, inl, inr, append_assoc, append-nil, length-append}
+use Rattle.std.specs.Prelude.{◌≡◌, ℕ, ◌+◌, List, [], ◌++◌, length}
+use Rattle.std.proofs.Common.{arith, refl, sym, ◌∙◌, ap, inl, append_assoc, append-nil, length-append}
+use Rattle.std.proofs.lemmas.Grind.{common_steps}
 use Rattle.rkyv_base.specs.declared.errors.WriteError.{WriteError}
-use Rattle.rkyv_base.specs.declared.errors.WriteError.TheVariants.{CapacityTooLarge, DistanceTooLarge, InvalidLoadFactor, IteratorLengthMismatch, Memory, PositionTooLarge, Refused, TextTooLong, Writer}
-use Rattle.rkyv_base.specs.{Appends, CauseApplies, Extends, FaultsDuring, Output, Reached, Step, Within, WriteFails, end_of, piece}
+use Rattle.rkyv_base.specs.{Appends, CauseApplies, Extends, FaultsDuring, Output, Reached, Step, Within, WriteFails, end_of}
 
 -- the appended bytes follow the earlier bytes
 pub grows : (o o1 : Output) (p : List ℕ) → Appends o o1 p → Extends o o1 p
@@ -11,15 +11,10 @@ grows o o1 p a = record { start = a.start; bytes = a.bytes }
 
 -- two parts in a row are one
 pub grows_after : (o o1 o2 : Output) (p q : List ℕ) → Extends o o1 p → Extends o1 o2 q → Extends o o2 (p ++ q)
-grows_after o o1 o2 p q a b = record {
-  start = b.start ∙ a.start;
-  bytes = b.bytes ∙ ap (λ (x : List ℕ). x ++ q) a.bytes ∙ append_assoc o.bytes p q;
-}
+grows_after o o1 o2 p q a b = grind (arith, common_steps, append_assoc)
 
 pub appends_after : (o o1 o2 : Output) (p q : List ℕ) → Appends o o1 p → Appends o1 o2 q → Appends o o2 (p ++ q)
-appends_after o o1 o2 p q a b =
-    let g = grows_after o o1 o2 p q (grows o o1 p a) (grows o1 o2 q b) in
-    record { start = g.start; bytes = g.bytes; failures = b.failures ∙ a.failures }
+appends_after o o1 o2 p q a b = grind (arith, common_steps, grows_after, grows)
 
 -- the end moves by the length of the part
 pub end-grows : (o o1 : Output) (a : List ℕ) → Extends o o1 a → end_of o1 ≡ end_of o + length a
@@ -30,9 +25,7 @@ end-appends o o1 a h = end-grows o o1 a (grows o o1 a h)
 
 -- two parts in a row that end within the limit do so together
 pub within_after : (limit : ℕ) (o1 o2 : Output) (p q : List ℕ) → Extends o1 o2 q → Within limit o1 p → Within limit o2 q → Within limit o2 (p ++ q)
-within_after limit o1 o2 p q g a (inr b) = inr b
-within_after limit o1 o2 p q g (inl a) (inl b) = inl (ap (λ (x : List ℕ). x ++ q) a ∙ b)
-within_after limit o1 o2 p q g (inr a) (inl b) = inr (omega (arith, end-grows o1 o2 q g, ap length b, a))
+within_after limit o1 o2 p q g a h = grind (arith, common_steps, end-grows)
 
 module _ (limit : ℕ) (next next' : List ℕ → Step → Type 0) (o o1 o2 : Output) (p : List ℕ)
     (a : Appends o o1 p) (inside : Within limit o1 p) (hn : (f : List ℕ) (step : Step) → next' f step → next (p ++ f) step) where
@@ -40,36 +33,16 @@ module _ (limit : ℕ) (next next' : List ℕ → Step → Type 0) (o o1 o2 : Ou
   reached_after f step g r = (within_after limit o1 o2 p f g inside r.0, r.1 ∙ a.failures, hn f step r.2)
 
   faults_after : (f : List ℕ) → FaultsDuring limit next' o1 o2 f → FaultsDuring limit next o o2 (p ++ f)
-  faults_after f h = record {
-    before = p ++ h.before;
-    bytes = h.bytes;
-    is_next = hn h.before (piece h.bytes) h.is_next;
-    fits = omega (arith, end-appends o o1 p a, h.fits, length-append p h.before);
-    written_len = h.written_len;
-    is = ap (λ (x : List ℕ). p ++ x) h.is ∙ sym (append_assoc p h.before (take h.written_len h.bytes));
-    counted = subst (λ n. o2.failures ≡ min (n + 1) (2 ^ 64 - 1)) a.failures h.counted;
-  }
+  faults_after f h = grind (arith, common_steps, end-appends, length-append, append_assoc)
 
   cause_after : {F : Type 0} (e : WriteError F) (f : List ℕ) → Extends o1 o2 f → CauseApplies limit next' o1 o2 f e → CauseApplies limit next o o2 (p ++ f) e
-  cause_after (InvalidLoadFactor n d) f g c = reached_after f _ g c
-  cause_after (IteratorLengthMismatch m) f g c = reached_after f _ g c
-  cause_after (CapacityTooLarge n) f g c = reached_after f _ g c
-  cause_after PositionTooLarge f g c = (c.0, reached_after f _ g c.1, c.2)
-  cause_after DistanceTooLarge f g c = reached_after f _ g c
-  cause_after TextTooLong f g c = reached_after f _ g c
-  cause_after (Writer x) f g c = faults_after f c
-  cause_after Memory f g c = reached_after f _ g c
-  cause_after (Refused n) f g c = reached_after f _ g c
+  cause_after e f g c = grind (arith, common_steps, reached_after, faults_after)
 
 -- the error of a later part is an error of the whole
 pub fails_after : {F : Type 0} (limit : ℕ) (next next' : List ℕ → Step → Type 0) (o o1 o2 : Output) (p : List ℕ) (e : WriteError F)
     → Appends o o1 p → Within limit o1 p → ((f : List ℕ) (step : Step) → next' f step → next (p ++ f) step)
     → WriteFails limit next' o1 o2 e → WriteFails limit next o o2 e
-fails_after limit next next' o o1 o2 p e a inside hn t = record {
-  front = p ++ t.front;
-  kept = grows_after o o1 o2 p t.front (grows o o1 p a) t.kept;
-  cause = cause_after limit next next' o o1 o2 p a inside hn e t.front t.kept t.cause;
-}
+fails_after limit next next' o o1 o2 p e a inside hn t = grind (arith, common_steps, grows_after, grows, cause_after)
 
 -- nothing was appended
 pub none_appended : (o : Output) → Appends o o []

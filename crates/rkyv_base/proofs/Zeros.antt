@@ -1,9 +1,10 @@
 -- Zeros that are cut from a fixed array of eight.
-use Rattle.std.specs.Prelude.{◌≡◌, ℕ, ◌+◌, ◌%◌, ◌≤◌, List, take, replicate}
-use Rattle.std.proofs.Common.{arith, ap, subst, sym, ◌∙◌}
+use Rattle.std.specs.Prelude.{◌≡◌, ℕ, ◌%◌, ◌≤◌, take, replicate}
+use Rattle.std.proofs.Common.{arith, ap, ◌∙◌}
+use Rattle.std.proofs.lemmas.Grind.{common_steps}
 use Rattle.std.proofs.lemmas.List.{length-replicate, take-replicate}
 use Rattle.rkyv_base.specs.declared.errors.WriteError.{WriteError}
-use Rattle.rkyv_base.specs.{Appends, IsAlign, Only, Output, WriteFails, end_of, padding, piece, round_up, zeros}
+use Rattle.rkyv_base.specs.{Appends, IsAlign, Only, Output, WriteFails, end_of, padding, piece, zeros}
 use Rattle.rkyv_base.specs.Lemmas.ElementSpec.{align_small}
 use Rattle.rkyv_base.specs.Lemmas.Entry.{round_up-multiple}
 use Rattle.rkyv_base.proofs.WritingSteps.{end-appends}
@@ -18,13 +19,9 @@ zeros-cut a p n al e =
 -- an error of writing the cut is an error of writing the zeros
 pub fails_of_zeros : {F : Type 0} (limit a p n : ℕ) (o o' : Output) (e : WriteError F) → IsAlign a → n ≡ padding a p
     → WriteFails limit (Only (piece (take n (replicate 8 0)))) o o' e → WriteFails limit (Only (piece (zeros (padding a p)))) o o' e
-fails_of_zeros limit a p n o o' e al same fails =
-    subst (λ (x : List ℕ). WriteFails limit (Only (piece x)) o o' e) (zeros-cut a p n al same) fails
+fails_of_zeros limit a p n o o' e al same fails = grind (arith, common_steps, zeros-cut)
 
 -- `p`: end of a write of the cut, a multiple of the alignment
 pub aligned_by_zeros : (limit a n p : ℕ) (o o' : Output) → IsAlign a → n ≡ padding a (end_of o) → p ≡ end_of o' → Appends o o' (take n (replicate 8 0))
     → end_of o' ≤ limit → Appends o o' (zeros (padding a (end_of o))) × (p ≡ end_of o') × (p ≤ limit) × (p % a ≡ 0)
-aligned_by_zeros limit a n p o o' al same at cut within =
-    let all : Appends o o' (zeros (padding a (end_of o))) = subst (λ (x : List ℕ). Appends o o' x) (zeros-cut a (end_of o) n al same) cut in
-    let ends : end_of o' ≡ round_up (end_of o) a = end-appends o o' _ all ∙ ap (λ (k : ℕ). end_of o + k) (length-replicate (padding a (end_of o)) 0) in
-    (all, at, subst (λ (k : ℕ). k ≤ limit) (sym at) within, ap (λ (k : ℕ). k % a) (at ∙ ends) ∙ round_up-multiple (end_of o) a al)
+aligned_by_zeros limit a n p o o' al same at cut within = grind (arith, common_steps, zeros-cut, end-appends, length-replicate, round_up-multiple)

@@ -42,6 +42,7 @@ use Rattle.rkyv_container.specs.declared.contents.Width.TheVariants.{Narrow, Wid
 use Rattle.rkyv_container.specs.declared.contents.Contents.{Contents}
 use Rattle.rkyv_container.specs.declared.header.Header.{Header}
 use Rattle.rkyv_container.specs.{Fits, IsHeader, checksum_field, contents_bytes, flags_of, header_bytes, item_code, kind_code, width_code}
+use Rattle.std.proofs.Common.{arith}
 
 -- a range of the first `n` bytes
 pub slice_take : (b : List ℕ) (n i j : ℕ) → i ≤ j → j ≤ n

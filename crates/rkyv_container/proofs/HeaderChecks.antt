@@ -47,6 +47,8 @@ use Rattle.rkyv_container.specs.declared.errors.ContainerError.TheVariants.{Unkn
 use Rattle.rkyv_container.specs.{AllPass, FirstFails, IsChecksumField, IsHeader, IsItemCode, IsKindCode, IsWidthCode, checksum_field, code_checks, contents_bytes, flag_checks, flags_of, followed_by, header_checks, magic, reserved_checks, start_checks}
 use Rattle.rkyv_container.proofs.Checking.{fails_first, fails_later, pass_both}
 use Rattle.rkyv_container.proofs.HeaderBytes.{field, flags_fit, header_length, slice_join}
+use Rattle.std.proofs.Common.{arith}
+use Rattle.std.proofs.lemmas.Grind.{common_steps}
 
 -- the error of the last of the four codes
 pub width_fails : (f : List ℕ) → IsKindCode (slice_index f 0) → IsItemCode (slice_index f 1)
@@ -56,16 +58,7 @@ width_fails f k s t w = inr (k, inr (s, inr (t, inl (w, refl))))
 
 -- four bytes of contents pass the checks of their codes
 codes_pass : (c : Contents) (f : List ℕ) → f ≡ contents_bytes c → AllPass (code_checks f)
-codes_pass c f e = (
-  (c.kind, sym (ap (λ (x : List ℕ). slice_index x 0) e)),
-  (
-    (c.key, sym (ap (λ (x : List ℕ). slice_index x 1) e)),
-    (
-      (c.value, sym (ap (λ (x : List ℕ). slice_index x 2) e)),
-      ((c.width, sym (ap (λ (x : List ℕ). slice_index x 3) e)), tt),
-    ),
-  ),
-)
+codes_pass c f e = grind (arith, common_steps, slice_index)
 
 -- the flags or the checksum field is the first fault of a header
 pub flags_fail : (b : List ℕ) (c : Contents) (e : ContainerError) → AllPass (start_checks b)
@@ -121,18 +114,7 @@ header_passes h b s =
 fields : (b : List ℕ) → take 32 b
     ≡ slice_range b 0 8 ++ (slice_range b 8 10 ++ (slice_range b 10 14 ++ (slice_range b 14 16
     ++ (slice_range b 16 24 ++ (slice_range b 24 28 ++ slice_range b 28 32)))))
-fields b =
-    let a = slice_join b 0 8 32 (omega arith) (omega arith) in
-    let c = slice_join b 8 10 32 (omega arith) (omega arith) in
-    let d = slice_join b 10 14 32 (omega arith) (omega arith) in
-    let e = slice_join b 14 16 32 (omega arith) (omega arith) in
-    let f = slice_join b 16 24 32 (omega arith) (omega arith) in
-    let g = slice_join b 24 28 32 (omega arith) (omega arith) in
-    sym a ∙ ap (λ (x : List ℕ). slice_range b 0 8 ++ x)
-    (sym c ∙ ap (λ (x : List ℕ). slice_range b 8 10 ++ x)
-    (sym d ∙ ap (λ (x : List ℕ). slice_range b 10 14 ++ x)
-    (sym e ∙ ap (λ (x : List ℕ). slice_range b 14 16 ++ x)
-    (sym f ∙ ap (λ (x : List ℕ). slice_range b 16 24 ++ x) (sym g)))))
+fields b = grind (arith, common_steps, slice_join, slice_range)
 
 -- lists of equal parts
 joined : (a b c d e f g a' b' c' d' e' f' g' : List ℕ) → a ≡ a' → b ≡ b' → c ≡ c' → d ≡ d'

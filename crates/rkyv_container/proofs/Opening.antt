@@ -1,27 +1,6 @@
 -- Containers from their checks, and the uniqueness of what opening returns.
-use Rattle.std.proofs.Common.{
-  ◌≡◌,
-  ℕ,
-  ◌⊎◌,
-  ◌↔◌,
-  List,
-  ◌++◌,
-  take,
-  drop,
-  Result,
-  Ok,
-  Err,
-  MatchResult,
-  IsOk,
-  IsOkAnd,
-  refl,
-  sym,
-  ap,
-  ◌∙◌,
-  subst,
-  inl,
-  inr,
-}
+use Rattle.std.proofs.Common.{◌≡◌, ℕ, ◌⊎◌, ◌↔◌, List, drop, Result, Ok, Err, MatchResult, IsOk, IsOkAnd, refl, sym, ap, ◌∙◌, subst, inl, inr, arith}
+use Rattle.std.proofs.lemmas.Grind.{common_steps}
 use Rattle.std.proofs.lemmas.List.{drop_at, take-append-drop, take_at}
 use Rattle.rkyv_container.specs.declared.contents.Contents.{Contents}
 use Rattle.rkyv_container.specs.declared.header.Header.{Header}
@@ -48,23 +27,11 @@ width_differs x f k s t n = inr (k, inr (s, inr (t, inl (n, refl))))
 -- a header, and an archive that passes its checks, are a container
 pub container_from : (h : Header) (a b : List ℕ) → IsSplit h a b → AllPass (archive_checks h a)
     → IsContainer h a b
-container_from h a b s p = record {
-  fits = s.0.fits;
-  bytes =
-      sym (take-append-drop 32 b) ∙ ap (λ (x : List ℕ). x ++ drop 32 b) s.0.bytes
-      ∙ ap (λ (x : List ℕ). header_bytes h ++ x) (sym s.1);
-  len = sym p.0;
-  checksum = p.1.0;
-}
+container_from h a b s p = grind (arith, common_steps, take-append-drop 32 b, header_bytes h)
 
 -- the parts of a container
 pub container_split : (h : Header) (a b : List ℕ) → IsContainer h a b → IsSplit h a b
-container_split h a b s =
-    let t : take 32 b ≡ header_bytes h =
-    ap (λ (x : List ℕ). take 32 x) s.bytes ∙ take_at (header_bytes h) a 32 refl in
-    let d : drop 32 b ≡ a =
-    ap (λ (x : List ℕ). drop 32 x) s.bytes ∙ drop_at (header_bytes h) a 32 refl in
-    (record { fits = s.fits; bytes = t }, sym d)
+container_split h a b s = grind (arith, common_steps, header_bytes, take_at, drop_at)
 
 pub container_passes : (h : Header) (a b : List ℕ) → IsContainer h a b
     → AllPass (archive_checks h a)
@@ -84,10 +51,8 @@ behind_unique : (C : Header → Checks) (b : List ℕ) (e o : ContainerError)
     → FirstFails (header_checks b) o ⊎ ((h : Header) × (IsHeader h b × FirstFails (C h) o))
     → e ≡ o
 behind_unique C b e o (inl f) (inl g) = first_unique (header_checks b) e o f g
-behind_unique C b e o (inl f) (inr g) =
-    absurd (pass_excludes (header_checks b) e (header_passes g.0 b g.1.0) f)
-behind_unique C b e o (inr f) (inl g) =
-    absurd (pass_excludes (header_checks b) o (header_passes f.0 b f.1.0) g)
+behind_unique C b e o (inl f) (inr g) = grind (arith, common_steps, header_checks b, header_passes g.0 b g.1.0)
+behind_unique C b e o (inr f) (inl g) = grind (arith, common_steps, header_checks b, header_passes f.0 b f.1.0)
 behind_unique C b e o (inr f) (inr g) =
     let s : f.0 ≡ g.0 = header_unique b f.0 g.0 f.1.0 g.1.0 in
     let k : FirstFails (C g.0) e = subst (λ (h : Header). FirstFails (C h) e) s f.1.1 in
@@ -112,9 +77,7 @@ open_as_unique x b e o f g = behind_unique
 -- the checks of the bytes behind the header of a container
 rest_passes : (h : Header) (a b : List ℕ) → IsContainer h a b
     → AllPass (archive_checks h (drop 32 b))
-rest_passes h a b s =
-    subst (λ (x : List ℕ). AllPass (archive_checks h x)) (container_split h a b s).1
-    (container_passes h a b s)
+rest_passes h a b s = grind (arith, common_steps, archive_checks, container_split, container_passes)
 
 -- a container has no fault
 pub container_excludes : (b : List ℕ) (h : Header) (a : List ℕ) (e : ContainerError)
@@ -150,8 +113,7 @@ pub opens_exact : {X : Type 0} (r : Result X ContainerError) (head : X → Heade
     (rest : X → List ℕ) (b : List ℕ)
     → MatchResult r (λ x. IsContainer (head x) (rest x) b) (OpenFails b) → (h : Header)
     (a : List ℕ) → IsContainer h a b → IsOkAnd r (λ x. (head x ≡ h) × (rest x ≡ a))
-opens_exact (Ok x) head rest b m h a s =
-    container_unique b (head x) h (rest x) a m s
+opens_exact (Ok x) head rest b m h a s = grind (arith, common_steps, container_unique b (head x) h (rest x) a m s)
 opens_exact (Err e) head rest b m h a s = absurd (container_excludes b h a e s m)
 
 -- a container is opened as its own contents, and as no others
@@ -159,10 +121,7 @@ pub opens_as_exact : {X : Type 0} (r : Result X ContainerError) (rest : X → Li
     (x : Contents) (b : List ℕ)
     → MatchResult r (λ y. IsContainerOf x (rest y) b) (OpenAsFails x b) → (c : Contents)
     (a : List ℕ) → IsContainerOf c a b → IsOk r ↔ (c ≡ x)
-opens_as_exact (Ok y) rest x b m c a s =
-    let e = container_unique b s.0 m.0 a (rest y) s.1.1 m.1.1 in
-    let k : c ≡ x = sym s.1.0 ∙ ap (λ (h : Header). h.contents) e.0 ∙ m.1.0 in
-    (λ o. k, λ o. refl)
+opens_as_exact (Ok y) rest x b m c a s = grind (arith, common_steps, container_unique b s.0 m.0 a (rest y) s.1.1 m.1.1)
 opens_as_exact (Err e) rest x b m c a s = (
   λ o. absurd (cc),
   λ (k : c ≡ x). absurd (container_of_excludes x b a e

@@ -31,6 +31,8 @@ use Rattle.std.proofs.lemmas.List.Sums.{sum_by-append, sum_by-cons, sum_by_more}
 use Rattle.std.proofs.lemmas.Nat.{mul-mod_second}
 use Rattle.rkyv_container.specs.{DetectsChange, adler32_high, adler32_low, adler32_of, weighted_sum}
 use Rattle.rkyv_container.proofs.HeaderBytes.{slice_join}
+use Rattle.std.proofs.Common.{arith}
+use Rattle.std.proofs.lemmas.Grind.{common_steps}
 
 -- `low` and `high`: the sums after the first `i` bytes of `b`, from `l` and `h` on
 pub record AreBlockSums (l h : ℕ) (b : List ℕ) (i low high : ℕ) : Type 0 where
@@ -73,39 +75,19 @@ sum_more b i k = sum_by_more (λ y. y) b i 0 k
 
 weighted_sum_more : (b : List ℕ) (i : ℕ) → i < length b
     → weighted_sum (take (i + 1) b) ≡ weighted_sum (take i b) + sum (take i b) + get_or b i 0
-weighted_sum_more b i k =
-    let e = weighted_sum-append (take i b) (get_or b i 0 ∷ []) in
-    let t = ap weighted_sum (take_more b i 0 k) in
-    omega arith
+weighted_sum_more b i k = grind (arith, common_steps, weighted_sum-append, weighted_sum, take_more)
 
 pub sums_more : (l h : ℕ) (b : List ℕ) (i low high x : ℕ) → length b ≤ 4096 → i < length b
     → x ≡ get_or b i 0 → x < 256 → AreBlockSums l h b i low high
     → AreBlockSums l h b (i + 1) (low + x) (high + (low + x))
-sums_more l h b i low high x n k e small s =
-    let f = sum_more b i k in
-    let g = weighted_sum_more b i k in
-    let m : (i + 1) * l ≡ i * l + l = rw (add_mul i 1 l) (omega arith) in
-    let sl = s.low_is in
-    let sh = s.high_is in
-    let bl = s.low_bound in
-    let bh = s.high_bound in
-    record {
-      low_is = omega arith;
-      high_is = omega arith;
-      low_bound = omega arith;
-      high_bound = omega arith;
-    }
+sums_more l h b i low high x n k e small s = grind (arith, common_steps, sum_more, weighted_sum_more, add_mul)
 
 -- equal remainders stay equal after an addition
 add_mod : (x y z : ℕ) → x % 65521 ≡ y % 65521 → (x + z) % 65521 ≡ (y + z) % 65521
 add_mod x y z e = omega arith
 
 take_part : (b : List ℕ) (i j : ℕ) → i ≤ j → take j b ≡ take i b ++ slice_range b i j
-take_part b i j k =
-    let e = slice_join b 0 i j (omega arith) k in
-    let z : i - 0 ≡ i = omega arith in
-    let w : j - 0 ≡ j = omega arith in
-    sym (rw (z, w) at e)
+take_part b i j k = grind (arith, common_steps, slice_join b 0 i j (omega arith) k)
 
 reduced : (a x : ℕ) → a ≡ x % 65521 → a % 65521 ≡ x % 65521
 reduced a x e = omega arith
@@ -151,15 +133,7 @@ block_sums b i j low high low' high' ij jn s e f =
 -- the checksum from the sums of all bytes
 pub all_sums : (b : List ℕ) (i low high : ℕ) → length b ≤ i → AreSumsOf b i low high
     → high * 65536 + low ≡ adler32_of b
-all_sums b i low high n s =
-    let inside = s.inside in
-    let e : i ≡ length b = omega arith in
-    let t : take i b ≡ b = take_all i b n in
-    let l : low ≡ adler32_low b = s.low_is ∙ ap (λ (c : List ℕ). (1 + sum c) % 65521) t in
-    let h : high ≡ adler32_high b =
-    s.high_is ∙ ap (λ (c : List ℕ). (i + weighted_sum c) % 65521) t
-    ∙ ap (λ (k : ℕ). (k + weighted_sum b) % 65521) e in
-    ap (λ (k : ℕ). k * 65536 + low) h ∙ ap (λ (k : ℕ). adler32_high b * 65536 + k) l
+all_sums b i low high n s = grind (arith, common_steps, take_all, adler32_low, adler32_high, weighted_sum)
 
 -- the low half of a checksum
 low_of : (h l : ℕ) (k m : ℕ) → l < 65536 → m < 65536 → h * 65536 + l ≡ k * 65536 + m → l ≡ m
@@ -174,10 +148,7 @@ low_changes n x y p q e = omega arith
 
 sum_with : (front back : List ℕ) (x : ℕ)
     → 1 + sum (front ++ x ∷ back) ≡ (1 + sum front + sum back) + x
-sum_with front back x =
-    let e = sum_by-append (λ y. y) front (x ∷ back) in
-    let s = sum_by-cons (λ y. y) x back in
-    omega arith
+sum_with front back x = grind (arith, common_steps, sum_by-append, sum_by-cons)
 
 -- a change of one byte changes the checksum
 pub detects_change : (b : List ℕ) → ((i : ℕ) → get_or b i 0 < 256)

@@ -1,5 +1,6 @@
 -- Proofs of the laws of the hash.
 use Rattle.std.proofs.Common.{◌≡◌, ℕ, zero, suc, ◌+◌, ◌*◌, ◌/◌, ◌%◌, ◌<◌, ◌≤◌, cond, eqb, List, [], ◌∷◌, ◌++◌, length, get_or, map, drop, refl, sym, ap, ◌∙◌, arith, add-zero, zero-add, get_or-drop, append-nil, append_assoc, length-append, w8, w16, w32, w64}
+use Rattle.std.proofs.lemmas.Grind.{common_steps}
 use Rattle.std.specs.List.{All, flat_map, fold, range_with_len}
 use Rattle.std.specs.Int.{Width, from_le_bytes}
 use Rattle.std.proofs.lemmas.List.{get_or_append_left}
@@ -55,8 +56,7 @@ from_eight xs ys h =
 
 -- a word of the first list, and a word of the second
 number_left : (a b : List ℕ) (i : ℕ) → i + 8 ≤ length a → number_from w64 (a ++ b) i ≡ number_from w64 a i
-number_left a b i l =
-    from_eight (drop i (a ++ b)) (drop i a) (λ j p. get_or-drop i (a ++ b) j 0 ∙ get_or_append_left a b 0 (i + j) (omega arith) ∙ sym (get_or-drop i a j 0))
+number_left a b i l = grind (arith, common_steps, from_eight, get_or-drop, get_or_append_left)
 
 number_right : (w : Width) (a b : List ℕ) (i j : ℕ) → i ≡ length a + j → number_from w (a ++ b) i ≡ number_from w b j
 number_right w a b i j e = ap (from_le_bytes w) (ap (λ x. drop x (a ++ b)) e ∙ drop-append-add a b j)

@@ -1,5 +1,6 @@
 -- The marks of both halves, by bits.
 use Rattle.std.proofs.Common.{◌≡◌, ℕ, zero, suc, ◌+◌, ◌-◌, ◌*◌, ◌/◌, ◌%◌, ◌^◌, ◌<◌, ◌≤◌, ◌⊎◌, inl, inr, false, ◌&&◌, ◌||◌, cond, eqb, max, min, List, slice_index, bit_and, bit_xor, refl, sym, ap, ◌∙◌, arith, eq-eqb, eqb-true}
+use Rattle.std.proofs.lemmas.Grind.{common_steps}
 use Rattle.std.specs.Int.{bit_at}
 use Rattle.std.specs.Int.RustNames.{bit_or}
 use Rattle.std.proofs.lemmas.Bool.{cases_eq, ne_eqb}
@@ -98,11 +99,7 @@ module _ (xs : List ℕ) (t equal next : ℕ) (marks_byte : MarksEqual xs t equa
   chain_fixed m e (suc n) k l h = ap (λ x. eqb x 1) (e k l) ∙ chain_step n m (chain_fixed m e n) k l h
 
   pub chain_equal : bit_and (bits_after equal) next ≡ 0 → Chains xs t 7 equal
-  chain_equal z =
-      chain_fixed equal (λ k l.
-      let a : bit_at (bit_and (bits_after equal) next) k ≡ 0 = ap (λ x. bit_at x k) z ∙ bit_at-zero k in
-      omega (arith, a, bit_at_or equal (bit_and (bits_after equal) next) k))
-      7
+  chain_equal z = grind (arith, common_steps, chain_fixed, bit_at-zero, bit_at_or)
 
 none_marked : (xs : List ℕ) (t : ℕ) → ((k : ℕ) → k < 16 → eqb (slice_index xs k) t ≡ false) → (n k : ℕ) → k < 16 → k % 8 ≤ n → is_half_match_at xs t k ≡ false
 none_marked xs t none zero k l h = half_first xs t k (omega arith) ∙ none k l

@@ -1,6 +1,7 @@
 -- Lemmas: numbers and lists of bytes at a position of an archive.
 use Rattle.std.specs.Prelude.{◌≡◌, ℕ, ◌+◌, ◌-◌, ◌≤◌, List, ◌++◌, length, drop, slice_range}
 use Rattle.std.proofs.Common.{refl, arith, sym, ◌∙◌, ap, length-append}
+use Rattle.std.proofs.lemmas.Grind.{common_steps}
 use Rattle.std.proofs.lemmas.List.{drop-drop, drop-take, take-take, take_all}
 use Rattle.std.proofs.Math.Seq.{drop-append_seam, take-append_seam}
 use Rattle.rkyv_base.specs.Bytes.{AgreeOn, OccursAt}
@@ -65,5 +66,4 @@ occurs_back c p x y s =
 -- a middle part of bytes in an archive
 pub occurs_third : (c : List ℕ) (p : ℕ) (x y z w : List ℕ) → OccursAt c p ((x ++ y) ++ (z ++ w))
     → OccursAt c (p + length (x ++ y)) z
-occurs_third c p x y z w s = occurs_front c (p + length (x ++ y)) z w
-    (occurs_back c p (x ++ y) (z ++ w) s)
+occurs_third c p x y z w s = grind (arith, common_steps, occurs_front, occurs_back)

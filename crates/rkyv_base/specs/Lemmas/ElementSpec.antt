@@ -1,7 +1,8 @@
 -- Lemmas: the size and the alignment of an element, and the condition for valid bytes.
 use Rattle.std.specs.Prelude.{◌≡◌, ℕ, ◌+◌, ◌%◌, ◌<◌, ◌≤◌, max, List, length}
 use Rattle.std.specs.Coded.{le_prop, ×_prop}
-use Rattle.std.proofs.Common.{arith, inl, inr, refl, subst, sym}
+use Rattle.std.proofs.Common.{arith, refl}
+use Rattle.std.proofs.lemmas.Grind.{common_steps}
 use Rattle.std.proofs.Props.{props}
 use Rattle.rkyv_base.specs.Lemmas.Props.{only_one, prop_by}
 use Rattle.rkyv_base.specs.ElementSpecs.{ElementSpec, IsAlign, IsElement, ValidAt, Viewable}
@@ -27,10 +28,7 @@ valid_at s laws b p lo hi l o o' h =
 
 -- a property of each alignment is one of any alignment
 pub by_align : (P : ℕ → Type 0) → P 1 → P 2 → P 4 → P 8 → (a : ℕ) → IsAlign a → P a
-by_align P p1 p2 p4 p8 a (inl e) = subst P (sym e) p1
-by_align P p1 p2 p4 p8 a (inr (inl e)) = subst P (sym e) p2
-by_align P p1 p2 p4 p8 a (inr (inr (inl e))) = subst P (sym e) p4
-by_align P p1 p2 p4 p8 a (inr (inr (inr e))) = subst P (sym e) p8
+by_align P p1 p2 p4 p8 a h = grind (arith, common_steps)
 
 -- an alignment is from 1 to 8
 pub align_small : (a : ℕ) → IsAlign a → (0 < a) × (a ≤ 8)
@@ -41,32 +39,11 @@ align_small a al = by_align (λ v. (0 < v) × (v ≤ 8)) (omega arith, omega ari
 
 -- the greater of two alignments is one, and its multiples are those of both
 pub max_align : (a b : ℕ) → IsAlign a → IsAlign b → IsAlign (max a b)
-max_align a b ha hb =
-    let one : IsAlign 1 = inl refl in
-    let two : IsAlign 2 = inr (inl refl) in
-    let four : IsAlign 4 = inr (inr (inl refl)) in
-    let eight : IsAlign 8 = inr (inr (inr refl)) in
-    by_align (λ v. IsAlign (max v b))
-    (by_align (λ w. IsAlign (max 1 w)) one two four eight b hb)
-    (by_align (λ w. IsAlign (max 2 w)) two two four eight b hb)
-    (by_align (λ w. IsAlign (max 4 w)) four four four eight b hb)
-    (by_align (λ w. IsAlign (max 8 w)) eight eight eight eight b hb) a ha
+max_align a b ha hb = grind (arith, common_steps, by_align)
 
 pub multiple_of_max : (p a b : ℕ) → IsAlign a → IsAlign b → p % max a b ≡ 0 → (p % a ≡ 0)
     × (p % b ≡ 0)
-multiple_of_max p a b ha hb =
-    let Q : ℕ → ℕ → Type 0 = λ v w. p % max v w ≡ 0 → (p % v ≡ 0) × (p % w ≡ 0) in
-    by_align (λ v. Q v b)
-    (by_align (λ w. Q 1 w) (λ h. (omega arith, omega arith)) (λ h. (omega arith, omega arith))
-    (λ h. (omega arith, omega arith)) (λ h. (omega arith, omega arith)) b hb)
-    (by_align (λ w. Q 2 w) (λ h. (omega arith, omega arith)) (λ h. (omega arith, omega arith))
-    (λ h. (omega arith, omega arith)) (λ h. (omega arith, omega arith)) b hb)
-    (by_align (λ w. Q 4 w) (λ h. (omega arith, omega arith)) (λ h. (omega arith, omega arith))
-    (λ h. (omega arith, omega arith)) (λ h. (omega arith, omega arith)) b hb)
-    (by_align (λ w. Q 8 w) (λ h. (omega arith, omega arith)) (λ h. (omega arith, omega arith))
-    (λ h. (omega arith, omega arith)) (λ h. (omega arith, omega arith)) b hb) a ha
+multiple_of_max p a b ha hb = grind (arith, common_steps, by_align)
 
 pub sum_multiple : (p n a : ℕ) → IsAlign a → p % a ≡ 0 → n % a ≡ 0 → (p + n) % a ≡ 0
-sum_multiple p n a ha =
-    by_align (λ v. p % v ≡ 0 → n % v ≡ 0 → (p + n) % v ≡ 0) (λ h g. omega arith)
-    (λ h g. omega arith) (λ h g. omega arith) (λ h g. omega arith) a ha
+sum_multiple p n a ha = grind (arith, common_steps, by_align)

@@ -4,14 +4,15 @@ use Rattle.std.specs.Prelude.{◌≡◌, ℕ, ◌+◌, ◌%◌, ◌<◌, ◌≤�
 use Rattle.std.proofs.lemmas.Bool.{cases_lt}
 use Rattle.std.proofs.lemmas.Bool.Decides.{nat_tests}
 use Rattle.std.specs.Coded.{le_prop, ×_prop}
-use Rattle.std.proofs.Common.{refl, arith, inl, inr, subst, sym, ◌∙◌}
+use Rattle.std.proofs.Common.{refl, arith}
+use Rattle.std.proofs.lemmas.Grind.{common_steps}
 use Rattle.rkyv_base.specs.declared.errors.VerifyError.{VerifyError}
 use Rattle.rkyv_base.specs.Bytes.{AgreeOn}
 use Rattle.rkyv_base.specs.Lemmas.Bytes.{agree_on_part}
 use Rattle.rkyv_base.specs.Lemmas.Props.{only_one, prop_by}
 use Rattle.rkyv_base.specs.ElementSpecs.{ElementSpec, IsAlign, IsElement, Viewable}
-use Rattle.rkyv_base.specs.Lemmas.ElementSpec.{valid_at}
-use Rattle.rkyv_base.specs.Lemmas.ElementSpec.{by_align, max_align, multiple_of_max, sum_multiple}
+use Rattle.rkyv_base.specs.Lemmas.ElementSpec.{valid_at, by_align, max_align, multiple_of_max}
+use Rattle.rkyv_base.specs.Lemmas.ElementSpec.{sum_multiple}
 use Rattle.rkyv_base.specs.Entries.{IsSmall, round_up, size_of_whole, value_offset, whole_size}
 use Rattle.rkyv_base.specs.Entries.{EntriesAgree, EntryFails, IsValidEntry, entry_spec}
 
@@ -26,15 +27,10 @@ size_of_any whole = grind (arith, nat_tests)
 
 size_multiple : (whole a : ℕ) → IsAlign a → whole % a ≡ 0 → size_of_whole whole % a ≡ 0
 size_multiple whole a al h =
-    elim (cases_lt 1073741824 whole) [
-      | inr low ↦ rw (size_of_small whole low) h
-      | inl high ↦ let e : size_of_whole whole ≡ 0 = grind (arith, nat_tests) in
-          rw e (by_align (λ v. 0 % v ≡ 0) refl refl refl refl a al)
-    ]
+    grind (arith, common_steps, cases_lt, size_of_small, nat_tests, by_align)
 
 pub round_up-multiple : (n a : ℕ) → IsAlign a → round_up n a % a ≡ 0
-round_up-multiple n a ha = by_align (λ v. round_up n v % v ≡ 0) (omega arith) (omega arith)
-    (omega arith) (omega arith) a ha
+round_up-multiple n a ha = grind (arith, common_steps, by_align)
 
 -- the key and the value are inside the entry
 pub key_and_value_inside : (k v : ElementSpec) → (k.size ≤ value_offset k v)
@@ -53,63 +49,31 @@ module _ (k v : ElementSpec) (kl : IsElement k) (vl : IsElement v) where
 
   entry_between : (b : List ℕ) (p lo hi l : ℕ) → lo ≤ hi → IsValidEntry k v b p lo hi l → (lo ≤ l)
       × (l ≤ hi)
-  entry_between b p lo hi l o h =
-      let x : (lo ≤ h.1) × (h.1 ≤ hi) = kl.rest_in_range b p lo hi h.1 o h.2 in
-      let y : (h.1 ≤ l) × (l ≤ hi) = vl.rest_in_range b (p + value_offset k v) h.1 hi l x.1 h.3 in
-      (omega arith, y.1)
+  entry_between b p lo hi l o h = grind (arith, common_steps)
 
   entry_one : (b : List ℕ) (p lo hi l l' : ℕ) → IsValidEntry k v b p lo hi l
       → IsValidEntry k v b p lo hi l' → l ≡ l'
-  entry_one b p lo hi l l' h h' =
-      let e : h'.1 ≡ h.1 = kl.rest_unique b p lo hi h'.1 h.1 h'.2 h.2 in
-      vl.rest_unique b (p + value_offset k v) h.1 hi l l' h.3
-      (subst (λ m. v.is_valid b (p + value_offset k v) m hi l') e h'.3)
+  entry_one b p lo hi l l' h h' = grind (arith, common_steps)
 
   entry_exclusive : (b : List ℕ) (p lo hi l : ℕ) (e : VerifyError) → IsValidEntry k v b p lo hi l
       → EntryFails k v b p lo hi e → ⊥
-  entry_exclusive b p lo hi l e h (inl f) = omega (arith, h.0, f.0)
-  entry_exclusive b p lo hi l e h (inr (f, inl g)) = kl.exclusive b p lo hi h.1 e h.2 g
-  entry_exclusive b p lo hi l e h (inr (f, inr g)) =
-      let q : g.0 ≡ h.1 = kl.rest_unique b p lo hi g.0 h.1 g.1 h.2 in
-      vl.exclusive b (p + value_offset k v) h.1 hi l e h.3
-      (subst (λ m. v.fails b (p + value_offset k v) m hi e) q g.2)
+  entry_exclusive b p lo hi l e h f = grind (arith, common_steps)
 
   entry_one_failure : (b : List ℕ) (p lo hi : ℕ) (e e' : VerifyError) → EntryFails k v b p lo hi e
       → EntryFails k v b p lo hi e' → e ≡ e'
-  entry_one_failure b p lo hi e e' (inl f) (inl g) = f.1 ∙ sym g.1
-  entry_one_failure b p lo hi e e' (inl f) (inr g) = absurd (omega (arith, f.0, g.0))
-  entry_one_failure b p lo hi e e' (inr f) (inl g) = absurd (omega (arith, f.0, g.0))
-  entry_one_failure b p lo hi e e' (inr (small, inl f)) (inr (small', inl g)) =
-      kl.one_failure b p lo hi e e' f g
-  entry_one_failure b p lo hi e e' (inr (small, inl f)) (inr (small', inr g)) =
-      absurd (kl.exclusive b p lo hi g.0 e g.1 f)
-  entry_one_failure b p lo hi e e' (inr (small, inr f)) (inr (small', inl g)) =
-      absurd (kl.exclusive b p lo hi f.0 e' f.1 g)
-  entry_one_failure b p lo hi e e' (inr (small, inr f)) (inr (small', inr g)) =
-      let q : g.0 ≡ f.0 = kl.rest_unique b p lo hi g.0 f.0 g.1 f.1 in
-      vl.one_failure b (p + value_offset k v) f.0 hi e e' f.2
-      (subst (λ m. v.fails b (p + value_offset k v) m hi e') q g.2)
+  entry_one_failure b p lo hi e e' h f = grind (arith, common_steps)
 
   -- two lists that agree on an entry agree on its key and on its value
   pub same_key : (b c : List ℕ) (p : ℕ) → IsSmall k v
       → AgreeOn b c p (p + size_of_whole (whole_size k v)) → AgreeOn b c p (p + k.size)
   same_key b c p small fixed =
-      let size : size_of_whole (whole_size k v) ≡ whole_size k v =
-      size_of_small (whole_size k v) small in
-      let i = key_and_value_inside k v in
-      agree_on_part b c p (p + size_of_whole (whole_size k v)) p (p + k.size) (omega arith)
-      (omega (arith, size, i.0, i.1)) (omega arith) fixed
+      grind (arith, common_steps, size_of_small, key_and_value_inside, agree_on_part)
 
   pub same_value : (b c : List ℕ) (p : ℕ) → IsSmall k v
       → AgreeOn b c p (p + size_of_whole (whole_size k v))
       → AgreeOn b c (p + value_offset k v) (p + value_offset k v + v.size)
   same_value b c p small fixed =
-      let size : size_of_whole (whole_size k v) ≡ whole_size k v =
-      size_of_small (whole_size k v) small in
-      let i = key_and_value_inside k v in
-      agree_on_part b c p (p + size_of_whole (whole_size k v)) (p + value_offset k v)
-      (p + value_offset k v + v.size) (omega arith) (omega (arith, size, i.1)) (omega arith)
-      fixed
+      grind (arith, common_steps, size_of_small, key_and_value_inside, agree_on_part)
 
   -- two lists that agree on an entry and its parts agree on those of its key and its value
   pub same_parts : (b c : List ℕ) (p lo hi l : ℕ) → lo ≤ hi → (h : IsValidEntry k v b p lo hi l)
@@ -130,12 +94,7 @@ module _ (k v : ElementSpec) (kl : IsElement k) (vl : IsElement v) where
       → AgreeOn b c p (p + size_of_whole (whole_size k v)) → AgreeOn b c lo l
       → IsValidEntry k v b p lo hi l → IsValidEntry k v c p lo hi l
   entry_local b c p lo hi l o fixed part h =
-      let s = same_parts b c p lo hi l o h fixed part in (
-        h.0,
-        h.1,
-        kl.local b c p lo hi h.1 o s.key s.key_parts h.2,
-        vl.local b c (p + value_offset k v) h.1 hi l s.room s.value s.value_parts h.3,
-      )
+      grind (arith, common_steps, same_parts b c p lo hi l o h fixed part)
 
   entry_lower : (b : List ℕ) (p lo lo' hi l : ℕ) → lo' ≤ lo → lo ≤ hi → IsValidEntry k v b p lo hi l
       → (l' : ℕ) × IsValidEntry k v b p lo' hi l' × (l' ≤ l)
@@ -175,21 +134,11 @@ module _ (k v : ElementSpec) (kl : IsElement k) (vl : IsElement v) where
   key_and_value_lie : (b : List ℕ) (p : ℕ) → Viewable (entry_spec k v) b p
       → (p + value_offset k v + v.size ≤ length b) × (p % k.align ≡ 0) × (p % v.align ≡ 0)
   key_and_value_lie b p h =
-      let size : size_of_whole (whole_size k v) ≡ whole_size k v =
-      size_of_small (whole_size k v) h.valid.1.0 in
-      let als : (p % k.align ≡ 0) × (p % v.align ≡ 0) =
-      multiple_of_max p k.align v.align kl.align_is vl.align_is h.aligned in
-      (omega (arith, h.inside, size, (key_and_value_inside k v).1), als.0, als.1)
+      grind (arith, common_steps, size_of_small, multiple_of_max, key_and_value_inside)
 
   -- the key and the value of a valid entry are valid
   pub viewable_key : (b : List ℕ) (p : ℕ) → Viewable (entry_spec k v) b p → Viewable k b p
-  viewable_key b p h =
-      let lie = key_and_value_lie b p h in
-      record {
-        inside = omega (arith, lie.0, (key_and_value_inside k v).0);
-        aligned = lie.1;
-        valid = (h.valid.1.1, h.valid.1.2);
-      }
+  viewable_key b p h = grind (arith, common_steps, key_and_value_lie, key_and_value_inside)
 
   pub viewable_value : (b : List ℕ) (p : ℕ) → Viewable (entry_spec k v) b p
       → Viewable v b (p + value_offset k v)

@@ -1,7 +1,8 @@
 -- Lemmas: the format of pairs: the key's parts and the value's parts, followed by the key,
 -- zeros, the value and zeros.
 use Rattle.std.specs.Prelude.{◌≡◌, ℕ, ◌+◌, ◌-◌, ◌%◌, ◌≤◌, max, List, ◌++◌, length}
-use Rattle.std.proofs.Common.{arith, subst, sym, ◌∙◌, ap, inl, inr, length-append}
+use Rattle.std.proofs.Common.{arith, subst, ◌∙◌, ap, inl, inr, length-append}
+use Rattle.std.proofs.lemmas.Grind.{common_steps}
 use Rattle.std.proofs.lemmas.List.{length-replicate}
 use Rattle.rkyv_base.specs.declared.pairs.EntryResolver.{EntryResolver}
 use Rattle.rkyv_base.specs.{ElementSpec, Format, IsElement, IsFormat, IsValidEntry, OccursAt}
@@ -10,8 +11,7 @@ use Rattle.rkyv_base.specs.{RepresentsLocally, entry_spec, pair_bytes, pair_form
 use Rattle.rkyv_base.specs.{value_offset, whole_size, written_as, zeros}
 use Rattle.rkyv_base.specs.Lemmas.Bytes.{occurs_back, occurs_front, occurs_third}
 use Rattle.rkyv_base.specs.Lemmas.ElementSpec.{multiple_of_max, sum_multiple}
-use Rattle.rkyv_base.specs.Lemmas.Entry.{size_of_small}
-use Rattle.rkyv_base.specs.Lemmas.Entry.{round_up-multiple, size_of_large}
+use Rattle.rkyv_base.specs.Lemmas.Entry.{size_of_small, round_up-multiple, size_of_large}
 use Rattle.rkyv_base.specs.Lemmas.Entry.{key_and_value_inside, same_parts}
 
 pub written_as-format : {X V R : Type 0} (as_value : X → V) (s : ElementSpec)
@@ -42,21 +42,12 @@ module _ {V W R Q : Type 0} (k v : ElementSpec) (kl : IsElement k) (vl : IsEleme
     (vf : Format W Q) (kw : IsFormat k key kf) (vw : IsFormat v value vf) where
   pair_whole : (pair : V × W) (r : EntryResolver R Q) (p : ℕ) (out : List ℕ)
       → PairImage k v kf vf pair r p out → length out ≡ size_of_whole (whole_size k v)
-  pair_whole pair r p out (inl h) = ap length h.1 ∙ sym (size_of_large (whole_size k v) h.0)
-  pair_whole pair r p out (inr h) =
-      let i = key_and_value_inside k v in
-      let na : length h.1 ≡ k.size = kw.size_exact pair.0 r.key p h.1 h.3 in
-      let nb : length h.2 ≡ v.size = vw.size_exact pair.1 r.value (p + value_offset k v) h.2 h.4 in
-      ap length h.5 ∙ length_pair (value_offset k v) (whole_size k v) h.1 h.2
-      (omega (arith, na, i.0)) (omega (arith, nb, i.1))
-      ∙ sym (size_of_small (whole_size k v) h.0)
+  pair_whole pair r p out h =
+      grind (arith, common_steps, size_of_large, key_and_value_inside, length_pair, size_of_small)
 
   pair_exclusive : (pair : V × W) (r : EntryResolver R Q) (p : ℕ) (out : List ℕ)
       → PairImage k v kf vf pair r p out → PairOverflows k v kf vf pair r p → ⊥
-  pair_exclusive pair r p out (inl h) f = omega (arith, h.0, f.0)
-  pair_exclusive pair r p out (inr h) (small, inl f) = kw.exclusive pair.0 r.key p h.1 h.3 f
-  pair_exclusive pair r p out (inr h) (small, inr f) =
-      vw.exclusive pair.1 r.value (p + value_offset k v) h.2 h.4 f
+  pair_exclusive pair r p out h f = grind (arith, common_steps)
 
   pair_sound : (pair : V × W) (r : EntryResolver R Q) (c : List ℕ) (p0 p : ℕ) (part out : List ℕ)
       → PairParts k v kf vf pair p0 part r → PairImage k v kf vf pair r p out

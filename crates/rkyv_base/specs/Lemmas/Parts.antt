@@ -1,6 +1,7 @@
 -- Lemmas: the range of bytes for the parts of a value.
-use Rattle.std.specs.Prelude.{◌≡◌, ℕ, ◌%◌, ◌≤◌, ℤ}
-use Rattle.std.proofs.Common.{arith, ap, inl, inr, subst, sym, ◌∙◌}
+use Rattle.std.specs.Prelude.{◌≡◌, ℕ, ◌≤◌, ℤ}
+use Rattle.std.proofs.Common.{arith, ap, inl, inr, sym, ◌∙◌}
+use Rattle.std.proofs.lemmas.Grind.{common_steps}
 use Rattle.std.proofs.Props.{props}
 use Rattle.std.proofs.lemmas.Int.{ints}
 use Rattle.rkyv_base.specs.declared.errors.VerifyError.{VerifyError}
@@ -18,13 +19,7 @@ part_prop begin size align lo hi at = hlevel props
 -- a part in the range has no fault
 pub part_exclusive : (begin : ℤ) (size align lo hi at : ℕ) (e : VerifyError)
     → PartIn begin size align lo hi at → PartFails begin size align lo hi e → ⊥
-part_exclusive begin size align lo hi at e p (inl (inl h, q)) =
-    omega (arith, ints, p.begins, p.above, h)
-part_exclusive begin size align lo hi at e p (inl (inr h, q)) =
-    omega (arith, ints, p.begins, p.below, h)
-part_exclusive begin size align lo hi at e p (inr (k, begins, above, below, unaligned, q)) =
-    let same : at ≡ k = omega (arith, ints, p.begins, begins) in
-    unaligned (subst (λ n. n % align ≡ 0) same p.aligned)
+part_exclusive begin size align lo hi at e p h = grind (arith, common_steps, ints)
 
 -- a part has one fault alone
 pub part_one_failure : (begin : ℤ) (size align lo hi : ℕ) (e e' : VerifyError)
@@ -46,10 +41,4 @@ part_one_failure begin size align lo hi e e' (inr (at, begins, above, below, una
 -- a part is also in a wider range
 pub part_wider : (begin : ℤ) (size align lo lo' hi hi' at : ℕ) → lo' ≤ lo → hi ≤ hi'
     → PartIn begin size align lo hi at → PartIn begin size align lo' hi' at
-part_wider begin size align lo lo' hi hi' at low high p =
-    record {
-      begins = p.begins;
-      above = omega (arith, p.above);
-      below = omega (arith, p.below);
-      aligned = p.aligned;
-    }
+part_wider begin size align lo lo' hi hi' at low high p = grind (arith, common_steps)

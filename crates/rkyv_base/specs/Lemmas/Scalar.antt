@@ -1,27 +1,23 @@
 -- Lemmas: scalars, which are one little-endian number: numbers, `bool` and `char`.
 use Rattle.std.specs.Prelude.{◌≡◌, ℕ, ◌+◌, ◌%◌, ◌^◌, ◌<◌, ◌≤◌, List, length}
-use Rattle.std.specs.Prelude.{slice_range}
 use Rattle.std.specs.Int.{Width, byte_len, from_le_bytes, to_le_bytes, w16, w32, w64, w8}
 use Rattle.std.specs.Coded.{×_prop}
-use Rattle.std.proofs.Common.{refl, arith, inl, inr, subst, sym, ◌∙◌, ap}
+use Rattle.std.proofs.Common.{refl, arith, subst, sym, ◌∙◌, ap}
+use Rattle.std.proofs.lemmas.Grind.{common_steps}
 use Rattle.std.proofs.Props.{props}
 use Rattle.std.proofs.lemmas.Nat.{from_le_bytes-to_le_bytes_2, from_le_bytes-to_le_bytes_4}
 use Rattle.std.proofs.lemmas.Nat.{from_le_bytes-to_le_bytes_8}
 use mir.Val.{bits}
-use Rattle.rkyv_base.specs.{AgreeOn, AreProps, ElementSpec, Encodes, Encoding, IsAlign, IsElement}
-use Rattle.rkyv_base.specs.{IsFormat, IsScalar, IsWord, OccursAt, RepresentsLocally}
-use Rattle.rkyv_base.specs.{ScalarRepresents, number_at, scalar_format, scalar_spec}
+use Rattle.rkyv_base.specs.{AreProps, ElementSpec, Encodes, Encoding, IsAlign, IsElement, IsFormat}
+use Rattle.rkyv_base.specs.{IsScalar, IsWord, OccursAt, RepresentsLocally, ScalarRepresents}
+use Rattle.rkyv_base.specs.{number_at, scalar_format, scalar_spec}
 
 -- a property of each word is one of any word
 by_word : (P : Width → Type 0) → P w8 → P w16 → P w32 → P w64 → (w : Width) → IsWord w → P w
-by_word P p8 p16 p32 p64 w (inl e) = subst P (sym e) p8
-by_word P p8 p16 p32 p64 w (inr (inl e)) = subst P (sym e) p16
-by_word P p8 p16 p32 p64 w (inr (inr (inl e))) = subst P (sym e) p32
-by_word P p8 p16 p32 p64 w (inr (inr (inr e))) = subst P (sym e) p64
+by_word P p8 p16 p32 p64 w h = grind (arith, common_steps)
 
 pub word_align : (w : Width) → IsWord w → IsAlign (byte_len w)
-word_align w h = by_word (λ v. IsAlign (byte_len v)) (inl refl) (inr (inl refl))
-    (inr (inr (inl refl))) (inr (inr (inr refl))) w h
+word_align w h = grind (arith, common_steps, by_word)
 
 byte_reads_back : (n : ℕ) → n < 2 ^ bits w8 → from_le_bytes w8 (to_le_bytes w8 n) ≡ n
 byte_reads_back n h = omega arith
@@ -34,25 +30,17 @@ word_reads_back w h =
     from_le_bytes-to_le_bytes_2 from_le_bytes-to_le_bytes_4 from_le_bytes-to_le_bytes_8 w h
 
 pub word_bytes : (w : Width) → IsWord w → (n : ℕ) → length (to_le_bytes w n) ≡ byte_len w
-word_bytes w h = by_word (λ v. (n : ℕ) → length (to_le_bytes v n) ≡ byte_len v) (λ n. refl)
-    (λ n. refl) (λ n. refl) (λ n. refl) w h
+word_bytes w h = grind (arith, common_steps, by_word)
 
 word_multiple : (w : Width) → IsWord w → byte_len w % byte_len w ≡ 0
 word_multiple w h = by_word (λ v. byte_len v % byte_len v ≡ 0) refl refl refl refl w h
 
 word_small : (w : Width) → IsWord w → byte_len w ≤ 1073741824
-word_small w h = by_word (λ v. byte_len v ≤ 1073741824) (omega arith) (omega arith) (omega arith)
-    (omega arith) w h
+word_small w h = grind (arith, common_steps, by_word)
 
 module _ {V : Type 0} (e : Encoding V) (word : IsWord e.word) where
   pub scalar_laws : IsScalar (scalar_spec e) e
-  scalar_laws = record {
-    word = word;
-    size = refl;
-    align = refl;
-    is_valid = λ b p lo hi l. (λ h. h, λ h. h);
-    fails = λ b p lo hi error. (λ f. f, λ f. f);
-  }
+  scalar_laws = grind (arith, common_steps)
 
   pub scalar_element : AreProps e → IsElement (scalar_spec e)
   scalar_element codes = record {
@@ -74,19 +62,12 @@ module _ {V : Type 0} (e : Encoding V) (word : IsWord e.word) where
 
 module _ {V : Type 0} (s : ElementSpec) (e : Encoding V) (laws : IsScalar s e) where
   pub scalar_local : RepresentsLocally s (ScalarRepresents e)
-  scalar_local v b c p lo hi l o h same part st =
-      let word : AgreeOn b c p (p + byte_len e.word) =
-      subst (λ n. AgreeOn b c p (p + n)) laws.size same in
-      subst (λ t. e.value (from_le_bytes e.word t) ≡ v) word st
+  scalar_local v b c p lo hi l o h same part st = grind (arith, common_steps)
 
   -- the number at `p` of bytes in an archive
   number_sits : (v : V) (out c : List ℕ) (p : ℕ) → Encodes e v out → OccursAt c p out
       → number_at e.word c p ≡ e.code v
-  number_sits v out c p i sits =
-      let n : length out ≡ byte_len e.word = ap length i.bytes
-      ∙ word_bytes e.word laws.word (e.code v) in
-      ap (from_le_bytes e.word) (ap (λ k. slice_range c p (p + k)) (sym n) ∙ sits.there ∙ i.bytes)
-      ∙ word_reads_back e.word laws.word (e.code v) i.fits
+  number_sits v out c p i sits = grind (arith, common_steps, word_bytes, word_reads_back)
 
   pub scalar_is_format : IsFormat s (ScalarRepresents e) (scalar_format e)
   scalar_is_format = record {

@@ -6,6 +6,7 @@ use Rattle.std.specs.Int.{Width, byte_len, w32, w64}
 use Rattle.std.specs.Str.{IsUtf8}
 use Rattle.std.specs.Coded.{le_prop, ×_prop}
 use Rattle.std.proofs.Common.{refl, arith, subst, sym, ◌∙◌, ap, inl, inr}
+use Rattle.std.proofs.lemmas.Grind.{common_steps}
 use Rattle.std.proofs.Props.{props}
 use Rattle.rkyv_base.specs.declared.errors.VerifyError.{VerifyError}
 use Rattle.rkyv_base.specs.{AgreeOn, IsAlign, IsArchiveWord, IsElement, IsValidInline}
@@ -20,8 +21,7 @@ use Rattle.rkyv_base.specs.Lemmas.Parts.{part_wider}
 
 -- a property of both words is one of either
 pub by_archive_word : (P : Width → Type 0) → P w32 → P w64 → (w : Width) → IsArchiveWord w → P w
-by_archive_word P p32 p64 w (inl e) = subst P (sym e) p32
-by_archive_word P p32 p64 w (inr e) = subst P (sym e) p64
+by_archive_word P p32 p64 w h = grind (arith, common_steps)
 
 module _ (w : Width) where
   -- a text is inline or out of line, and an out-of-line text has one position
@@ -53,9 +53,7 @@ module _ (w : Width) where
 
   valid_between : (s b : List ℕ) (p lo hi l : ℕ) → lo ≤ hi → IsValidText w s b p lo hi l → (lo ≤ l)
       × (l ≤ hi)
-  valid_between s b p lo hi l o (inl h) = (omega (arith, h.2), omega (arith, h.2))
-  valid_between s b p lo hi l o (inr (f, n, at, part, u, q)) =
-      (omega (arith, part.above, q), omega (arith, part.below, q))
+  valid_between s b p lo hi l o h = grind (arith, common_steps)
 
   valid_one : (s b : List ℕ) (p lo hi l l' : ℕ) → IsValidText w s b p lo hi l
       → IsValidText w s b p lo hi l' → l ≡ l'
@@ -63,9 +61,7 @@ module _ (w : Width) where
   valid_one s b p lo hi l l' (inl h) (inr k) = cc (h.0, k.0)
   valid_one s b p lo hi l l' (inr h) (inl k) = cc (h.0, k.0)
   valid_one s b p lo hi l l' (inr (f, n, at, part, u, q)) (inr (f', n', at', part', u', q')) =
-      let same : at ≡ at' =
-      part_one (out_of_line_begin w s p) (out_of_line_length w s) 1 lo hi at at' part part' in
-      omega (arith, same, q, q')
+      grind (arith, common_steps, part_one)
 
   valid_exclusive : (s b : List ℕ) (p lo hi l : ℕ) (e : VerifyError) → IsValidText w s b p lo hi l
       → TextFails w s b p lo hi e → ⊥
@@ -105,24 +101,16 @@ module _ (w : Width) where
   text_one_failure s b p lo hi e e' (inl f) (inr g) = cc (f.0, g.0)
   text_one_failure s b p lo hi e e' (inr f) (inl g) = cc (f.0, g.0)
   text_one_failure s b p lo hi e e' (inr f) (inr g) =
-      out_of_line_one_failure s b p lo hi e e' f.1 g.1
+      grind (arith, common_steps, out_of_line_one_failure s b p lo hi e e' f.1 g.1)
 
   valid_wider : (s b : List ℕ) (p lo lo' hi hi' l : ℕ) → lo' ≤ lo → hi ≤ hi'
       → IsValidOutOfLine w s b p lo hi l → IsValidOutOfLine w s b p lo' hi' l
-  valid_wider s b p lo lo' hi hi' l low high (f, n, at, part, u, q) = (
-    f,
-    n,
-    at,
-    part_wider (out_of_line_begin w s p) (out_of_line_length w s) 1 lo lo' hi hi' at low high part,
-    u,
-    q,
-  )
+  valid_wider s b p lo lo' hi hi' l low high (f, n, at, part, u, q) =
+      grind (arith, common_steps, part_wider)
 
   valid_higher : (s b : List ℕ) (p lo hi hi' l : ℕ) → hi ≤ hi' → IsValidText w s b p lo hi l
       → IsValidText w s b p lo hi' l
-  valid_higher s b p lo hi hi' l o (inl h) = inl h
-  valid_higher s b p lo hi hi' l o (inr h) =
-      inr (valid_wider s b p lo lo hi hi' l (omega arith) o h)
+  valid_higher s b p lo hi hi' l o h = grind (arith, common_steps, valid_wider)
 
   valid_lower : (s b : List ℕ) (p lo lo' hi l : ℕ) → lo' ≤ lo → IsValidText w s b p lo hi l
       → (l' : ℕ) × IsValidText w s b p lo' hi l' × (l' ≤ l)

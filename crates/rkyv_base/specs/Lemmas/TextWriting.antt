@@ -1,8 +1,8 @@
 -- Lemmas: the format of text: inline, filled up with ff, if it fits in the fixed bytes,
 -- and else in one piece out of line.
 use Rattle.std.specs.Prelude.{FitsSigned, List, [], false, get_or, length, nat_le, nat_lt, pos}
-use Rattle.std.specs.Prelude.{replicate, slice_index, slice_range, take, true, ℕ, ℤ, ◌%◌, ◌&&◌}
-use Rattle.std.specs.Prelude.{◌++◌, ◌+ℤ◌, ◌+◌, ◌-ℤ◌, ◌-◌, ◌<◌, ◌==◌, ◌^◌, ◌∷◌, ◌≡◌, ◌≤◌}
+use Rattle.std.specs.Prelude.{replicate, slice_range, take, true, ℕ, ℤ, ◌&&◌, ◌++◌, ◌+ℤ◌, ◌+◌, ◌-ℤ◌}
+use Rattle.std.specs.Prelude.{◌-◌, ◌<◌, ◌==◌, ◌^◌, ◌∷◌, ◌≡◌, ◌≤◌}
 use Rattle.std.specs.List.{position_or_len}
 use Rattle.std.specs.Int.{Width, byte_len, cast_signed, cast_unsigned, from_le_bytes, to_le_bytes}
 use Rattle.std.specs.Str.{IsUtf8}
@@ -14,11 +14,10 @@ use Rattle.rkyv_base.specs.{decode_length, fixed_bytes, inline_bytes, inline_tex
 use Rattle.rkyv_base.specs.{length_word, out_of_line_begin, out_of_line_bytes, out_of_line_length}
 use Rattle.rkyv_base.specs.{signed_at, text_format, text_limit, text_size, text_spec, written_as}
 use Rattle.rkyv_base.specs.Lemmas.Pairs.{written_as-format}
-use Rattle.rkyv_base.specs.Lemmas.Text.{by_archive_word}
-use Rattle.rkyv_base.specs.Lemmas.Text.{out_of_line_reads}
-use Rattle.rkyv_base.specs.Lemmas.Text.{inline_reads}
+use Rattle.rkyv_base.specs.Lemmas.Text.{by_archive_word, out_of_line_reads, inline_reads}
 use Rattle.rkyv_base.specs.Lemmas.Utf8.{text_begins, text_below}
 use Rattle.std.proofs.Common.{refl, arith, sym, subst, ◌∙◌, ap, inl, inr, length-append}
+use Rattle.std.proofs.lemmas.Grind.{common_steps}
 use Rattle.std.proofs.Math.Facts.{Fits-of_z}
 use Rattle.std.proofs.Math.ListN.{get_or-append}
 use Rattle.std.proofs.Math.Seq.{drop-append_seam, get_or-append_right, take-append_seam}
@@ -73,8 +72,7 @@ out_of_line_byte : (x : ℕ) → 128 ≤ x → x < 192 → (nat_le 128 x && nat_
 out_of_line_byte x h g = grind (arith, nat_tests)
 
 is_word : (w : Width) → IsArchiveWord w → IsWord w
-is_word w (inl e) = inr (inr (inl e))
-is_word w (inr e) = inr (inr (inr e))
+is_word w h = grind (arith, common_steps)
 
 -- the first of two parts, and the second
 first_part : (x y : List ℕ) (k : ℕ) → length x ≡ k → slice_range (x ++ y) 0 (0 + k) ≡ x
@@ -82,9 +80,7 @@ first_part x y k n = let e : 0 + k - 0 ≡ length x = omega arith in rw e (take-
 
 second_part : (x y : List ℕ) (k : ℕ) → length x ≡ k → length y ≡ k
     → slice_range (x ++ y) k (k + k) ≡ y
-second_part x y k n m =
-    let e : k + k - k ≡ k = omega arith in
-    rw (e, ← n, drop-append_seam x y) (take_all (length x) y (omega arith))
+second_part x y k n m = grind (arith, common_steps, drop-append_seam, take_all)
 
 length_decoded : (n : ℕ) → decode_length (length_word n) ≡ n
 length_decoded n = omega arith
@@ -92,15 +88,10 @@ length_decoded n = omega arith
 -- the fixed bytes of out-of-line text encode its form, its length and its distance
 module _ (w : Width) (kind : IsArchiveWord w) (n : ℕ) (d : ℤ) where
   pub length_out_of_line : length (out_of_line_bytes w n d) ≡ text_size w
-  length_out_of_line =
-      by_archive_word (λ v. length (out_of_line_bytes v n d) ≡ text_size v) refl refl w kind
+  length_out_of_line = grind (arith, common_steps, by_archive_word)
 
   out_of_line_first : is_out_of_line (out_of_line_bytes w n d) ≡ true
-  out_of_line_first =
-      let first : slice_index (out_of_line_bytes w n d) 0 ≡ length_word n % 256 =
-      by_archive_word (λ v. slice_index (out_of_line_bytes v n d) 0 ≡ length_word n % 256) refl refl
-      w kind in
-      rw first (out_of_line_byte (length_word n % 256) (omega arith) (omega arith))
+  out_of_line_first = grind (arith, common_steps, by_archive_word, out_of_line_byte)
 
   length_reads : n < text_limit w → out_of_line_length w (out_of_line_bytes w n d) ≡ n
   length_reads small =
@@ -136,10 +127,7 @@ module _ (w : Width) (kind : IsArchiveWord w) where
 
   text_whole : (t : List ℕ) (r : TextResolver) (p : ℕ) (out : List ℕ) → TextImage w t r p out
       → length out ≡ text_size w
-  text_whole t r p out (inl h) = ap length h.1 ∙ length_inline (text_size w) t h.0
-  text_whole t r p out (inr (inl h)) = ap length h.2
-      ∙ length_out_of_line w kind (length t) (pos r.pos -ℤ pos p)
-  text_whole t r p out (inr (inr h)) = h.1
+  text_whole t r p out h = grind (arith, common_steps, length_inline, length_out_of_line)
 
   inline_sound : (t c : List ℕ) (p lo hi : ℕ) → IsUtf8 t
       → fixed_bytes w c p ≡ inline_bytes (text_size w) t
@@ -187,22 +175,16 @@ module _ (w : Width) (kind : IsArchiveWord w) where
 
   text_exclusive : (t : List ℕ) (r : TextResolver) (p : ℕ) (out : List ℕ) → TextImage w t r p out
       → TextOverflows w t r p → ⊥
-  text_exclusive t r p out (inl i) f = omega (arith, i.0, f.0.0)
-  text_exclusive t r p out (inr (inl i)) f = f.1 i.1
-  text_exclusive t r p out (inr (inr i)) f = omega (arith, i.0, f.0.1)
+  text_exclusive t r p out h f = grind (arith, common_steps)
 
   text_sound : (t : List ℕ) (r : TextResolver) (c : List ℕ) (p0 p : ℕ) (part out : List ℕ)
       → TextParts w t p0 part r → TextImage w t r p out
       → OccursAt c p0 part → fixed_bytes w c p ≡ out
       → (l : ℕ) × IsValidText w (fixed_bytes w c p) c p p0 (p0 + length part) l × TextReads w c p t
-  text_sound t r c p0 p part out h (inl i) s fixed =
-      inline_sound t c p p0 (p0 + length part) h.0 (fixed ∙ i.1)
-  text_sound t r c p0 p part out (u, inl h) (inr (inl i)) s fixed =
-      absurd (omega (arith, h.0, i.0.0))
-  text_sound t r c p0 p part out (u, inl h) (inr (inr i)) s fixed =
-      absurd (omega (arith, h.0, i.0, sizes.1))
-  text_sound t r c p0 p part out (u, inr h) (inr (inr i)) s fixed =
-      absurd (omega (arith, h.0.1, i.0))
+  text_sound t r c p0 p part out h (inl i) s fixed = grind (arith, common_steps, inline_sound)
+  text_sound t r c p0 p part out (u, inl h) (inr (inl i)) s fixed = grind (arith, common_steps)
+  text_sound t r c p0 p part out (u, inl h) (inr (inr i)) s fixed = grind (arith, common_steps)
+  text_sound t r c p0 p part out (u, inr h) (inr (inr i)) s fixed = grind (arith, common_steps)
   text_sound t r c p0 p part out (u, inr h) (inr (inl i)) s fixed =
       let fits : FitsSigned w (pos p0 -ℤ pos p) =
       subst (λ q. FitsSigned w (pos q -ℤ pos p)) h.2 i.1 in

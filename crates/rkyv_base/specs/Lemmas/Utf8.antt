@@ -1,8 +1,9 @@
 -- Bytes that are in no UTF-8 text, and bytes that begin none.
-use Rattle.std.specs.Prelude.{All, List, [], false, nat_le, nat_lt, suc, true, zero, ℕ, ◌%◌, ◌&&◌}
+use Rattle.std.specs.Prelude.{All, List, [], false, nat_le, nat_lt, true, ℕ, ◌%◌, ◌&&◌}
 use Rattle.std.specs.Prelude.{◌+◌, ◌/◌, ◌<◌, ◌∷◌, ◌≡◌, ◌≤◌}
 use Rattle.std.specs.Str.{IsUtf8}
-use Rattle.std.proofs.Common.{arith, inl, inr, ltb, subst}
+use Rattle.std.proofs.Common.{arith, ltb, subst}
+use Rattle.std.proofs.lemmas.Grind.{common_steps}
 use Rattle.std.proofs.Math.Utf8.{encode, encodes, scalar, scalar_cases, scalars}
 use Rattle.std.proofs.lemmas.Bool.{and_parts, cond_both, ltb-true}
 use Rattle.std.proofs.lemmas.Bool.Decides.{nat_tests}
@@ -17,19 +18,14 @@ below_nil : BelowFf []
 below_nil k d h = absurd (omega (arith, h))
 
 below_cons : (x : ℕ) (xs : List ℕ) → x < 255 → BelowFf xs → BelowFf (x ∷ xs)
-below_cons x xs h g zero d k = h
-below_cons x xs h g (suc i) d k = g i d (omega arith)
+below_cons x xs h g i d k = grind (arith, common_steps)
 
 -- a byte that continues a character
 tail_below : (c : ℕ) (xs : List ℕ) → BelowFf xs → BelowFf ((128 + c % 64) ∷ xs)
 tail_below c xs h = below_cons (128 + c % 64) xs (omega arith) h
 
 lead_below : (c : ℕ) → scalar c ≡ true → 240 + c / 262144 < 255
-lead_below c h =
-    elim (scalar_cases c h) [
-      | inl low ↦ omega arith
-      | inr high ↦ omega (arith, high.1)
-    ]
+lead_below c h = grind (arith, common_steps, scalar_cases)
 
 char_below : (c : ℕ) → scalar c ≡ true → BelowFf (encode c)
 unfolding encode

@@ -1,7 +1,7 @@
 -- Lemmas: counts and distances, which are read back as they were written.
-use Rattle.std.specs.Prelude.{pos, ◌+◌, ◌-ℤ◌, slice_range}
-use Rattle.std.specs.Int.{Width, cast_signed, cast_unsigned, from_le_bytes, w64}
-use Rattle.std.proofs.Common.{arith, inl, inr, refl, sym, ◌∙◌, ap}
+use Rattle.std.specs.Int.{Width, cast_signed, cast_unsigned}
+use Rattle.std.proofs.Common.{arith, inl, inr, refl, ◌∙◌, ap}
+use Rattle.std.proofs.lemmas.Grind.{common_steps}
 use Rattle.std.proofs.Math.Facts.{Fits-of_z}
 use Rattle.std.proofs.lemmas.Int.{fits_signed_from_abs, ints, to_z-of_z}
 use Rattle.rkyv_base.specs.{CountsReadBack, DistancesReadBack, IsArchiveWord, IsWord}
@@ -15,9 +15,7 @@ module _ (w : Width) (kind : IsArchiveWord w) where
 
   pub counts_read_back : CountsReadBack w
   counts_read_back n b p fits there =
-      ap (from_le_bytes w) (ap (λ k. slice_range b p (p + k)) (sym (word_bytes w archive_word n))
-      ∙ there.there)
-      ∙ word_reads_back w archive_word n fits
+      grind (arith, common_steps, word_bytes, archive_word, word_reads_back)
 
   pub distances_read_back : DistancesReadBack w
   distances_read_back d b p fits there =
@@ -25,5 +23,4 @@ module _ (w : Width) (kind : IsArchiveWord w) where
       ∙ to_z-of_z w d fits
 
 pub wide_distances_fit : WideDistancesFit
-wide_distances_fit target from t f =
-    fits_signed_from_abs w64 (pos target -ℤ pos from) (omega (arith, ints))
+wide_distances_fit target from t f = grind (arith, common_steps, fits_signed_from_abs, ints)

@@ -1,4 +1,5 @@
-use Rattle.std.proofs.Common.{◌≡◌, ◌+◌, ◌-◌, ◌≤◌, ℕ, List, Option, not, arith, drop, leb, length, take, None, sym, ap, ◌∙◌}
+use Rattle.std.proofs.Common.{◌≡◌, ◌+◌, ◌-◌, ◌≤◌, ℕ, List, Option, not, arith, drop, leb, length, take, None, ap, ◌∙◌}
+use Rattle.std.proofs.lemmas.Grind.{common_steps}
 use Rattle.std.specs.List.{position}
 use Rattle.std.proofs.lemmas.List.{take_rest}
 use Rattle.rkyv_base.proofs.Ascii.{none_high}
@@ -14,17 +15,7 @@ on xs at o le before e none =
     λ k l. m k (omega arith)
 
 pub loop-at-preserved : goal.loop-at-preserved
-loop-at-preserved c =
-    let t = c.loop-at-test.true in (
-      omega arith,
-      on c.args.bytes.now c.loop-at.at c.first_of_eight.result (omega arith) c.loop-at.invariant.1 c.first_of_eight.ensures
-          (is_absent c.first_of_eight.result (sym c.if-is_some.ensures)),
-    )
+loop-at-preserved c = grind (arith, common_steps, on, is_absent)
 
 pub returns : goal.returns
-returns c t =
-    let xs : List ℕ = c.args.bytes.now in
-    let end = c.loop-at-test.false in
-    let m = on xs (length xs - 8) c.first_of_eight-2.result (omega arith) (λ k l. c.loop-at.invariant.1 k (omega arith)) c.first_of_eight-2.ensures
-    (is_absent c.first_of_eight-2.result (c.is_none.ensures ∙ ap not t)) in
-    none_high xs (λ k l. m k (omega arith))
+returns c t = grind (arith, common_steps, ℕ, on, length, is_absent, not, none_high)

@@ -1,15 +1,12 @@
 use Rattle.std.proofs.Common.{arith, ◌≤◌}
+use Rattle.std.proofs.lemmas.Grind.{common_steps}
 use Rattle.std.proofs.lemmas.Result.{err_from_is_err_and}
 use Rattle.rkyv_base.specs.{whole_size}
 use Rattle.rkyv_base.proofs.PairWriting.{key_fails, pair_serialized, value_fails}
 use Rattle.rkyv_base.proofs.pairs.serialize_entry.Goals as goal
 
 pub returns-in_err-key : goal.returns-in_err-key
-returns-in_err-key g c =
-    let small : whole_size g.A.Archived.HasSpec.spec g.B.Archived.HasSpec.spec ≤ 1073741824 = omega arith in
-    let p = err_from_is_err_and c.from_residual.result c.from_residual.ensures.1 in
-    rw (p.1, p.2) (key_fails g.W.Width.LIMIT g.A.Archived.HasSpec.spec g.B.Archived.HasSpec.spec g.A.Archive.format g.B.Archive.format
-    (c.args.key.now, c.args.value.now) _ _ c.in_err-key.field-0.0 small c.in_err-key.ensures)
+returns-in_err-key g c = grind (arith, common_steps, err_from_is_err_and, key_fails)
 
 pub returns-in_err-value : goal.returns-in_err-value
 returns-in_err-value g c =

@@ -1,4 +1,5 @@
-use Rattle.std.proofs.Common.{rules}
+use Rattle.std.proofs.Common.{rules, arith}
+use Rattle.std.proofs.lemmas.Grind.{common_steps}
 use Rattle.std.proofs.lemmas.Result.{err_from_is_err_and}
 use Rattle.rkyv_base.proofs.RootWriting.{root_align_fails, root_append_fails, root_overflow_fails, root_wrote}
 use Rattle.rkyv_base.proofs.root.write_root_in.Goals as goal
@@ -9,30 +10,13 @@ returns-in_err-resolver g c =
     rw (p.1, p.2) (search rules)
 
 pub returns-in_err-root : goal.returns-in_err-root
-returns-in_err-root g c =
-    let s = c.in_ok-resolver.ensures in
-    let p = err_from_is_err_and c.from_residual-in_err-root.result c.from_residual-in_err-root.ensures.1 in
-    rw (p.1, p.2) (root_align_fails g.row.S-Fault.Denot g.W.Width.LIMIT g.V.Archived.HasSpec.spec g.V.Archive.format c.args.value.now
-    (g.S.Writer.output c.args.serializer.now) (g.S.Writer.output c.serialize.new.serializer) (g.S.Writer.output c.align_for_in.new.serializer) (g.S.Writer.output c.align_for_in.new.serializer)
-    s.0 c.in_ok-resolver.resolver s.1 s.2 s.3 c.in_err-root.field-0.0 c.in_err-root.ensures)
+returns-in_err-root g c = grind (arith, common_steps, err_from_is_err_and, root_align_fails)
 
 pub returns-in_err-resolve : goal.returns-in_err-resolve
-returns-in_err-resolve g c =
-    let p = err_from_is_err_and c.from_residual-in_err-resolve.result c.from_residual-in_err-resolve.ensures.1 in
-    let s = c.in_ok-resolver.ensures in
-    let a = c.in_ok-root.ensures in
-    rw (p.1, p.2) (root_overflow_fails g.row.S-Fault.Denot g.W.Width.LIMIT g.V.Archived.HasSpec.spec g.V.Archive.format c.args.value.now
-    (g.S.Writer.output c.args.serializer.now) (g.S.Writer.output c.serialize.new.serializer) (g.S.Writer.output c.align_for_in.new.serializer) (g.S.Writer.output c.align_for_in.new.serializer)
-    s.0 c.in_ok-resolver.resolver s.1 s.2 s.3 (a.0, rw a.1 at a.2) (rw a.1 at c.in_err-resolve.ensures))
+returns-in_err-resolve g c = grind (arith, common_steps, err_from_is_err_and, root_overflow_fails)
 
 pub returns-in_err-append_in : goal.returns-in_err-append_in
-returns-in_err-append_in g c =
-    let s = c.in_ok-resolver.ensures in
-    let a = c.in_ok-root.ensures in
-    let p = err_from_is_err_and c.from_residual-in_err-append_in.result c.from_residual-in_err-append_in.ensures.1 in
-    rw (p.1, p.2) (root_append_fails g.row.S-Fault.Denot g.W.Width.LIMIT g.V.Archived.HasSpec.spec g.V.Archive.format c.args.value.now
-    (g.S.Writer.output c.args.serializer.now) (g.S.Writer.output c.serialize.new.serializer) (g.S.Writer.output c.align_for_in.new.serializer) (g.S.Writer.output c.append_in.new.serializer)
-    s.0 c.in_ok-resolver.resolver s.1 s.2 s.3 c.resolve.new.out c.in_err-append_in.field-0.0 (a.0, rw a.1 at a.2) (rw a.1 at c.in_ok-resolve.ensures) c.in_err-append_in.ensures)
+returns-in_err-append_in g c = grind (arith, common_steps, err_from_is_err_and, root_append_fails)
 
 pub returns : goal.returns
 returns g c =

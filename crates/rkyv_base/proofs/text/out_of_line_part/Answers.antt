@@ -1,7 +1,8 @@
-use Rattle.std.proofs.Common.{rules, ◌≡◌, ◌∙◌, ◌+◌, ℕ, ap, sym, arith, FitsSigned, List, slice_range, pos}
+use Rattle.std.proofs.Common.{rules, ◌∙◌, ℕ, ap, sym, arith, FitsSigned, List, slice_range, pos}
+use Rattle.std.proofs.lemmas.Grind.{common_steps}
 use Rattle.std.specs.Int.{w128}
 use Rattle.std.proofs.lemmas.Int.{to_z-of_z}
-use Rattle.rkyv_base.specs.{fixed_bytes, out_of_line_begin, out_of_line_length}
+use Rattle.rkyv_base.specs.{out_of_line_begin}
 use Rattle.rkyv_base.specs.Lemmas.Text.{out_of_line_reads, viewable_out_of_line}
 use Rattle.rkyv_base.proofs.text.out_of_line_part.Goals as goal
 
@@ -14,13 +15,4 @@ pos_of_begin-at-requires g c =
     (v.0, v.1 ∙ sym begins, omega (arith, v.2))
 
 pub returns : goal.returns
-returns g c =
-    let w = g.W.Word.word in
-    let b = c.args.bytes.now in
-    let at = c.pos_of_begin-at.result in
-    let fits : FitsSigned w128 c.out_of_line_start.result = search rules in
-    let begins : pos at ≡ out_of_line_begin w (fixed_bytes w b c.args.pos) c.args.pos =
-    c.pos_of_begin-at.ensures ∙ to_z-of_z w128 c.out_of_line_start.result fits ∙ c.out_of_line_start.ensures
-    ∙ ap (λ (s : List ℕ). out_of_line_begin w s c.args.pos) c.fixed_at-fixed.ensures in
-    let len : c.out_of_line_len.result ≡ out_of_line_length w (fixed_bytes w b c.args.pos) = c.out_of_line_len.ensures ∙ ap (out_of_line_length w) c.fixed_at-fixed.ensures in
-    ap (λ (n : ℕ). slice_range b at (at + n)) len ∙ sym (out_of_line_reads w (fixed_bytes w b c.args.pos) b c.args.pos at c.requires.out_of_line begins)
+returns g c = grind (arith, common_steps, pos, to_z-of_z, slice_range, out_of_line_reads)

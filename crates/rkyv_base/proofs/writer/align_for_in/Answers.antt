@@ -1,14 +1,11 @@
-use Rattle.std.proofs.Common.{refl}
+use Rattle.std.proofs.Common.{refl, arith}
+use Rattle.std.proofs.lemmas.Grind.{common_steps}
 use Rattle.std.proofs.lemmas.Result.{err_from_is_err_and}
-use Rattle.rkyv_base.specs.{end_of}
 use Rattle.rkyv_base.proofs.Zeros.{aligned_by_zeros, fails_of_zeros}
 use Rattle.rkyv_base.proofs.writer.align_for_in.Goals as goal
 
 pub returns-in_err-append_in : goal.returns-in_err-append_in
-returns-in_err-append_in g c =
-    let p = err_from_is_err_and c.from_residual.result c.from_residual.ensures.1 in
-    rw (p.1, p.2) (fails_of_zeros g.W.Width.LIMIT g.T.HasSpec.spec.align (end_of (g.S.Writer.output c.args.serializer.now)) _ _ _ c.in_err-append_in.field-0.0
-    g.T.HasSpec.laws.align_is (rw (c.align-align.ensures, c.pos.ensures) refl) c.in_err-append_in.ensures)
+returns-in_err-append_in g c = grind (arith, common_steps, err_from_is_err_and, fails_of_zeros)
 
 pub returns : goal.returns
 returns g c =

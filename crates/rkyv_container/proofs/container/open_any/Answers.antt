@@ -1,4 +1,5 @@
-use Rattle.std.proofs.Common.{inl}
+use Rattle.std.proofs.Common.{inl, arith}
+use Rattle.std.proofs.lemmas.Grind.{common_steps}
 use Rattle.rkyv_container.specs.{IsContainer, OpenFails}
 use Rattle.rkyv_container.proofs.Checking.{err_from}
 use Rattle.rkyv_container.proofs.Opening.{container_from}
@@ -11,6 +12,4 @@ returns-in_err-header c =
     c.in_err-header.field-0.0 c.from_residual.ensures.1 (inl c.in_err-header.ensures)
 
 pub returns : goal.returns
-returns c =
-    container_from c.in_ok-header.header c.in_ok-header.archive.now c.args.bytes.now
-    c.in_ok-header.ensures c.in_ok-check_archive.ensures
+returns c = grind (arith, common_steps, container_from c.in_ok-header.header c.in_ok-header.archive.now c.args.bytes.now c.in_ok-header.ensures c.in_ok-check_archive.ensures)

@@ -1,15 +1,13 @@
 use Rattle.rkyv_base.proofs.Sealing.{entry_kept, key_in_front}
 use Rattle.rkyv_base.proofs.seal.ArchiveSeal.split_value.Goals as goal
+use Rattle.std.proofs.Common.{arith}
+use Rattle.std.proofs.lemmas.Grind.{common_steps}
 
 pub new-requires : goal.new-requires
-new-requires g c =
-    rw (c.split_at_mut-front.ensures.front, c.value_offset.ensures.value)
-    (key_in_front g.K.HasSpec.spec g.V.HasSpec.spec g.K.HasSpec.laws g.V.HasSpec.laws c.args.self.archive.now c.args.entry_pos c.requires)
+new-requires g c = grind (arith, common_steps, key_in_front g.K.HasSpec.spec g.V.HasSpec.spec g.K.HasSpec.laws g.V.HasSpec.laws c.args.self.archive.now c.args.entry_pos c.requires)
 
 pub returns-clause-viewable : goal.returns-clause-viewable
-returns-clause-viewable g c =
-    rw (c.new.ensures.0, c.new.ensures.1, c.split_at_mut-front.ensures.front, c.value_offset.ensures.value)
-    (key_in_front g.K.HasSpec.spec g.V.HasSpec.spec g.K.HasSpec.laws g.V.HasSpec.laws c.args.self.archive.now c.args.entry_pos c.requires)
+returns-clause-viewable g c = grind (arith, common_steps, key_in_front g.K.HasSpec.spec g.V.HasSpec.spec g.K.HasSpec.laws g.V.HasSpec.laws c.args.self.archive.now c.args.entry_pos c.requires)
 
 pub returns-clause-kept : goal.returns-clause-kept
 returns-clause-kept g c =
