@@ -4,9 +4,8 @@ ghost use Rattle.std.specs.Int.{w64};
 ghost use Rattle.std.specs.Option.{is_some};
 ghost use Rattle.std.specs.Prelude.{ℕ, ◌≡◌, IfOk, Ok, OnErr};
 ghost use Rattle.rkyv_base.specs.{IsValidArchive, OpensNarrow, narrow_limit, unsigned};
-ghost use Rattle.rkyv_keys.specs.{same_bytes};
+ghost use Rattle.rkyv_keys.specs.{same_bytes, with_first};
 ghost use Rattle.rkyv_collections.specs.{IsTextMap, SetsValueOfText, TextPairs, first_of_text};
-ghost use Rattle.rkyv_collections.specs.{with_first};
 
 use rkyv_base::access::access;
 use rkyv_base::element::HasSpec;

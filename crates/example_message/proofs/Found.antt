@@ -6,8 +6,8 @@ use Rattle.std.specs.Option.{is_some, option_map}
 use Rattle.rkyv_base.specs.{unsigned}
 use Rattle.rkyv_base.specs.declared.view.View.{View}
 use Rattle.rkyv_table.proofs.Moved.{moved}
-use Rattle.rkyv_collections.specs.{SetsFound, with_first}
-use Rattle.rkyv_keys.specs.{IsFoundValue, first_pair}
+use Rattle.rkyv_collections.specs.{SetsFound}
+use Rattle.rkyv_keys.specs.{IsFoundValue, first_pair, with_first}
 use Rattle.rkyv_collections.specs.declared.lists.pairs.MapPairs.{MapPairs}
 use Rattle.example_message.specs.{FieldList, FieldsRepresent, PartRepresents, Parts, PartsRepresent, RepresentsIfFound, WritesIfFound, is_named, name_hash, name_spec, number_in, number_of_part, number_spec, with_field, with_part}
 

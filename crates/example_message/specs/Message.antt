@@ -11,10 +11,10 @@ use Rattle.rkyv_base.specs.{scalar_spec, text_at, text_format, text_spec, unsign
 use Rattle.rkyv_base.specs.{with_value, written_as}
 use Rattle.rkyv_base.specs.declared.errors.VerifyError.{VerifyError}
 use Rattle.rkyv_base.specs.declared.errors.WriteError.{WriteError}
-use Rattle.rkyv_keys.specs.{first_value, hash_at, hash_of, same_bytes, text_calls, text_key_calls}
+use Rattle.rkyv_keys.specs.{first_value, hash_at, hash_of, same_bytes, text_calls}
+use Rattle.rkyv_keys.specs.{text_key_calls, with_first}
 use Rattle.rkyv_table.specs.{TableResolver, listed, pos_found, written_as_each}
 use Rattle.rkyv_collections.specs.{FindsFirstKeyAt, IsKeyPosAt, MapRepresents, map_format, map_spec}
-use Rattle.rkyv_collections.specs.{with_first}
 use Rattle.rkyv_collections.specs.declared.lists.pairs.MapPairs.{MapPairs}
 
 -- names, each with a number

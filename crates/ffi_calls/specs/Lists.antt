@@ -9,8 +9,8 @@ use Rattle.rkyv_scan.specs.{HasherCall, fx_hasher, low_halves}
 use Rattle.rkyv_base.specs.declared.errors.WriteError.{WriteError}
 use Rattle.rkyv_table.specs.{TableResolver}
 use Rattle.rkyv_collections.specs.{MapAt, MapRepresents, ValueQuery, WalksVisitPairs, map_spec}
-use Rattle.rkyv_collections.specs.{pairs_under, query_of_value, with_first}
-use Rattle.rkyv_keys.specs.{NativePairs, PairFormat, first_pair, first_value, fx_format}
+use Rattle.rkyv_collections.specs.{pairs_under, query_of_value}
+use Rattle.rkyv_keys.specs.{NativePairs, PairFormat, first_pair, first_value, fx_format, with_first}
 use Rattle.rkyv_keys.specs.{native_pairs}
 use Rattle.ffi_calls.specs.Archives.{map_in}
 

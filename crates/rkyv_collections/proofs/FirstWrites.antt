@@ -1,5 +1,6 @@
--- Writes of the value of the first pair of a list with an accepted key.
+-- Writes that change the value of the first pair of a list with an accepted key.
 use Rattle.std.proofs.Common.{◌≡◌, ℕ, suc, ◌<◌, ◌∙◌, ap, arith, inl, inr, ◌⊎◌, Bool, true, false, List, [], ◌∷◌, length, slice_get, slice_index, Option, None, Some, refl, subst, sym}
+use Rattle.std.proofs.lemmas.Grind.{common_steps}
 use Rattle.std.specs.Int.{Width}
 use Rattle.std.specs.List.{find}
 use Rattle.std.specs.Option.{is_some, option_map}
@@ -10,12 +11,12 @@ use Rattle.std.proofs.lemmas.Option.{same_Some, slice_get_within}
 use Rattle.rkyv_base.specs.{ElementSpec, IsElement, ModifiesOnly, RepresentsLocally, StaysValid, ValidAt, Viewable, entry_spec, value_pos}
 use Rattle.rkyv_keys.specs.Lemmas.OfEntries.{valid_key}
 use Rattle.rkyv_table.specs.{WritesValue, home_positions, item_at}
-use Rattle.rkyv_collections.specs.{AgreesOnKeys, MapRepresents, map_spec, with_first}
-use Rattle.rkyv_keys.specs.{HashLocal, first_pair}
+use Rattle.rkyv_collections.specs.{AgreesOnKeys, MapRepresents, map_spec}
+use Rattle.rkyv_keys.specs.{HashLocal, first_pair, with_first_changed}
 use Rattle.rkyv_collections.proofs.ValueWrites.{written_value_represents}
 use Rattle.rkyv_collections.proofs.WrittenPairs.{pair_valid, pos_of_pair}
 
-module _ {A B : Type 0} (accept_value : A → Bool) (value : B) where
+module _ {A B : Type 0} (accept_value : A → Bool) (change : B → B) where
   -- the found position is that of the pair `n`, which is the first accepted one of both lists
   pub record IsNth (xs : List ℕ) (ys : List (A × B)) (found : Option ℕ) : Type 0 where
     pub n : ℕ
@@ -24,10 +25,10 @@ module _ {A B : Type 0} (accept_value : A → Bool) (value : B) where
     pub pos : found ≡ Some (slice_index xs n)
     pub at : slice_get ys n ≡ Some pair
     pub first : first_pair accept_value ys ≡ Some pair
-    pub written : with_first accept_value value ys ≡ slice_set ys n (pair.0, value)
+    pub written : with_first_changed accept_value change ys ≡ slice_set ys n (pair.0, change pair.1)
 
   abbrev pub IsNone : List (A × B) → Option ℕ → Type 0
-  IsNone ys found = (found ≡ None) × (first_pair accept_value ys ≡ None) × (with_first accept_value value ys ≡ ys)
+  IsNone ys found = (found ≡ None) × (first_pair accept_value ys ≡ None) × (with_first_changed accept_value change ys ≡ ys)
 
   pub nth_found : (accept : ℕ → Bool) (xs : List ℕ) (ys : List (A × B)) → length xs ≡ length ys
       → ((i : ℕ) (y : A × B) → slice_get ys i ≡ Some y → accept (slice_index xs i) ≡ accept_value y.0)
@@ -64,15 +65,13 @@ module _ {A B : Type 0} (accept_value : A → Bool) (value : B) where
       ]
 
 pub some_pos : (f : ℕ → ℕ) (o : Option ℕ) (pos : ℕ) → Some pos ≡ option_map f o → (q : ℕ) × (Some q ≡ o) × (pos ≡ f q)
-some_pos f None pos e = absurd cc
-some_pos f (Some q) pos e = (q, refl, same_Some pos (f q) e)
+some_pos f found pos e = grind (arith, common_steps, same_Some)
 
 no_pos : (f : ℕ → ℕ) (o : Option ℕ) → None ≡ option_map f o → None ≡ o
-no_pos f None e = refl
-no_pos f (Some q) e = absurd cc
+no_pos f found e = grind (arith, common_steps)
 
 module _ (w : Width) (k v : ElementSpec) (kl : IsElement k) (vl : IsElement v) {A B : Type 0} (key : List ℕ → ℕ → A → Type 0) (value : List ℕ → ℕ → B → Type 0)
-    (key_hash : List ℕ → ℕ → ℕ) (factor : ℕ × ℕ) (b : List ℕ) (p : ℕ) (pairs : List (A × B)) (new : B) (accept : ℕ → Bool) (accept_value : A → Bool)
+    (key_hash : List ℕ → ℕ → ℕ) (factor : ℕ × ℕ) (b : List ℕ) (p : ℕ) (pairs : List (A × B)) (change : B → B) (accept : ℕ → Bool) (accept_value : A → Bool)
     (view : Viewable (map_spec w k v) b p) (agrees : AgreesOnKeys k key b accept accept_value) (st : MapRepresents w k v key value key_hash factor b p pairs) where
   abbrev positions : List ℕ
   positions = home_positions w (entry_spec k v).size b p st.homes
@@ -92,34 +91,34 @@ module _ (w : Width) (k v : ElementSpec) (kl : IsElement k) (vl : IsElement v) {
       agrees y.0 (slice_index positions i) (valid_key kl vl b (slice_index positions i) entry) (st.at i y get).0
 
   -- if no key is accepted, the list has no accepted pair and is unchanged
-  pub none_written : None ≡ find accept positions → (false ≡ is_some (first_pair accept_value pairs)) × MapRepresents w k v key value key_hash factor b p (with_first accept_value new pairs)
-  none_written found = elim (nth_found accept_value new accept positions pairs count each_alike) [
+  pub none_written : None ≡ find accept positions → (false ≡ is_some (first_pair accept_value pairs)) × MapRepresents w k v key value key_hash factor b p (with_first_changed accept_value change pairs)
+  none_written found = elim (nth_found accept_value change accept positions pairs count each_alike) [
     | inl none ↦ (ap is_some (sym none.1), subst (λ (l : List (A × B)). MapRepresents w k v key value key_hash factor b p l) (sym none.2) st)
     | inr r ↦ absurd (let e = found ∙ r.pos in cc)
   ]
 
-  -- after a write of the first accepted value, the map represents the list with that value
+  -- after a change of the first accepted value, the map represents the list with the changed value
   pub first_written : (kn : RepresentsLocally k key) (vn : RepresentsLocally v value) → HashLocal k key_hash → (c : List ℕ) (q : ℕ) → Some q ≡ find accept positions
-      → WritesValue k v b c q → value c (value_pos k v q) new
-      → (true ≡ is_some (first_pair accept_value pairs)) × MapRepresents w k v key value key_hash factor c p (with_first accept_value new pairs)
-  first_written kn vn local c q found writes represents = elim (nth_found accept_value new accept positions pairs count each_alike) [
+      → WritesValue k v b c q → ((x : B) → value b (value_pos k v q) x → value c (value_pos k v q) (change x))
+      → (true ≡ is_some (first_pair accept_value pairs)) × MapRepresents w k v key value key_hash factor c p (with_first_changed accept_value change pairs)
+  first_written kn vn local c q found writes represents = elim (nth_found accept_value change accept positions pairs count each_alike) [
     | inl none ↦ absurd (let e = found ∙ none.0 in cc)
     | inr r ↦
         let at : q ≡ slice_index positions r.n = same_Some q (slice_index positions r.n) (found ∙ r.pos) in
-        let there = written_value_represents k v kl vl w key_hash local key value kn vn b c p r.n factor pairs r.pair new view st r.at
-        (subst (WritesValue k v b c) at writes) (subst (λ z. value c (value_pos k v z) new) at represents) in
+        let there = written_value_represents k v kl vl w key_hash local key value kn vn b c p r.n factor pairs r.pair (change r.pair.1) view st r.at
+        (subst (WritesValue k v b c) at writes) (subst (λ z. (x : B) → value b (value_pos k v z) x → value c (value_pos k v z) (change x)) at represents r.pair.1 (st.at r.n r.pair r.at).1) in
         (ap is_some (sym r.first), subst (λ (l : List (A × B)). MapRepresents w k v key value key_hash factor c p l) (sym r.written) there)
   ]
 
   -- the same for the position of the value
   pub none_behind : None ≡ option_map (value_pos k v) (find accept positions)
-      → (false ≡ is_some (first_pair accept_value pairs)) × MapRepresents w k v key value key_hash factor b p (with_first accept_value new pairs)
+      → (false ≡ is_some (first_pair accept_value pairs)) × MapRepresents w k v key value key_hash factor b p (with_first_changed accept_value change pairs)
   none_behind found = none_written (no_pos (value_pos k v) (find accept positions) found)
 
   pub first_behind : (kn : RepresentsLocally k key) (vn : RepresentsLocally v value) → HashLocal k key_hash → (c : List ℕ) (pos : ℕ)
-      → Some pos ≡ option_map (value_pos k v) (find accept positions) → ModifiesOnly b pos v.size c → StaysValid v b c pos → value c pos new
-      → (true ≡ is_some (first_pair accept_value pairs)) × MapRepresents w k v key value key_hash factor c p (with_first accept_value new pairs)
+      → Some pos ≡ option_map (value_pos k v) (find accept positions) → ModifiesOnly b pos v.size c → StaysValid v b c pos → ((x : B) → value b pos x → value c pos (change x))
+      → (true ≡ is_some (first_pair accept_value pairs)) × MapRepresents w k v key value key_hash factor c p (with_first_changed accept_value change pairs)
   first_behind kn vn local c pos found sealed keeps represents =
       let t = some_pos (value_pos k v) (find accept positions) pos found in
       first_written kn vn local c t.0 t.1 (record { sealed = subst (λ n. ModifiesOnly b n v.size c) t.2 sealed; keeps = subst (λ n. StaysValid v b c n) t.2 keeps })
-      (subst (λ n. value c n new) t.2 represents)
+      (subst (λ n. (x : B) → value b n x → value c n (change x)) t.2 represents)

@@ -20,10 +20,10 @@ use Rattle.rkyv_table.proofs.SameTable.{written_there}
 use Rattle.rkyv_table.proofs.SealedTable.{value_kept}
 use Rattle.rkyv_table.proofs.NestedEntries.{entry_written, key_of_other, key_of_own, represents_on, value_of_other}
 use Rattle.rkyv_table.proofs.NestedTables.{KeepsOuter, outer_kept}
-use Rattle.rkyv_collections.specs.{AgreesOnKeys, IsKeyPosAt, KeepsOuterMap, MapRepresents, map_spec, with_first}
+use Rattle.rkyv_collections.specs.{AgreesOnKeys, IsKeyPosAt, KeepsOuterMap, MapRepresents, map_spec}
 use Rattle.rkyv_collections.proofs.FirstWrites.{count, each_alike, nth_found, some_pos}
 use Rattle.rkyv_collections.proofs.NewValues.{home, new_value_represents, own_pos, own_walked, written_again}
-use Rattle.rkyv_keys.specs.{HashLocal}
+use Rattle.rkyv_keys.specs.{HashLocal, with_first}
 
 module _ (w : Width) (k v : ElementSpec) (kl : IsElement k) (vl : IsElement v) (key_hash : List ℕ → ℕ → ℕ) (local : HashLocal k key_hash) (b c : List ℕ) (p i : ℕ)
     (view : Viewable (map_spec w k v) b p) (walked : IsWalked w b p i) (writes : WritesAmongParts v b c (value_pos k v (item_at w (entry_spec k v).size b p i))) where
@@ -97,8 +97,8 @@ module _ (w : Width) (k v : ElementSpec) (kl : IsElement k) (vl : IsElement v) {
   nested_first kn vn local c pos found writes represents =
       let xs = home_positions w (entry_spec k v).size b p st.homes in
       let t = some_pos (value_pos k v) (find accept xs) pos found in
-      elim (nth_found accept_value new accept xs pairs (count w k v kl vl key value key_hash factor b p pairs new accept accept_value view agrees st)
-      (each_alike w k v kl vl key value key_hash factor b p pairs new accept accept_value view agrees st)) [
+      elim (nth_found accept_value (λ before. new) accept xs pairs (count w k v kl vl key value key_hash factor b p pairs (λ before. new) accept accept_value view agrees st)
+      (each_alike w k v kl vl key value key_hash factor b p pairs (λ before. new) accept accept_value view agrees st)) [
         | inl none ↦ absurd (let e = t.1 ∙ none.0 in cc)
         | inr r ↦
             let at : t.0 ≡ slice_index xs r.n = same_Some t.0 (slice_index xs r.n) (t.1 ∙ r.pos) in

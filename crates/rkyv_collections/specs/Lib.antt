@@ -64,7 +64,7 @@ unfoldable pub use Map.BothHashers.{ComparedAlike, QueriedAlike, WrittenAlike, f
 unfoldable pub use Map.MatchedKeys.{FindsMatchedKeys, HasDistinctKeys}
 pub use Map.MatchedKeys.{FindsSameKey}
 unfoldable pub use Map.Walking.{WalksAll}
-unfoldable pub use Map.InPlace.{SetsFirst, SetsFound, SetsValue, with_first}
+unfoldable pub use Map.InPlace.{SetsFirst, SetsFound, SetsValue}
 unfoldable pub use Map.ListArchives.{FoundAreListed, IsTextMapOf, OpensTextMap, SetsValueOfText}
 unfoldable pub use Map.ListArchives.{TextMapFails, TextMapRepresents, TextMapResult, TextPairs}
 unfoldable pub use Map.ListArchives.{first_of_text, map_root, text_found, text_key_found}
@@ -74,8 +74,7 @@ unfoldable pub use Map.NestedWrites.{NestedWritesKeepLookups, NestedWritesKeepMa
 unfoldable pub use Map.NestedWrites.{NestedWritesRepresent, ValueWritesAreNested}
 pub use Map.NestedWrites.{KeepsOuterMap}
 unfoldable pub use Map.InPlaceText.{UppercasesFirst, UppercasesFound, UppercasesText}
-unfoldable pub use Map.InPlaceText.{list_after_uppercase, map_to_texts_at, map_to_texts_spec}
-unfoldable pub use Map.InPlaceText.{uppercase_text, with_first_uppercase}
+unfoldable pub use Map.InPlaceText.{map_to_texts_at, map_to_texts_spec}
 unfoldable pub use Set.{FoundMemberHas, GetsMember, IsSetAt, member_positions, set_archive}
 unfoldable pub use Set.{set_bytes, set_cap, set_equal, set_len, set_misplaced, set_pos, set_spec}
 unfoldable pub use Set.{set_view}

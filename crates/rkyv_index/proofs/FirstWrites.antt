@@ -6,10 +6,10 @@ use Rattle.std.specs.Option.{is_some}
 use Rattle.std.specs.Prelude.{MatchOption, slice_set}
 use Rattle.std.proofs.lemmas.Option.{same_Some}
 use Rattle.rkyv_base.specs.{ElementSpec, IsArchiveWord, IsElement, Viewable, entry_spec}
-use Rattle.rkyv_keys.specs.{first_pair}
+use Rattle.rkyv_keys.specs.{first_pair, with_first_changed}
 use Rattle.rkyv_keys.specs.Lemmas.OfEntries.{valid_key}
 use Rattle.rkyv_table.specs.{len_at}
-use Rattle.rkyv_index.specs.{AgreesOnKeys, IndexRepresents, IsFirst, fits_in, index_spec, indices_of, pair_at, with_first_changed}
+use Rattle.rkyv_index.specs.{AgreesOnKeys, IndexRepresents, IsFirst, fits_in, index_spec, indices_of, pair_at}
 use Rattle.rkyv_index.specs.Lemmas.IndexLaws.{listed_below}
 use Rattle.rkyv_index.proofs.FirstListed.{first_listed}
 use Rattle.rkyv_index.proofs.SameIndex.{entry_there}

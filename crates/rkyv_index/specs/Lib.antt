@@ -59,9 +59,7 @@ unfoldable pub use Map.Lookups.{value_part}
 pub use Map.Lookups.{FoundByHas, FoundKeyHas, GetsBy, GetsKey, Part}
 unfoldable pub use Map.InPlace.{FoundValueHas, RepresentsIn, SetsFirst, SetsFound, SetsValue}
 unfoldable pub use Map.InPlace.{UppercasesFirst, UppercasesFound, UppercasesListed, UppercasesText}
-unfoldable pub use Map.InPlace.{index_over, index_to_texts_over, index_to_texts_spec}
-unfoldable pub use Map.InPlace.{list_after_uppercase, uppercase_text, value_pos_of, with_first}
-unfoldable pub use Map.InPlace.{with_first_changed}
+unfoldable pub use Map.InPlace.{index_over, index_to_texts_over, index_to_texts_spec, value_pos_of}
 unfoldable pub use Map.ListArchives.{FoundAreListed, index_root}
 pub use Map.ListArchives.{FindsInRoot}
 unfoldable pub use Map.ListedLookups.{AgreesOnKeys, IsFirst, LookupsFindListed}

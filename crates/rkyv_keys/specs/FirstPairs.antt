@@ -1,7 +1,9 @@
--- The first pair of a list with an accepted key, and the view of its value in an archive.
-use Rattle.std.specs.Prelude.{◌≡◌, ℕ, Bool, List, MatchOption, None, Ok, Option, Result}
-use Rattle.std.specs.Prelude.{Some}
+-- The first pair of a list with an accepted key, the view of its value in an archive, and the list
+-- with another value in that pair.
+use Rattle.std.specs.Prelude.{◌≡◌, ℕ, Bool, List, [], ◌∷◌, MatchOption, None, Ok, Option, Result}
+use Rattle.std.specs.Prelude.{Some, cond, map}
 use Rattle.std.specs.Borrow.{Bor}
+use Rattle.std.specs.Char.{to_ascii_uppercase}
 use Rattle.std.specs.Int.{Width}
 use Rattle.std.specs.List.{find}
 use Rattle.std.specs.Option.{option_map}
@@ -16,6 +18,30 @@ first_pair accept pairs = find (λ pair. accept pair.0) pairs
 -- the value of the first pair with an accepted key
 abbrev pub first_value : {A B : Type 0} → (A → Bool) → List (A × B) → Option B
 first_value accept pairs = option_map (λ pair. pair.1) (first_pair accept pairs)
+
+-- the list with the value of the first pair with an accepted key changed by `change`
+abbrev pub with_first_changed : {A B : Type 0} → (A → Bool) → (B → B) → List (A × B)
+    → List (A × B)
+with_first_changed accept change [] = []
+with_first_changed accept change (pair ∷ rest) =
+    cond (accept pair.0) ((pair.0, change pair.1) ∷ rest)
+    (pair ∷ with_first_changed accept change rest)
+
+-- the list with `value` in the first pair with an accepted key
+abbrev pub with_first : {A B : Type 0} → (A → Bool) → B → List (A × B) → List (A × B)
+with_first accept value pairs = with_first_changed accept (λ before. value) pairs
+
+-- the text with each letter from a to z in upper case
+abbrev pub uppercase_text : Bor (List ℕ) → Bor (List ℕ)
+uppercase_text text = record text { now = map to_ascii_uppercase text.now }
+
+-- the list after a call with this result: if it is `Some(true)`, the text of the first pair with
+-- an accepted key is in upper case. Otherwise the list is the same
+abbrev pub list_after_uppercase : {A : Type 0} → (A → Bool) → Option Bool
+    → List (A × Bor (List ℕ)) → List (A × Bor (List ℕ))
+list_after_uppercase accept None pairs = pairs
+list_after_uppercase accept (Some inline) pairs =
+    cond inline (with_first_changed accept uppercase_text pairs) pairs
 
 -- the view is of the value, or there is neither
 abbrev pub IsFoundValue : {V B : Type 0} → (List ℕ → ℕ → B → Type 0) → Option (View V) → Option B

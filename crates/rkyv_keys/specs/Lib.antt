@@ -29,8 +29,9 @@ unfoldable pub use Equality.{Comparison, DecidesEquality, EqualsUniquely, Repres
 unfoldable pub use Equality.{SameComparison}
 pub use Equality.{IsEquivalence}
 unfoldable pub use FirstPairs.{FindsByView, IsFoundPair, IsFoundValue, IsTextOk, first_pair}
-unfoldable pub use FirstPairs.{first_value, found_scalars, found_texts, found_views, scalar_found}
-unfoldable pub use FirstPairs.{text_bytes, text_bytes_found}
+unfoldable pub use FirstPairs.{first_value, found_scalars, found_texts, found_views}
+unfoldable pub use FirstPairs.{list_after_uppercase, scalar_found, text_bytes, text_bytes_found}
+unfoldable pub use FirstPairs.{uppercase_text, with_first, with_first_changed}
 pub use FirstPairs.{FoundValues}
 unfoldable pub use Fixed.{MakesFixedCalls}
 unfoldable pub use Hashing.{HashesBy}

@@ -1,18 +1,12 @@
 -- Calls that write the value of a key over the bytes of an archive.
-use Rattle.std.specs.Prelude.{◌≡◌, ℕ, Bool, List, [], ◌∷◌, MatchOption, Option, cond, false, true}
+use Rattle.std.specs.Prelude.{◌≡◌, ℕ, Bool, List, MatchOption, Option, false, true}
 use Rattle.std.specs.Int.{Width}
 use Rattle.std.specs.Option.{is_some}
 use Rattle.rkyv_base.specs.{ElementSpec, Encoding, ScalarRepresents, with_value}
-use Rattle.rkyv_keys.specs.{KeyLookup, first_pair}
+use Rattle.rkyv_keys.specs.{KeyLookup, first_pair, with_first}
 use Rattle.rkyv_collections.specs.Map.MapAt.{FoundValueHasAt, MapAt, ValueQuery}
 use Rattle.rkyv_collections.specs.Map.MapFormat.{MapRepresents}
 use Rattle.rkyv_collections.specs.Map.ValueWrites.{KeepsMap}
-
--- the list with `value` in the first pair with an accepted key
-abbrev pub with_first : {A B : Type 0} → (A → Bool) → B → List (A × B) → List (A × B)
-with_first accept_value value [] = []
-with_first accept_value value (pair ∷ rest) =
-    cond (accept_value pair.0) ((pair.0, value) ∷ rest) (pair ∷ with_first accept_value value rest)
 
 module _ {N : Type 0} (w : Width) (k v : ElementSpec) (e : Encoding N) where
   -- No value is found, and the archive is unchanged. Or the value at the position is the new one,

@@ -1,13 +1,12 @@
 -- Calls that write the inline text of a key in upper case over the bytes of an archive.
 use Rattle.rkyv_base.specs.declared.element.HasSpec.{Ghosts as Specs}
 use Rattle.rkyv_base.specs.declared.width.Word.{Ghosts as Words}
-use Rattle.std.specs.Prelude.{◌≡◌, ℕ, Bool, List, [], ◌∷◌, None, Option, Some, cond, map}
+use Rattle.std.specs.Prelude.{◌≡◌, ℕ, Bool, List, None, Option, Some}
 use Rattle.std.specs.Borrow.{Bor}
-use Rattle.std.specs.Char.{to_ascii_uppercase}
 use Rattle.std.specs.Int.{Width}
 use Rattle.std.specs.Option.{is_some}
 use Rattle.rkyv_base.specs.{ElementSpec, IsTextOf, Uppercases, text_spec}
-use Rattle.rkyv_keys.specs.{KeyLookup, first_pair}
+use Rattle.rkyv_keys.specs.{KeyLookup, first_pair, list_after_uppercase}
 use Rattle.rkyv_collections.specs.Map.MapAt.{FoundValueHasAt, MapAt, ValueQuery}
 use Rattle.rkyv_collections.specs.Map.MapSpec.{map_spec}
 use Rattle.rkyv_collections.specs.Map.MapFormat.{MapRepresents}
@@ -16,18 +15,6 @@ use Rattle.rkyv_collections.specs.Map.ValueWrites.{KeepsMap}
 -- the element of a map to texts
 abbrev pub map_to_texts_spec : Width → ElementSpec → ElementSpec
 map_to_texts_spec w k = map_spec w k (text_spec w)
-
--- the text with each letter from a to z in upper case
-abbrev pub uppercase_text : Bor (List ℕ) → Bor (List ℕ)
-uppercase_text text = record text { now = map to_ascii_uppercase text.now }
-
--- the list with the text of the first pair with an accepted key in upper case
-abbrev pub with_first_uppercase : {A : Type 0} → (A → Bool) → List (A × Bor (List ℕ))
-    → List (A × Bor (List ℕ))
-with_first_uppercase accept_value [] = []
-with_first_uppercase accept_value (pair ∷ rest) =
-    cond (accept_value pair.0) ((pair.0, uppercase_text pair.1) ∷ rest)
-    (pair ∷ with_first_uppercase accept_value rest)
 
 module _ (w : Width) (k : ElementSpec) where
   -- No value is found, and the archive is unchanged. Or the text at the position is in upper case
@@ -38,14 +25,6 @@ module _ (w : Width) (k : ElementSpec) where
   UppercasesFound key_hash b p result c (Some q) =
       (inline : Bool) × (result ≡ Some inline) × Uppercases w b q c inline
       × ((i : ℕ) × KeepsMap w k (text_spec w) key_hash b c p i)
-
-  -- the list after the call, with a text in upper case if the result is `Some(true)`
-  abbrev pub list_after_uppercase : {A : Type 0} → (A → Bool) → Option Bool
-      → List (A × Bor (List ℕ))
-      → List (A × Bor (List ℕ))
-  list_after_uppercase accept_value None pairs = pairs
-  list_after_uppercase accept_value (Some inline) pairs =
-      cond inline (with_first_uppercase accept_value pairs) pairs
 
 -- the map of keys `ks` to texts in an archive of the word `wt`, with its header at `pos`
 abbrev pub map_to_texts_at : {K W : Type 0} → Words W → Specs K → List ℕ → ℕ → MapAt
@@ -74,4 +53,4 @@ UppercasesFirst {A} m a result c =
     → (is_some result ≡ is_some (first_pair a.accept_value pairs))
     × MapRepresents m.word m.key m.value a.represents (IsTextOf m.word (λ text. text.now))
     a.key_hash factor c m.pos
-    (list_after_uppercase m.word m.key a.accept_value result pairs)
+    (list_after_uppercase a.accept_value result pairs)

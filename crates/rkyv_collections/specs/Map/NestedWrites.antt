@@ -6,11 +6,10 @@ use Rattle.rkyv_scan.specs.{generic_kind}
 use Rattle.rkyv_base.specs.{AgreeOn, ElementSpec, Viewable, entry_spec, value_pos}
 use Rattle.rkyv_table.specs.{IsWalked, RestsOnParts, StaysAt, WritesAmongParts, WritesValue}
 use Rattle.rkyv_table.specs.{pos_found, table_controls}
-use Rattle.rkyv_collections.specs.Map.InPlace.{with_first}
 use Rattle.rkyv_collections.specs.Map.{FindsFirstKeyAt, MapWrittenAt}
 use Rattle.rkyv_collections.specs.Map.MapSpec.{IsKeyPosAt, map_spec}
 use Rattle.rkyv_collections.specs.Map.MapFormat.{MapRepresents}
-use Rattle.rkyv_keys.specs.{NativeKeys}
+use Rattle.rkyv_keys.specs.{NativeKeys, with_first}
 use Rattle.rkyv_collections.specs.Map.ValueWrites.{entry_at}
 
 module _ (w : Width) (k v : ElementSpec) where

@@ -1,7 +1,7 @@
 -- Calls that write the value of a key over the bytes of an archive.
 use Rattle.rkyv_base.specs.declared.element.HasSpec.{Ghosts as Specs}
 use Rattle.rkyv_base.specs.declared.width.Word.{Ghosts as Words}
-use Rattle.std.specs.Prelude.{◌≡◌, ℕ, Bool, List, [], ◌∷◌, MatchOption, None, Option, Some, cond}
+use Rattle.std.specs.Prelude.{◌≡◌, ℕ, Bool, List, MatchOption, None, Option, Some, cond}
 use Rattle.std.specs.Prelude.{false, map, slice_get, slice_set, true}
 use Rattle.std.specs.Borrow.{Bor}
 use Rattle.std.specs.Char.{to_ascii_uppercase}
@@ -9,7 +9,7 @@ use Rattle.std.specs.Int.{Width}
 use Rattle.std.specs.Option.{is_some, option_map}
 use Rattle.rkyv_base.specs.{ElementSpec, Encoding, Uppercases, entry_spec, text_spec, value_pos}
 use Rattle.rkyv_base.specs.{with_value}
-use Rattle.rkyv_keys.specs.{KeyLookup, NativePairs, first_pair}
+use Rattle.rkyv_keys.specs.{KeyLookup, NativePairs, first_pair, list_after_uppercase, with_first}
 use Rattle.rkyv_index.specs.Map.{Index, key_at}
 use Rattle.rkyv_index.specs.Map.IndexFormat.{IndexRepresents}
 use Rattle.rkyv_index.specs.Map.IndexLayout.{index_spec}
@@ -46,30 +46,6 @@ UppercasesListed {A} represents b c p i inline =
     → represents factor b p pairs → slice_get pairs i ≡ Some pair
     → text.now ≡ map to_ascii_uppercase pair.1.now
     → represents factor c p (cond inline (slice_set pairs i (pair.0, text)) pairs)
-
--- the list with the value of the first pair with an accepted key changed by `change`
-abbrev pub with_first_changed : {A B : Type 0} → (A → Bool) → (B → B) → List (A × B)
-    → List (A × B)
-with_first_changed accept change [] = []
-with_first_changed accept change (pair ∷ rest) =
-    cond (accept pair.0) ((pair.0, change pair.1) ∷ rest)
-    (pair ∷ with_first_changed accept change rest)
-
--- the list with `value` in the first pair with an accepted key
-abbrev pub with_first : {A B : Type 0} → (A → Bool) → B → List (A × B) → List (A × B)
-with_first accept value pairs = with_first_changed accept (λ before. value) pairs
-
--- the text with each letter from a to z in upper case
-abbrev pub uppercase_text : Bor (List ℕ) → Bor (List ℕ)
-uppercase_text text = record text { now = map to_ascii_uppercase text.now }
-
--- the list after a call with this result: if it is `Some(true)`, the text of the first pair with
--- an accepted key is in upper case. Otherwise the list is the same
-abbrev pub list_after_uppercase : {A : Type 0} → (A → Bool) → Option Bool
-    → List (A × Bor (List ℕ)) → List (A × Bor (List ℕ))
-list_after_uppercase accept None pairs = pairs
-list_after_uppercase accept (Some inline) pairs =
-    cond inline (with_first_changed accept uppercase_text pairs) pairs
 
 -- the index map of keys `ks` to texts in an archive of the word `wt`, with its header at `pos`
 abbrev pub index_to_texts_over : {K W : Type 0} → Words W → Specs K → List ℕ → ℕ → Index K

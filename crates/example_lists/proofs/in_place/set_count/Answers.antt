@@ -4,9 +4,9 @@ use Rattle.std.specs.Option.{is_some, option_map}
 use Rattle.std.specs.Prelude.{MatchOption, false, true}
 use Rattle.rkyv_scan.specs.{fx_hasher, generic_kind, low_halves}
 use Rattle.rkyv_base.specs.{Viewable, entry_spec, narrow_limit, scalar_spec, text_at, text_spec, unsigned, value_pos, with_value}
-use Rattle.rkyv_keys.specs.{first_pair, hash_of, same_bytes, text_calls}
+use Rattle.rkyv_keys.specs.{first_pair, hash_of, same_bytes, text_calls, with_first}
 use Rattle.rkyv_table.specs.{KeepsArchive, WritesAmongParts, pos_found}
-use Rattle.rkyv_collections.specs.{IsTextMap, SetsFound, SetsValueOfText, TextMapRepresents, TextPairs, first_of_text, map_spec, text_map_spec, with_first}
+use Rattle.rkyv_collections.specs.{IsTextMap, SetsFound, SetsValueOfText, TextMapRepresents, TextPairs, first_of_text, map_spec, text_map_spec}
 use Rattle.example_lists.proofs.Options.{some_either}
 use Rattle.example_lists.proofs.in_place.set_count.Goals as goal
 use Rattle.example_lists.proofs.in_place.set_count.Goals.{After-set_value_of}

@@ -1,8 +1,8 @@
 use Rattle.std.proofs.Common.{◌≡◌, ◌∙◌, ℕ, ◌-◌, List, ap, arith, inl, inr, length, refl, subst, sym}
 use Rattle.rkyv_scan.specs.{fx_hasher, low_halves}
 use Rattle.rkyv_base.specs.{ScalarRepresents}
-use Rattle.rkyv_keys.specs.{first_pair, hash_at}
-use Rattle.rkyv_collections.specs.{MapRepresents, map_spec, with_first}
+use Rattle.rkyv_keys.specs.{first_pair, hash_at, with_first}
+use Rattle.rkyv_collections.specs.{MapRepresents, map_spec}
 use Rattle.ffi_calls.proofs.Writing.{overwrite_status, set_keeps_header, set_kept}
 use Rattle.ffi_calls.proofs.First.{first_set}
 use Rattle.ffi_calls.proofs.lookup.set_in.Goals as goal

@@ -29,10 +29,10 @@ returns-in-Some-clause-listed g c = λ factor pairs st.
     let fits = g.A.Query.fits c.args.key.now b in
     let set = c.set_at.ensures in
     first_behind g.W.Word.word k g.N.HasSpec.spec g.K.HasSpec.laws g.N.HasSpec.laws g.K.Represents.represents (ScalarRepresents e)
-    (hash_at h.hasher g.K.KeyElement.key_calls) factor b c.args.root pairs c.args.value fits (g.A.PartialEq.eq c.args.key.now) c.requires.map
+    (hash_at h.hasher g.K.KeyElement.key_calls) factor b c.args.root pairs (λ before. c.args.value) fits (g.A.PartialEq.eq c.args.key.now) c.requires.map
     (λ a q s there. g.met.A.NativeKey.native c.args.key.now a b q s there) st g.met.K.Represents.local (scalar_local g.N.HasSpec.spec e g.met.N.Scalar.laws)
     (hash_local h.hasher g.met.K.KeyElement.key)
-    c.set_at.new.bytes c.in-Some.pos (c.in-Some.ensures.finds.first st.homes st.written) set.sealed set.is_valid set.reads
+    c.set_at.new.bytes c.in-Some.pos (c.in-Some.ensures.finds.first st.homes st.written) set.sealed set.is_valid (λ before at. set.reads)
 
 pub returns-in-None-clause-sets : goal.returns-in-None-clause-sets
 returns-in-None-clause-sets g c =
@@ -47,7 +47,7 @@ returns-in-None-clause-listed g c = λ factor pairs st.
     let h = g.H.KeyHasher in
     let b = c.args.archive.now in
     none_behind g.W.Word.word g.K.HasSpec.spec g.N.HasSpec.spec g.K.HasSpec.laws g.N.HasSpec.laws g.K.Represents.represents (ScalarRepresents e)
-    (hash_at h.hasher g.K.KeyElement.key_calls) factor b c.args.root pairs c.args.value (g.A.Query.fits c.args.key.now b) (g.A.PartialEq.eq c.args.key.now) c.requires.map
+    (hash_at h.hasher g.K.KeyElement.key_calls) factor b c.args.root pairs (λ before. c.args.value) (g.A.Query.fits c.args.key.now b) (g.A.PartialEq.eq c.args.key.now) c.requires.map
     (λ a q s there. g.met.A.NativeKey.native c.args.key.now a b q s there) st (c.in-None.ensures.finds.first st.homes st.written)
 
 pub returns-in-Some-clause-parts : goal.returns-in-Some-clause-parts

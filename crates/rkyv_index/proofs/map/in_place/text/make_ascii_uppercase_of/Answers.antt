@@ -1,8 +1,8 @@
 use Rattle.std.proofs.Common.{cond, refl}
 use Rattle.rkyv_base.specs.{IsTextOf, text_spec}
 use Rattle.rkyv_base.specs.Lemmas.Text.{text_element}
-use Rattle.rkyv_keys.specs.{hash_at}
-use Rattle.rkyv_index.specs.{IndexRepresents, uppercase_text}
+use Rattle.rkyv_keys.specs.{hash_at, uppercase_text}
+use Rattle.rkyv_index.specs.{IndexRepresents}
 use Rattle.rkyv_index.proofs.FirstWrites.{none_listed, some_listed}
 use Rattle.rkyv_index.proofs.FoundValues.{found_at}
 use Rattle.rkyv_index.proofs.map.in_place.text.make_ascii_uppercase_of.Goals as goal
