@@ -1,9 +1,10 @@
 -- Lemmas: a value found at a view is the one that the bytes there represent.
 use Rattle.std.specs.Prelude.{◌≡◌, ℕ, List, None, Some}
-use Rattle.std.proofs.Common.{◌∙◌, ap, refl, sym}
+use Rattle.std.proofs.Common.{ap, refl, arith}
+use Rattle.std.proofs.lemmas.Grind.{common_steps}
 use Rattle.std.specs.Borrow.{Bor}
 use Rattle.std.specs.Int.{Width}
-use Rattle.rkyv_base.specs.{AtView, Encoding, IsAt, ScalarRepresents, value_at}
+use Rattle.rkyv_base.specs.{AtView, Encoding, IsAt, ScalarRepresents}
 use Rattle.rkyv_base.specs.declared.view.View.{View}
 use Rattle.rkyv_keys.specs.{FindsByView, found_scalars, found_texts, found_views}
 
@@ -30,6 +31,4 @@ text_by_view w (Some view) None h = absurd h
 pub scalar_read : {N : Type 0} (e : Encoding N) (view : View N) (archive : Bor (List ℕ)) (p : ℕ)
     (read value : N) → IsAt view archive p → AtView (ScalarRepresents e) view read
     → ScalarRepresents e archive.now p value → read ≡ value
-scalar_read e view archive p read value at is represents =
-    let archive_is = ap (λ a. value_at e a.now view.pos) at.0 in
-    sym is ∙ archive_is ∙ ap (value_at e archive.now) at.1 ∙ represents
+scalar_read e view archive p read value at is represents = grind (arith, common_steps)

@@ -1,9 +1,10 @@
 -- Lemmas: keys that hash alike under every rule for `usize` and `isize`.
-use Rattle.std.specs.Prelude.{ℕ, ◌+◌, List, [], ◌∷◌, All}
-use Rattle.std.proofs.lemmas.List.Elements.{All-append, All-cons}
+use Rattle.std.specs.Prelude.{ℕ, List, [], ◌∷◌, All}
+use Rattle.std.proofs.lemmas.List.Elements.{All-cons}
 use Rattle.std.proofs.Common.{arith}
+use Rattle.std.proofs.lemmas.Grind.{common_steps}
 use Rattle.rkyv_scan.specs.{Bytes, HasherCall, IsFixed, U8}
-use Rattle.rkyv_base.specs.{ElementSpec, IsElement, entry_spec, value_offset}
+use Rattle.rkyv_base.specs.{ElementSpec, IsElement, entry_spec}
 use Rattle.rkyv_keys.specs.Calls.{text_calls}
 use Rattle.rkyv_keys.specs.OfEntries.{entry_calls}
 use Rattle.rkyv_keys.specs.Lemmas.OfEntries.{valid_key, valid_value}
@@ -22,7 +23,4 @@ pub entry_fixed : (k v : ElementSpec) → IsElement k → IsElement v
     → (key value : List ℕ → ℕ → List HasherCall)
     → MakesFixedCalls k key → MakesFixedCalls v value
     → MakesFixedCalls (entry_spec k v) (entry_calls k v key value)
-entry_fixed k v kl vl key value kf vf b p h =
-    All-append IsFixed (key b p) (value b (p + value_offset k v))
-    (kf b p (valid_key kl vl b p h))
-    (vf b (p + value_offset k v) (valid_value kl vl b p h))
+entry_fixed k v kl vl key value kf vf b p h = grind (arith, common_steps, valid_key, valid_value)

@@ -1,6 +1,7 @@
 -- Lemmas: entries, by their key and their value.
 use Rattle.std.specs.Prelude.{ℕ, ◌+◌, ◌≤◌, Bool, ◌&&◌, List}
 use Rattle.std.proofs.Common.{arith}
+use Rattle.std.proofs.lemmas.Grind.{common_steps}
 use Rattle.std.proofs.lemmas.Bool.{and_from, and_parts}
 use Rattle.rkyv_scan.specs.{HasherCall}
 use Rattle.rkyv_base.specs.{ElementSpec, IsElement, PairRepresents, ValidAt, entry_spec}
@@ -26,26 +27,7 @@ module _ {k v : ElementSpec} (kl : IsElement k) (vl : IsElement v) where
     pub entry_equivalence : IsEquivalence k ks → IsEquivalence v vs
         → IsEquivalence (entry_spec k v) (entry_same k v ks vs)
     entry_equivalence ke ve =
-        let off = value_offset k v in
-        record {
-          reflexive = λ b p h. and_from (ks b p b p) (vs b (p + off) b (p + off))
-              (ke.reflexive b p (valid_key b p h))
-              (ve.reflexive b (p + off) (valid_value b p h));
-          symmetric = λ b c p q h g s.
-              let t = and_parts (ks b p c q) (vs b (p + off) c (q + off)) s in
-              and_from (ks c q b p) (vs c (q + off) b (p + off))
-              (ke.symmetric b c p q (valid_key b p h) (valid_key c q g) t.0)
-              (ve.symmetric b c (p + off) (q + off) (valid_value b p h) (valid_value c q g)
-              t.1);
-          transitive = λ b c d p q r h g i s t.
-              let x = and_parts (ks b p c q) (vs b (p + off) c (q + off)) s in
-              let y = and_parts (ks c q d r) (vs c (q + off) d (r + off)) t in
-              and_from (ks b p d r) (vs b (p + off) d (r + off))
-              (ke.transitive b c d p q r (valid_key b p h) (valid_key c q g)
-              (valid_key d r i) x.0 y.0)
-              (ve.transitive b c d (p + off) (q + off) (r + off) (valid_value b p h)
-              (valid_value c q g) (valid_value d r i) x.1 y.1);
-        }
+        grind (arith, common_steps, and_from, valid_key, valid_value, and_parts)
 
     module _ {kc vc : List ℕ → ℕ → List HasherCall} where
       pub entry_key : IsKey k ks kc → IsKey v vs vc
@@ -77,22 +59,7 @@ module _ {k v : ElementSpec} (kl : IsElement k) (vl : IsElement v) where
         pub entry_query : IsQuery k ks kc kr ac kf → IsQuery v vs vc vr bc vf
             → IsQuery (entry_spec k v) (entry_same k v ks vs) (entry_calls k v kc vc)
             (BothRead kr vr) (pair_calls ac bc) (entry_fits k v kf vf)
-        entry_query kq vq =
-            let off = value_offset k v in
-            record {
-              same_calls = λ q b p r h f.
-                  let t = and_parts (kf q.0 b p) (vf q.1 b (p + off)) f in
-                  let x = kq.same_calls q.0 b p r.0 (valid_key b p h) t.0 in
-                  let y = vq.same_calls q.1 b (p + off) r.1 (valid_value b p h) t.1 in
-                  cc;
-              respects_same = λ q b c p r ready h g f.
-                  let t = and_parts (kf q.0 b p) (vf q.1 b (p + off)) f in
-                  let x =
-                  kq.respects_same q.0 b c p r ready.0 (valid_key b p h) (valid_key c r g) t.0 in
-                  let y = vq.respects_same q.1 b c (p + off) (r + off) ready.1 (valid_value b p h)
-                  (valid_value c r g) t.1 in
-                  cc;
-            }
+        entry_query kq vq = grind (arith, common_steps, and_parts, valid_key, valid_value)
 
   module _ {A B : Type 0} (key : List ℕ → ℕ → A → Type 0) (value : List ℕ → ℕ → B → Type 0) where
     pub entry_equals_once : (key_equals : List ℕ → ℕ → A → Type 0)
@@ -101,8 +68,7 @@ module _ {k v : ElementSpec} (kl : IsElement k) (vl : IsElement v) where
         → EqualsUniquely (entry_spec k v) (PairRepresents k v key value)
         (entry_equals k v key_equals value_equals) (λ x y. ke x.0 y.0 && ve x.1 y.1)
     entry_equals_once key_equals value_equals ke ve ka va x y b p h st eq =
-        and_from (ke x.0 y.0) (ve x.1 y.1) (ka x.0 y.0 b p (valid_key b p h) st.0 eq.0)
-        (va x.1 y.1 b (p + value_offset k v) (valid_value b p h) st.1 eq.1)
+        grind (arith, common_steps, and_from, valid_key, valid_value)
 
     pub entry_once : (ke : A → A → Bool) (ve : B → B → Bool) → RepresentsUniquely k key ke
         → RepresentsUniquely v value ve
@@ -116,6 +82,4 @@ module _ {k v : ElementSpec} (kl : IsElement k) (vl : IsElement v) where
         → FitsItsEqual (entry_spec k v) (PairRepresents k v key value) (λ x y. ka x.0 y.0
         && va x.1 y.1) (entry_fits k v kf vf)
     entry_fits_its_equal ka va kf vf kn vn q pair b p h st =
-        let x = kn q.0 pair.0 b p (valid_key b p h) st.0 in
-        let y = vn q.1 pair.1 b (p + value_offset k v) (valid_value b p h) st.1 in
-        cc
+        grind (arith, common_steps, valid_key, valid_value)

@@ -9,6 +9,8 @@ use Rattle.rkyv_keys.specs.{scalar_same}
 use Rattle.rkyv_keys.specs.Lemmas.Fixed.{one_fixed}
 use Rattle.rkyv_keys.specs.Lemmas.OfValues.{value_equivalence, value_fits_its_equal, value_key}
 use Rattle.rkyv_keys.specs.Lemmas.OfValues.{value_query}
+use Rattle.std.proofs.Common.{arith}
+use Rattle.std.proofs.lemmas.Grind.{common_steps}
 
 module _ {V : Type 0} (s : ElementSpec) (e : Encoding V) where
   pub scalar_fixed : (call : V → HasherCall) → ((v : V) → IsFixed (call v))
@@ -26,11 +28,9 @@ module _ {V : Type 0} (s : ElementSpec) (e : Encoding V) where
 
       pub scalar_key : (call : V → HasherCall) → IsScalar s e
           → IsKey s (scalar_same e equal) (scalar_calls e call)
-      scalar_key call laws = value_key s (value_at e) equal decides (one_call call)
-          (scalar_local s e laws)
+      scalar_key call laws = grind (arith, common_steps, value_key, scalar_local)
 
       pub scalar_query : (call : V → HasherCall)
           → IsQuery s (scalar_same e equal) (scalar_calls e call) ReadsAnywhere
           (one_call call) (scalar_fits e equal)
-      scalar_query call = value_query s (value_at e) equal decides (one_call call)
-          (λ v. v)
+      scalar_query call = grind (arith, common_steps, value_query)

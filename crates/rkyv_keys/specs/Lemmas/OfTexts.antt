@@ -1,6 +1,7 @@
 -- Lemmas: text, by its bytes, inline or out of line.
 use Rattle.std.specs.Prelude.{◌≡◌, ℕ, true, List}
-use Rattle.std.proofs.Common.{refl}
+use Rattle.std.proofs.Common.{refl, arith}
+use Rattle.std.proofs.lemmas.Grind.{common_steps}
 use Rattle.std.specs.Int.{Width}
 use Rattle.std.specs.Cmp.Lexicographic.{bytes_decides}
 use Rattle.rkyv_base.specs.{IsTextOf, text_at, text_spec}
@@ -10,8 +11,8 @@ use Rattle.rkyv_keys.specs.{ReadsAnywhere, RepresentsUniquely, same_bytes, text_
 use Rattle.rkyv_keys.specs.{text_key_calls, text_same}
 use Rattle.rkyv_keys.specs.Lemmas.QueryLaws.{native_once}
 use Rattle.rkyv_keys.specs.Lemmas.Fixed.{text_fixed}
-use Rattle.rkyv_keys.specs.Lemmas.OfValues.{value_equivalence}
-use Rattle.rkyv_keys.specs.Lemmas.OfValues.{value_fits_its_equal, value_key, value_query}
+use Rattle.rkyv_keys.specs.Lemmas.OfValues.{value_equivalence, value_fits_its_equal, value_key}
+use Rattle.rkyv_keys.specs.Lemmas.OfValues.{value_query}
 
 bytes_equal_themselves : (x : List ℕ) → same_bytes x x ≡ true
 bytes_equal_themselves x = (bytes_decides x x).1 refl
@@ -41,6 +42,4 @@ module _ (w : Width) where
     pub text_once : RepresentsUniquely (text_spec w) (IsTextOf w as_value)
         (λ q v. same_bytes (as_value q) (as_value v))
     text_once =
-        native_once (text_spec w) (IsTextOf w as_value)
-        (λ q v. same_bytes (as_value q) (as_value v)) (text_fits w as_value)
-        (text_fits_its_equal as_value as_value) (λ v. bytes_equal_themselves (as_value v))
+        grind (arith, common_steps, native_once, text_fits_its_equal, bytes_equal_themselves)

@@ -1,5 +1,6 @@
 -- Lemmas: the unit value, which is valid at every position and makes no call.
-use Rattle.std.proofs.Common.{refl}
+use Rattle.std.proofs.Common.{refl, arith}
+use Rattle.std.proofs.lemmas.Grind.{common_steps}
 use Rattle.rkyv_base.specs.{unit_represents, unit_spec}
 use Rattle.rkyv_keys.specs.{DecidesEquality, FitsItsEqual, IsEquivalence, IsKey, IsQuery}
 use Rattle.rkyv_keys.specs.{MakesFixedCalls, ReadsAnywhere, no_calls, unit_at, unit_calls}
@@ -14,8 +15,7 @@ pub unit_equivalence : IsEquivalence unit_spec unit_same
 unit_equivalence = value_equivalence unit_spec unit_at units_equal units_decide_equality
 
 pub unit_key : IsKey unit_spec unit_same unit_calls
-unit_key = value_key unit_spec unit_at units_equal units_decide_equality no_calls
-    (λ v b c p lo hi l o h fixed part st. st)
+unit_key = grind (arith, common_steps, value_key, units_decide_equality)
 
 pub unit_fixed : MakesFixedCalls unit_spec unit_calls
 unit_fixed b p h = none_fixed

@@ -1,7 +1,8 @@
 -- Lemmas: elements with one value at a position, which is compared and hashed as a whole:
 -- scalars, text and the unit value.
 use Rattle.std.specs.Prelude.{◌≡◌, ℕ, Bool, true, List}
-use Rattle.std.proofs.Common.{refl, sym, ◌∙◌, ap}
+use Rattle.std.proofs.Common.{refl, sym, ap, arith}
+use Rattle.std.proofs.lemmas.Grind.{common_steps}
 use Rattle.rkyv_scan.specs.{HasherCall}
 use Rattle.rkyv_base.specs.{ElementSpec, RepresentsLocally}
 use Rattle.rkyv_keys.specs.Equality.{DecidesEquality, IsEquivalence}
@@ -17,13 +18,7 @@ module _ {V : Type 0} (s : ElementSpec) (value_at : List ℕ → ℕ → V) (equ
   value_same v w h = (decides v w).1 h
 
   pub value_equivalence : IsEquivalence s (values_same value_at equal)
-  value_equivalence = record {
-    reflexive = λ b p h. value_same (value_at b p) (value_at b p) refl;
-    symmetric = λ b c p q h g s. value_same (value_at c q) (value_at b p)
-        (sym (same_value (value_at b p) (value_at c q) s));
-    transitive = λ b c d p q r h g k s t. value_same (value_at b p) (value_at d r)
-        (same_value (value_at b p) (value_at c q) s ∙ same_value (value_at c q) (value_at d r) t);
-  }
+  value_equivalence = grind (arith, common_steps, value_same, same_value)
 
   module _ (calls : V → List HasherCall) where
     pub value_key : RepresentsLocally s (ValueRepresents value_at (λ v. v))
@@ -39,11 +34,7 @@ module _ {V : Type 0} (s : ElementSpec) (value_at : List ℕ → ℕ → V) (equ
     pub value_query : {Q : Type 0} (as_value : Q → V)
         → IsQuery s (values_same value_at equal) (value_calls value_at calls) ReadsAnywhere
         (λ q. calls (as_value q)) (value_fits value_at equal as_value)
-    value_query as_value = record {
-      same_calls = λ q b p r h f. ap calls (same_value (as_value q) (value_at b p) f);
-      respects_same = λ q b c p r ready h g f. ap (λ v. equal v (value_at c r))
-          (same_value (as_value q) (value_at b p) f);
-    }
+    value_query as_value = grind (arith, common_steps, same_value)
 
 -- a query fits a key if and only if its value equals the one that the key represents
 pub value_fits_its_equal : {V Q A : Type 0} (s : ElementSpec) (value_at : List ℕ → ℕ → V)
@@ -51,4 +42,4 @@ pub value_fits_its_equal : {V Q A : Type 0} (s : ElementSpec) (value_at : List �
     → FitsItsEqual s (ValueRepresents value_at as_value) (λ q a. equal (query_value q) (as_value a))
     (value_fits value_at equal query_value)
 value_fits_its_equal s value_at equal query_value as_value q a b p h there =
-    ap (equal (query_value q)) there
+    grind (arith, common_steps)

@@ -1,8 +1,9 @@
 -- Lemmas: laws of native keys and queries on written keys.
 use Rattle.std.specs.Prelude.{◌≡◌, ℕ, ◌≤◌, Bool, true, List}
-use Rattle.std.proofs.Common.{sym, ◌∙◌, ap, arith}
+use Rattle.std.proofs.Common.{sym, ◌∙◌, arith}
+use Rattle.std.proofs.lemmas.Grind.{common_steps}
 use Rattle.std.proofs.lemmas.Bool.Decides.{same_from_decides}
-use Rattle.rkyv_scan.specs.{Hasher, HasherCall, hash_of_calls}
+use Rattle.rkyv_scan.specs.{Hasher, HasherCall}
 use Rattle.rkyv_base.specs.{ElementSpec, IsElement, ValidAt}
 use Rattle.rkyv_keys.specs.{Comparison, FitsByValue, FitsItsEqual, HashLocal, HashesAsWritten}
 use Rattle.rkyv_keys.specs.{IsEquivalence, IsKey, IsQuery, RepresentsUniquely, RestsOnKeys, hash_at}
@@ -10,8 +11,7 @@ use Rattle.rkyv_keys.specs.{IsEquivalence, IsKey, IsQuery, RepresentsUniquely, R
 -- the hash of a key depends only on the bytes on which the validity of the key depends
 pub hash_local : {State : Type 0} (hasher : Hasher State) {k : ElementSpec} {same : Comparison}
     {calls : List ℕ → ℕ → List HasherCall} → IsKey k same calls → HashLocal k (hash_at hasher calls)
-hash_local hasher key b c q lo hi l o is_valid fixed part =
-    ap (hash_of_calls hasher) (key.local b c q lo hi l o is_valid fixed part)
+hash_local hasher key b c q lo hi l o is_valid fixed part = grind (arith, common_steps)
 
 module _ {V : Type 0} (s : ElementSpec) (same : Comparison) (key_calls : List ℕ → ℕ
     → List HasherCall)
@@ -29,9 +29,7 @@ module _ {V : Type 0} (s : ElementSpec) (same : Comparison) (key_calls : List �
   -- two keys that represent one value are the same
   pub same_written : (v : V) (b c : List ℕ) (p r : ℕ) → reads v → ValidAt s b p → ValidAt s c r
       → represents b p v → represents c r v → same b p c r ≡ true
-  same_written v b c p r ready h g st tt' =
-      sym (query.respects_same v b c p r ready h g
-      (fits_written v b p h st)) ∙ fits_written v c r g tt'
+  same_written v b c p r ready h g st tt' = grind (arith, common_steps, fits_written)
 
   module _ {Q : Type 0} (can_read : Q → Type 0) (q_calls : Q → List HasherCall) (q_fits : Q → List ℕ
       → ℕ → Bool)
@@ -39,13 +37,7 @@ module _ {V : Type 0} (s : ElementSpec) (same : Comparison) (key_calls : List �
       (equivalence : IsEquivalence s same) where
     pub fits_by_value : FitsByValue s represents reads can_read q_fits
     fits_by_value q v b c p r ready can' h g st st' =
-        let there = same_written v b c p r can' h g st st' in
-        let back = equivalence.symmetric b c p r h g there in
-        same_from_decides (q_fits q b p) (q_fits q c r) (
-          λ x. laws.respects_same q b c p r ready h g x ∙ there,
-          λ x. laws.respects_same q c b r p ready g h x ∙ back,
-        )
-        (λ x. x, λ x. x)
+        grind (arith, common_steps, same_written, same_from_decides)
 
 -- the native values that one key represents are equal
 pub native_once : {V : Type 0} (s : ElementSpec) (represents : List ℕ → ℕ → V → Type 0)
