@@ -33,9 +33,7 @@ module _ {T W : Type 0} {ts : Specs T} {wt : Words W} (b : List ℕ) (p : ℕ) (
       module _ (first : FindsFirst post t hash found) where
         pub first_of : (hashes homes : List ℕ) (accept : ℕ → Bool) → WrittenAt wt.word b p hashes homes → ComparesByOf post wt.word ts.spec b p accept
             → IsUnderHash hash hashes (home_positions wt.word ts.spec.size b p homes) accept → found ≡ find accept (home_positions wt.word ts.spec.size b p homes)
-        first_of hashes homes accept written compares under =
-            let P = λ (c : List ℕ) (q : ℕ). WrittenAt wt.word c q hashes homes → IsUnderHash hash hashes (home_positions wt.word ts.spec.size c q homes) accept → found ≡ find accept (home_positions wt.word ts.spec.size c q homes) in
-            subst (P b) pos (subst (λ (c : List ℕ). P c t.view.pos) bytes (λ x y. first hashes homes accept x (compares_by_of accept compares) y)) written under
+        first_of hashes homes accept written compares under = grind (arith, common_steps, compares_by_of accept compares)
 
     -- a lookup in the table has the same result in the bytes
     pub looks_up_none : (kind : Kind) (hash : ℕ) → FindsFound post kind t hash None → FindsFirst post t hash None → LooksUp post kind wt.word ts.spec b p hash None

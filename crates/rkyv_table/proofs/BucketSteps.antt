@@ -50,15 +50,10 @@ module _ {X R : Type 0} (size limit : ℕ) (f : Format X R) (slots : List (Optio
 
     -- a resolver is left for the item
     pub down_room : (x : X) → get_or slots i None ≡ Some x → 0 < length left
-    down_room x e =
-        let q : i < length slots = omega (arith, d.inside) in
-        let t : filled (take (i + 1) slots) ≡ filled (take i slots) + 1 = rw (take_more slots i None q, e) (filled-append (take i slots) (Some x ∷ [])) in
-        let c = d.count in
-        omega arith
+    down_room x e = grind (arith, common_steps, take_more, filled-append)
 
     pub down_rooms : (s : Option X) → get_or slots i None ≡ s → IfSome s (λ _. 0 < length left)
-    down_rooms None e = tt
-    down_rooms (Some x) e = down_room x e
+    down_rooms slot e = grind (arith, common_steps, down_room)
 
     pub down_read : (s : Option X) → s ≡ get_or slots i s → get_or slots i None ≡ s
     down_read s e = get_or_default slots i None s (omega (arith, d.inside)) ∙ sym e
@@ -95,8 +90,7 @@ module _ {X R : Type 0} (size limit : ℕ) (f : Format X R) (slots : List (Optio
 
     pub down_step : (s : Option X) (more : List R) (one : List ℕ) → get_or slots i None ≡ s → Filled size f s left more (end_of o1) one → length one ≡ size
         → Appends o1 o2 one → end_of o2 ≤ limit → BucketsWritten i more o2
-    down_step None more one e h len a lim = subst (λ l. BucketsWritten i l o2) h.0 (down_none e (subst (Appends o1 o2) h.1 a) lim)
-    down_step (Some x) more one e h len a lim = down_some x h.0 more one e h.1 h.2 len a lim
+    down_step slot more one e h len a lim = grind (arith, common_steps, down_none, down_some)
 
     module _ {F : Type 0} (s : Option X) (e : get_or slots i None ≡ s) where
       abbrev BucketsFail : Output → WriteError F → Type 0
@@ -119,16 +113,7 @@ module _ {X R : Type 0} (size limit : ℕ) (f : Format X R) (slots : List (Optio
       }
 
   pub down_init : length rs ≡ filled slots → end_of o ≤ limit → BucketsWritten (length slots) rs o
-  down_init c lim = record {
-    out = [];
-    done = [];
-    inside = omega arith;
-    appended = none_appended o;
-    images = rw (drop_all (length slots) slots (omega arith)) (refl, refl);
-    all = sym (append-nil rs);
-    count = rw (take_all (length slots) slots (omega arith)) c;
-    within = lim;
-  }
+  down_init c lim = grind (arith, common_steps, none_appended o, drop_all (length slots) slots (omega arith), append-nil rs, take_all (length slots) slots (omega arith))
 
   pub down_end : (left : List R) (o1 : Output) → BucketsWritten 0 left o1 → WroteBuckets size f limit slots rs o o1
   down_end left o1 d = grind (arith, common_steps)

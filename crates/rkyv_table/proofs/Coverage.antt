@@ -1,6 +1,7 @@
 -- The strides of a hash begin at the indices congruent to the start modulo 16, each once. They show
 -- every bucket.
-use Rattle.std.proofs.Common.{◌≡◌, ℕ, ◌+◌, ◌*◌, ◌-◌, ◌/◌, ◌%◌, ◌^◌, ◌<◌, ◌≤◌, ◌↔◌, inl, inr, refl, sym, ap, ◌∙◌, arith, List, Bool, true, false, ◌&&◌, eqb, ltb, length, map}
+use Rattle.std.proofs.Common.{◌≡◌, ℕ, ◌+◌, ◌*◌, ◌-◌, ◌/◌, ◌%◌, ◌^◌, ◌<◌, ◌≤◌, ◌↔◌, inl, inr, sym, ap, ◌∙◌, arith, List, Bool, true, ◌&&◌, eqb, ltb, length, map}
+use Rattle.std.proofs.lemmas.Grind.{common_steps}
 use Rattle.std.specs.List.{IsDistinct, list_any, range_with_len}
 use Rattle.std.proofs.Math.Nat.{add-mul-mod_self_right, mod-add-mod, mod-eq_of_lt}
 use Rattle.std.proofs.lemmas.Nat.{div-add-mod', mod-mul-add, mod_below, pow_pos}
@@ -72,9 +73,7 @@ index_once s n x y hx hy e =
     hits_once n x y hx hy (unturn (s / 16) (triangle x) (triangle y) (2 ^ n) pos same)
 
 pub same_tests : (b c : Bool) → (b ≡ true → c ≡ true) → (c ≡ true → b ≡ true) → b ≡ c
-same_tests true c f g = sym (f refl)
-same_tests false true f g = g refl
-same_tests false false f g = refl
+same_tests b c f g = grind (arith, common_steps)
 
 -- all indices, below the probe capacity or not
 indices : ℕ → ℕ → List ℕ

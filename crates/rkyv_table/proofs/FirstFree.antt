@@ -1,5 +1,6 @@
 -- Placing: the first empty index of a stride, and the first of all strides.
 use Rattle.std.proofs.Common.{◌≡◌, ℕ, zero, suc, ◌+◌, ◌*◌, ◌-◌, ◌%◌, ◌<◌, ◌≤◌, ◌⊎◌, inl, inr, refl, sym, ap, ◌∙◌, arith, List, [], ◌∷◌, Bool, true, false, ◌&&◌, eqb, leb, ltb, get_or, take, drop, filter, Option, Some, None}
+use Rattle.std.proofs.lemmas.Grind.{common_steps}
 use Rattle.std.specs.List.{find, flat_map, list_any, range_with_len, slice_get}
 use Rattle.std.specs.Option.{option_map}
 use Rattle.std.proofs.lemmas.List.Folds.{find-append}
@@ -43,9 +44,7 @@ more_indices controls g p i w r e none is =
     ∙ rw none (s' ∙ ap (option_map (λ j. p + a + j)) (sym r'))
 
 pub whole_stride : (P : ℕ → Bool) (p n q : ℕ) → n ≤ 16 → find P (range_with_len p n) ≡ Some q → find P (range_with_len p 16) ≡ Some q
-whole_stride P p n q le h =
-    let e : 16 ≡ n + (16 - n) = omega arith in
-    ap (λ z. find P (range_with_len p z)) e ∙ ap (find P) (range_append p n (16 - n)) ∙ find-append P (range_with_len p n) (range_with_len (p + n) (16 - n)) ∙ rw h refl
+whole_stride P p n q le h = grind (arith, common_steps, range_append p n (16 - n), find-append P (range_with_len p n) (range_with_len (p + n) (16 - n)))
 
 -- the first marked index of a group is inside it
 pub index_inside : (P : ℕ → Bool) (n j : ℕ) (ps : List ℕ) → ps ≡ indices_where P n → Some j ≡ slice_get ps 0 → j < n
@@ -141,15 +140,12 @@ begun h cap p free ps qs pos c e = elim c [
 pub passes_on : (h cap p : ℕ) (free : ℕ → Bool) (ps qs : List ℕ) → qs ≡ p ∷ ps → list_any free (buckets_at cap p) ≡ false
     → find free (probed h cap) ≡ find free (flat_map (buckets_at cap) qs)
     → find free (probed h cap) ≡ find free (flat_map (buckets_at cap) ps)
-passes_on h cap p free ps qs e none same =
-    let n = find_none free (buckets_at cap p) none in
-    same ∙ ap (λ xs. find free (flat_map (buckets_at cap) xs)) e ∙ find-append free (buckets_at cap p) (flat_map (buckets_at cap) ps) ∙ rw n refl
+passes_on h cap p free ps qs e none same = grind (arith, common_steps, find_none, find-append)
 
 pub first_at : (h cap p b : ℕ) (free : ℕ → Bool) (ps qs : List ℕ) → qs ≡ p ∷ ps → find free (buckets_at cap p) ≡ Some b
     → find free (probed h cap) ≡ find free (flat_map (buckets_at cap) qs)
     → find free (probed h cap) ≡ Some b
-first_at h cap p b free ps qs e some same =
-    same ∙ ap (λ xs. find free (flat_map (buckets_at cap) xs)) e ∙ find-append free (buckets_at cap p) (flat_map (buckets_at cap) ps) ∙ rw some refl
+first_at h cap p b free ps qs e some same = grind (arith, common_steps, find-append)
 
 pub later_started : (h cap p : ℕ) (free : ℕ → Bool) → (list_any free (buckets_at cap (start h cap)) ≡ false) ⊎ (p ≡ start h cap) → list_any free (buckets_at cap p) ≡ false → list_any free (buckets_at cap (start h cap)) ≡ false
 later_started h cap p free c n = elim c [ inl m ↦ m | inr e ↦ rw e at n ]

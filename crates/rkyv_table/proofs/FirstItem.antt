@@ -1,5 +1,5 @@
 -- A lookup in a written table finds the first accepted item of the list.
-use Rattle.std.proofs.Common.{◌≡◌, ℕ, suc, ◌∙◌, inl, inr, refl, sym, ap, subst, arith, Bool, true, false, List, [], ◌∷◌, length, slice_get, slice_index, Option, Some, None}
+use Rattle.std.proofs.Common.{◌≡◌, ℕ, suc, ◌∙◌, inl, inr, refl, sym, ap, subst, arith, Bool, true, false, List, [], ◌∷◌, length, slice_get, slice_index, Option, Some}
 use Rattle.std.proofs.lemmas.Grind.{common_steps}
 use Rattle.std.specs.Int.{Width}
 use Rattle.std.specs.List.{find, position}
@@ -35,8 +35,7 @@ position_behind accept x xs other = grind (arith, common_steps)
 
 -- a position that is read from behind the first one
 read_behind : (q : ℕ) (qs : List ℕ) (r : Option ℕ) → option_map (slice_index (q ∷ qs)) (option_map (λ i. suc i) r) ≡ option_map (slice_index qs) r
-read_behind q qs None = refl
-read_behind q qs (Some i) = refl
+read_behind q qs found = grind (arith, common_steps)
 
 -- the first accepted position is that at the index of the first accepted item
 pos_along : {X : Type 0} (accept : X → Bool) (accept_at : ℕ → Bool) (items : List X) (qs : List ℕ) → length items ≡ length qs → AgreesAt qs items accept accept_at

@@ -107,20 +107,11 @@ kept_any P [] h = absurd (false≢true h)
 kept_any P (x ∷ xs) h = elim (cases_Bool (P x)) [ inl t ↦ rw t (omega arith) | inr f ↦ let h' = rw f at h in rw f (kept_any P xs h') ]
 
 pub mark_is_any : (is_marked : Bool) (P : ℕ → Bool) (xs : List ℕ) → (is_marked ≡ true) ↔ (0 < length (filter P xs)) → is_marked ≡ list_any P xs
-mark_is_any is_marked P xs h =
-    same_tests is_marked (list_any P xs)
-    (λ t. any_kept P xs (h.0 t))
-    (λ t. h.1 (kept_any P xs t))
+mark_is_any is_marked P xs h = grind (arith, common_steps, same_tests, any_kept, kept_any)
 
 -- a group of a stride, as one of the control bytes
 pub group_of : (controls s : List ℕ) (p a w : ℕ) → a + w ≤ 16 → s ≡ take 16 (drop p controls) → take w (drop a s) ≡ take w (drop (p + a) controls)
-group_of controls s p a w le e =
-    let n : 16 ≡ a + (16 - a) = omega arith in
-    let e' : s ≡ take (a + (16 - a)) (drop p controls) = e ∙ ap (λ z. take z (drop p controls)) n in
-    ap (λ z. take w (drop a z)) e'
-    ∙ ap (take w) (drop-take a (16 - a) (drop p controls))
-    ∙ take-take w (16 - a) (drop a (drop p controls)) (omega arith)
-    ∙ ap (take w) (drop-drop a p controls)
+group_of controls s p a w le e = grind (arith, common_steps, drop-take a (16 - a) (drop p controls), take-take w (16 - a) (drop a (drop p controls)) (omega arith), drop-drop a p controls)
 
 pub found_more : (kind : Kind) (controls g : List ℕ) (cap t p i : ℕ) (accept : ℕ → Bool) (r : Option ℕ) → 0 < kind.width → g ≡ take kind.width (drop (p + i * kind.width) controls)
     → find accept (candidates_in kind controls cap t p (i * kind.width)) ≡ None
@@ -165,8 +156,7 @@ pub groups_end : (i w : ℕ) → 16 % w ≡ 0 → i ≤ 16 / w → 16 / w ≤ i 
 groups_end i w z a b = grind (arith, common_steps)
 
 pub or_no : (b c : Bool) → c ≡ false → (b || c) ≡ b
-or_no true c e = refl
-or_no false c e = e
+or_no b c e = grind (arith, common_steps)
 
 pub indices_are : (P : ℕ → Bool) (n : ℕ) → indices_where P n ≡ filter P (range_with_len 0 n)
 unfolding indices_where

@@ -1,5 +1,6 @@
 -- The positions that the numbers of a header lead to.
-use Rattle.std.proofs.Common.{◌≡◌, ◌∙◌, ℕ, ◌*◌, ap, List, ℤ, pos, ◌+ℤ◌, ◌-ℤ◌, FitsSigned, to_z, of_z}
+use Rattle.std.proofs.Common.{◌≡◌, ℕ, ◌*◌, List, ℤ, pos, ◌+ℤ◌, ◌-ℤ◌, FitsSigned, to_z, of_z, arith}
+use Rattle.std.proofs.lemmas.Grind.{common_steps}
 use Rattle.std.specs.Int.{Width, w128}
 use Rattle.std.proofs.lemmas.Int.{to_z-of_z}
 use Rattle.rkyv_base.specs.{signed_at}
@@ -9,8 +10,4 @@ use Rattle.rkyv_table.specs.{cap_at, decode_begin}
 pub begin_is : (w : Width) (size : ℕ) (b : List ℕ) (p : ℕ) (distance decoded : ℤ) (cap n : ℕ) → FitsSigned w128 decoded
     → distance ≡ signed_at w b p → cap ≡ cap_at w b p → n ≡ size
     → decoded ≡ (pos p +ℤ distance) -ℤ pos (cap * n) → to_z w128 (of_z w128 decoded) ≡ decode_begin w size b p
-begin_is w size b p distance decoded cap n fits e f k h =
-    to_z-of_z w128 decoded fits ∙ h
-    ∙ ap (λ z. (pos p +ℤ z) -ℤ pos (cap * n)) e
-    ∙ ap (λ m. (pos p +ℤ signed_at w b p) -ℤ pos (m * n)) f
-    ∙ ap (λ m. (pos p +ℤ signed_at w b p) -ℤ pos (cap_at w b p * m)) k
+begin_is w size b p distance decoded cap n fits e f k h = grind (arith, common_steps, to_z-of_z, pos)

@@ -1,5 +1,6 @@
 -- The capacity and the hashes determine the home buckets and the written control bytes.
 use Rattle.std.proofs.Common.{◌≡◌, ℕ, zero, suc, ◌+◌, ◌*◌, ◌%◌, ◌<◌, ◌≤◌, inl, inr, refl, sym, ap, ◌∙◌, arith, List, [], ◌∷◌, ◌++◌, Bool, true, false, cond, eqb, ltb, length, get_or, take, map, Some, length-take}
+use Rattle.std.proofs.lemmas.Grind.{common_steps}
 use Rattle.std.specs.List.{find, fold, list_any, position_or_len, range_with_len}
 use Rattle.std.specs.Option.{unwrap_or}
 use Rattle.std.proofs.lemmas.Nat.{mod_below}
@@ -33,10 +34,7 @@ front_homes cap hashes xs p (suc i) h =
     rw s (one_more_home cap hashes i (omega arith) ∙ ap (λ t. with_home cap t (get_or hashes i 0)) ih ∙ f ∙ sym (take_more xs i 0 (omega arith)))
 
 pub homes_one_list : (cap : ℕ) (hashes xs : List ℕ) → AreHomes cap hashes xs → xs ≡ homes cap hashes
-homes_one_list cap hashes xs p =
-    let count = p.count in
-    let f = front_homes cap hashes xs p (length hashes) (omega arith) in
-    sym (take_all (length hashes) xs (omega arith)) ∙ sym f ∙ ap (homes cap) (take_all (length hashes) hashes (omega arith))
+homes_one_list cap hashes xs p = grind (arith, common_steps, front_homes, take_all)
 
 -- fewer items than buckets leave a home bucket for the next item
 next_home : (cap h : ℕ) (taken : List ℕ) → length taken < cap → (b : ℕ) × (find (is_free taken) (probed h cap) ≡ Some b)
@@ -59,9 +57,7 @@ front_exist cap hashes room (suc i) h =
     rw (s, e, take_more hashes i 0 (omega arith)) (homes_more cap (get_or hashes i 0) n.0 (take i hashes) (homes cap (take i hashes)) ih n.1)
 
 pub homes_exist : (cap : ℕ) (hashes : List ℕ) → length hashes < cap → AreHomes cap hashes (homes cap hashes)
-homes_exist cap hashes room =
-    let f = front_exist cap hashes room (length hashes) (omega arith) in
-    rw (take_all (length hashes) hashes (omega arith)) at f
+homes_exist cap hashes room = grind (arith, common_steps, front_exist cap hashes room (length hashes) (omega arith), take_all (length hashes) hashes (omega arith))
 
 -- ---- written control bytes
 

@@ -1,12 +1,12 @@
 -- The result of writing exactly the items of a list.
-use Rattle.std.proofs.Common.{◌≡◌, ℕ, ◌<◌, refl, sym, ap, subst, ◌∙◌, arith, inl, inr, List, [], ◌∷◌, ◌++◌, map, length, length-append, Result, Ok, Err, MatchResult}
+use Rattle.std.proofs.Common.{◌≡◌, ℕ, ap, subst, ◌∙◌, arith, inl, inr, List, [], ◌∷◌, ◌++◌, map, length, length-append, Result, MatchResult}
+use Rattle.std.proofs.lemmas.Grind.{common_steps}
 use Rattle.std.specs.Iterator.{Drains, Yields, YieldsFirstBy}
 use Rattle.std.proofs.lemmas.List.{append-nil, length-map}
-use Rattle.rkyv_base.specs.{CauseApplies, Format, Output, SerializeFails, Serialized, capacity as too_large, end_of, load_factor, no_memory, written_as}
+use Rattle.rkyv_base.specs.{CauseApplies, Format, Output, SerializeFails, Serialized, end_of, written_as}
 use Rattle.rkyv_base.proofs.WritingSteps.{fails_under, grows, none_appended}
 use Rattle.rkyv_base.specs.declared.errors.WriteError.{WriteError}
-use Rattle.rkyv_base.specs.declared.errors.WriteError.TheVariants.{CapacityTooLarge, DistanceTooLarge, InvalidLoadFactor, IteratorLengthMismatch, Memory, PositionTooLarge, Refused, TextTooLong, Writer}
-use Rattle.rkyv_table.specs.{HasCapacity, OwnCause, WriteItemsFails, WroteItems, YieldsOtherCount, capacity, listed}
+use Rattle.rkyv_table.specs.{HasCapacity, OwnCause, WriteItemsFails, WroteItems, YieldsOtherCount, listed}
 
 -- an iterator whose state shows the items that remain
 module _ {S A B : Type 0} (view : A → B) (rest : S → List B) where
@@ -15,8 +15,7 @@ module _ {S A B : Type 0} (view : A → B) (rest : S → List B) where
   left_after (x ∷ xs) s t h = h.1 ∙ ap (λ (l : List B). view x ∷ l) (left_after xs h.0 t h.2)
 
   pub all_came : (xs : List A) (s : S) → Drains (YieldsFirstBy view rest) s xs → map view xs ≡ rest s
-  all_came xs s d =
-      sym (left_after xs s d.1.0 d.1.1 ∙ ap (λ (l : List B). map view xs ++ l) d.1.2.0 ∙ append-nil (map view xs))
+  all_came xs s d = grind (arith, common_steps, left_after, append-nil)
 
   pub no_other_came : (len : ℕ) (s : S) → length (rest s) ≡ len → (n : ℕ) → YieldsOtherCount (YieldsFirstBy view rest) len s n → ⊥
   no_other_came len s e n h =
@@ -40,24 +39,9 @@ module _ {X V R : Type 0} (yields : List X → Type 0) (other : ℕ → Type 0) 
   has h = subst (λ n. HasCapacity n factor max) count h
 
   own_applies : {F : Type 0} (e : WriteError F) → OwnCause len factor max other e → CauseApplies limit (Whole.next values (end_of o)) o o [] e
-  own_applies (InvalidLoadFactor n d) h = (inl refl, refl, inl (load_factor n d, inl (cc, h.1), (refl, refl)))
-  own_applies (CapacityTooLarge l) h = (inl refl, refl, inl (too_large l, inr (inl (cc, h.1, subst (λ n. max < capacity n factor) count h.2)), (refl, refl)))
-  own_applies Memory h = (inl refl, refl, inl (no_memory, inr (inr (refl, has h.0, omega (arith, h.1, count))), (refl, refl)))
-  own_applies (IteratorLengthMismatch m) h = absurd (none m.actual h.2)
-  own_applies PositionTooLarge h = absurd h
-  own_applies DistanceTooLarge h = absurd h
-  own_applies TextTooLong h = absurd h
-  own_applies (Writer fault) h = absurd h
-  own_applies (Refused c) h = absurd h
+  own_applies e h = grind (arith, common_steps, has)
 
   pub results_listed : {F : Type 0} (result : Result R (WriteError F))
       → MatchResult result (WroteItems yields len factor max (written_as value_of f) o o' limit) (WriteItemsFails yields len factor max (written_as value_of f) o o' limit other)
       → MatchResult result (Serialized limit Whole values o o') (SerializeFails limit Whole values o o')
-  results_listed (Ok r) h =
-      let x = subst (λ (vs : List V). Serialized limit f vs o o' r) (all h.1 h.2.0) h.3 in
-      (x.0, x.1, (has h.0, x.2), x.3)
-  results_listed (Err e) (inl h) =
-      subst (λ x. SerializeFails limit Whole values o x e) (sym h.1) (record { front = []; kept = grows o o [] (none_appended o); cause = own_applies e h.0 })
-  results_listed (Err e) (inr h) =
-      fails_under limit (Whole.next values (end_of o)) (f.next values (end_of o)) o o' e (λ front step n. inr (has h.0, n))
-      (subst (λ (vs : List V). SerializeFails limit f vs o o' e) (all h.1 h.2.0) h.3)
+  results_listed result h = grind (arith, common_steps, has, grows, none_appended, own_applies, fails_under)

@@ -1,6 +1,7 @@
 -- Lists made by `filter`, `map` and `range_with_len`: membership, distinctness, and
 -- the first that passes.
 use Rattle.std.proofs.Common.{◌≡◌, ◌≢◌, ℕ, zero, suc, ◌+◌, ◌-◌, ◌<◌, ◌≤◌, inl, inr, refl, sym, ap, subst, ◌∙◌, arith, List, [], ◌∷◌, Bool, true, false, ◌&&◌, ◌||◌, eqb, filter, get_or, length, map, Option, Some, None}
+use Rattle.std.proofs.lemmas.Grind.{common_steps}
 use Rattle.std.specs.Prelude.{slice_get, slice_set}
 use Rattle.std.specs.List.{AllByRecursion, Contains, IsDistinct, find, flat_map, list_any, range_with_len}
 use Rattle.std.specs.Option.{option_map}
@@ -14,26 +15,13 @@ use Rattle.std.proofs.Math.Bool.{and-false}
 
 -- the image of an option is `Some` of the image of its item
 pub option_map_some : {A B : Type 0} (f : A → B) (o : Option A) (y : B) → option_map f o ≡ Some y → (x : A) × (o ≡ Some x) × (f x ≡ y)
-option_map_some f None y e = absurd (none-some y e)
-option_map_some f (Some x) y e = (x, refl, same_Some (f x) y e)
+option_map_some f o y e = grind (arith, common_steps, none-some, same_Some)
 
 -- ---- membership
 
 pub any_filter : (x : ℕ) (p : ℕ → Bool) (xs : List ℕ) → list_any (eqb x) (filter p xs) ≡ (list_any (eqb x) xs && p x)
 any_filter x p [] = refl
-any_filter x p (y ∷ ys) =
-    let ih = any_filter x p ys in
-    elim (cases_Bool (eqb x y)) [
-      | inl e ↦ let same : p x ≡ p y = ap p (eqb-true x y e) in
-          elim (cases_Bool (p y)) [
-            | inl t ↦ rw (t, e, same, t) refl
-            | inr f ↦ rw (f, ih, e, same, f) (and-false (list_any (eqb x) ys))
-          ]
-      | inr e ↦ elim (cases_Bool (p y)) [
-        | inl t ↦ rw (t, e, ih) refl
-        | inr f ↦ rw (f, e, ih) refl
-      ]
-    ]
+any_filter x p (y ∷ ys) = grind (arith, common_steps, cases_Bool, eqb-true, and-false, any_filter x p ys)
 
 -- an element of a list, by a test and by its index
 pub member_contains : (x : ℕ) (xs : List ℕ) → list_any (eqb x) xs ≡ true → Contains xs x
@@ -149,11 +137,7 @@ some_find P (y ∷ ys) x h = elim (cases_Bool (P y)) [
 
 pub find_map_filter : (P m : ℕ → Bool) (f : ℕ → ℕ) (xs : List ℕ) → find P (map f (filter m xs)) ≡ option_map f (find (λ x. m x && P (f x)) xs)
 find_map_filter P m f [] = refl
-find_map_filter P m f (x ∷ xs) = let ih = find_map_filter P m f xs in
-    elim (cases_Bool (m x)) [
-      | inl t ↦ elim (cases_Bool (P (f x))) [ inl u ↦ rw (t, u) refl | inr u ↦ rw (t, u, ih) refl ]
-      | inr e ↦ rw (e, ih) refl
-    ]
+find_map_filter P m f (x ∷ xs) = grind (arith, common_steps, cases_Bool, find_map_filter P m f xs)
 
 -- the first element of a range that passes
 pub record FirstIn (P : ℕ → Bool) (a n q : ℕ) : Type 0 where

@@ -20,10 +20,7 @@ module _ (kind : Kind) (controls : List ℕ) (cap t : ℕ) (accept : ℕ → Boo
 
   pub ends_by_item : (p b : ℕ) (ps qs : List ℕ) → qs ≡ p ∷ ps → find accept (candidates kind controls cap t p) ≡ Some b
       → (found_along kind controls cap t accept qs ≡ Some b) × (end_index qs ≡ 0)
-  ends_by_item p b ps qs q h =
-      let k = some_find accept (candidates kind controls cap t p) b h in
-      let e : ends_at kind controls cap t accept p ≡ true = or_left (list_any accept (candidates kind controls cap t p)) (stride_has_empty controls p) k.0 in
-      rw q (found_along_cons kind controls cap t accept p ps ∙ rw e h, rw e refl)
+  ends_by_item p b ps qs q h = grind (arith, common_steps, some_find, or_left, found_along_cons)
 
   pub ends_by_empty : (p : ℕ) (ps qs : List ℕ) → qs ≡ p ∷ ps → find accept (candidates kind controls cap t p) ≡ None → stride_has_empty controls p ≡ true
       → (found_along kind controls cap t accept qs ≡ None) × (end_index qs ≡ 0)
@@ -31,10 +28,7 @@ module _ (kind : Kind) (controls : List ℕ) (cap t : ℕ) (accept : ℕ → Boo
 
   pub goes_on : (p : ℕ) (ps qs : List ℕ) → qs ≡ p ∷ ps → find accept (candidates kind controls cap t p) ≡ None → stride_has_empty controls p ≡ false
       → (found_along kind controls cap t accept qs ≡ found_along kind controls cap t accept ps) × (end_index qs ≡ 1 + end_index ps)
-  goes_on p ps qs q h s =
-      let k = none_find accept (candidates kind controls cap t p) h in
-      let e : ends_at kind controls cap t accept p ≡ false = or_from (list_any accept (candidates kind controls cap t p)) (stride_has_empty controls p) k s in
-      rw q (found_along_cons kind controls cap t accept p ps ∙ rw e refl, rw e refl)
+  goes_on p ps qs q h s = grind (arith, common_steps, none_find, or_from, found_along_cons)
 
 -- ---- valid control bytes have an empty bucket, so some stride ends the search
 

@@ -1,7 +1,8 @@
 -- The steps of counting misplaced items.
 use Rattle.rkyv_base.specs.declared.element.HasSpec.{Ghosts as Specs}
 use Rattle.rkyv_base.specs.declared.width.Word.{Ghosts as Words}
-use Rattle.std.proofs.Common.{◌≡◌, ℕ, zero, suc, ◌+◌, ◌<◌, ◌≤◌, ◌^◌, ◌⊎◌, inl, inr, refl, sym, ap, subst, ◌∙◌, arith, List, ◌∷◌, Bool, true, false, None, Some, length, filter}
+use Rattle.std.proofs.Common.{◌≡◌, ℕ, suc, ◌+◌, ◌<◌, ◌≤◌, ◌^◌, ◌⊎◌, refl, ap, subst, ◌∙◌, arith, List, ◌∷◌, Bool, true, false, None, length, filter}
+use Rattle.std.proofs.lemmas.Grind.{common_steps}
 use Rattle.std.specs.List.{All, sum_by}
 use Rattle.std.proofs.lemmas.List.Elements.{All-head, All-rest}
 use Rattle.std.proofs.lemmas.List.Sums.{sum_by-cons}
@@ -42,16 +43,10 @@ module _ {T W : Type 0} {ts : Specs T} {wt : Words W} (t : ArchivedHashTable T W
 
   module _ (count bucket : ℕ) (buckets left : List ℕ) (steps : buckets ≡ bucket ∷ left) (returned : Bool) (exact : ReturnsMisplaced hashes compares t bucket returned) (before : Counting count buckets) where
     pub counted_one : returned ≡ true → Counting (count + 1) left
-    counted_one hit = λ hash_of same hash_as same_as.
-        let n = count_taken (bucket_misplaced generic_kind t hash_of same) bucket buckets left steps (sym (exact hash_of same hash_as same_as) ∙ hit) in
-        let e = before hash_of same hash_as same_as in
-        omega (arith, n, e)
+    counted_one hit = grind (arith, common_steps, count_taken)
 
     pub counted_none : returned ≡ false → Counting count left
-    counted_none miss = λ hash_of same hash_as same_as.
-        let n = count_passed (bucket_misplaced generic_kind t hash_of same) bucket buckets left steps (sym (exact hash_of same hash_as same_as) ∙ miss) in
-        let e = before hash_of same hash_as same_as in
-        omega (arith, n, e)
+    counted_none miss = grind (arith, common_steps, count_passed)
 
 -- the strides that were read and those of the remaining buckets are the strides of all items
 module _ {T W : Type 0} {ts : Specs T} {wt : Words W} (t : ArchivedHashTable T W ts wt) (hashes : View T → ℕ → Type 0) (compares : View T → View T → Bool → Type 0) where
@@ -69,21 +64,12 @@ module _ {T W : Type 0} {ts : Specs T} {wt : Words W} (t : ArchivedHashTable T W
 
 -- a lookup reads none or more strides
 pub reads_on : (len bound before after : ℕ) → ReadsWithin len bound before after → before ≤ after
-reads_on zero bound before after reads = let still = reads.none refl in omega arith
-reads_on (suc len) bound before after reads = let more = reads.some (omega arith) in omega arith
+reads_on len bound before after reads = grind (arith, common_steps)
 
 -- where the strides that were read are past a limit, those of all items are
 pub past_all : (before now limit all rest : ℕ) → before + all ≡ now + rest → (before + limit < now) ⊎ (2 ^ 63 < now) → (limit < all) ⊎ (2 ^ 63 < before + all)
-past_all before now limit all rest e (inl past) = inl (omega (arith, e, past))
-past_all before now limit all rest e (inr past) = inr (omega (arith, e, past))
-
--- the count of strides is within the limit, or past it after one more lookup
-pub within_cut : {limit bound start old now n : ℕ} → start ≡ old → (start ≤ now) × (now ≤ start + limit) × (now ≤ 2 ^ 63) → IsCutAt limit bound old now (Some n)
-within_cut e within = record { grows = omega (arith, within.0, e); bounded = omega (arith, within.1, e); cut = (omega (arith, within.1, e), within.2) }
+past_all before now limit all rest e h = grind (arith, common_steps)
 
 pub past_cut : {len limit bound start old before now : ℕ} → start ≡ old → ReadsWithin len bound before now → (start ≤ before) × (before ≤ start + limit) × (before ≤ 2 ^ 63) → (start + limit < now) ⊎ (2 ^ 63 < now)
     → IsCutAt limit bound old now None
-past_cut {limit = limit} {now = now} e reads within past =
-    let on = reads_on _ _ _ _ reads in
-    let most = reads.most in
-    record { grows = omega (arith, on, within.0, e); bounded = omega (arith, most, within.1, e); cut = subst (λ n. (n + limit < now) ⊎ (2 ^ 63 < now)) e past }
+past_cut {limit = limit} {now = now} e reads within past = grind (arith, common_steps, reads_on)

@@ -1,12 +1,12 @@
 -- If items are written in one way alone, so are tables of them.
-use Rattle.std.proofs.Common.{◌≡◌, ℕ, ◌+◌, ◌-◌, ◌*◌, ◌<◌, ◌∙◌, inl, inr, sym, ap, subst, arith, List, [], ◌∷◌, ◌++◌, length, slice_get, slice_index, Option, Some, None, get_or, eqb}
+use Rattle.std.proofs.Common.{◌≡◌, ℕ, ◌+◌, ◌-◌, ◌<◌, ◌∙◌, inl, inr, sym, ap, subst, arith, List, [], ◌∷◌, ◌++◌, length, slice_get, slice_index, Option, Some, None, get_or, eqb}
 use Rattle.std.proofs.lemmas.Grind.{common_steps}
 use Rattle.std.specs.Int.{Width}
 use Rattle.std.specs.List.{list_any}
 use Rattle.std.proofs.lemmas.Bool.{cases_Bool, not-false}
 use Rattle.std.proofs.lemmas.List.{ext_get_or, get_or_default}
 use Rattle.std.proofs.lemmas.Option.{get_or_from_slice_get, slice_get_cases}
-use Rattle.rkyv_base.specs.{ElementSpec, Format, padding, round_up, zeros}
+use Rattle.rkyv_base.specs.{ElementSpec, Format, zeros}
 use Rattle.rkyv_table.specs.{AreInSlots, ArePlaced, IsHeader, SlotImages, SlotParts, TableBytes, TableResolver, TableWritten, WritesOneWay, capacity, hashes_of, header_bytes, is_free, items_of, resolved_capacity, table_format}
 use Rattle.rkyv_table.specs.Lemmas.TableSound.{capacity_above}
 use Rattle.rkyv_table.proofs.HomeList.{homes_one_list, written_one_list}
@@ -45,16 +45,7 @@ module _ {X R : Type 0} (f : Format X R) (one : WritesOneWay f) where
   module _ (s : ElementSpec) (slots : List (Option X)) (controls : List ℕ) (p : ℕ) where
     -- the bytes of a table whose items are placed, and the position of its first control byte
     bytes_one_way : (z z' : ℕ) (bytes bytes' : List ℕ) → TableBytes s f slots controls p z bytes → TableBytes s f slots controls p z' bytes' → (z ≡ z') × (bytes ≡ bytes')
-    bytes_one_way z z' bytes bytes' t t' =
-        let made = parts_one_way slots p t.part t'.part t.resolvers t'.resolvers t.made t'.made in
-        let at : z ≡ z' = t.at ∙ ap (λ (a : List ℕ). round_up (p + length a) s.align + length slots * s.size) made.0 ∙ sym t'.at in
-        let there : SlotImages s.size f slots t.resolvers z t'.buckets =
-        subst (λ n. SlotImages s.size f slots t.resolvers n t'.buckets) (sym at) (subst (λ (rs : List R). SlotImages s.size f slots rs z' t'.buckets) (sym made.1) t'.images) in
-        let buckets = images_one_way s.size slots p z t.part t.buckets t'.buckets t.resolvers t.made t.images there in (
-          at,
-          t.is ∙ ap (λ (a : List ℕ). a ++ (zeros (padding s.align (p + length a)) ++ (t.buckets ++ controls))) made.0
-              ∙ ap (λ (b : List ℕ). t'.part ++ (zeros (padding s.align (p + length t'.part)) ++ (b ++ controls))) buckets ∙ sym t'.is,
-        )
+    bytes_one_way z z' bytes bytes' t t' = grind (arith, common_steps, parts_one_way, images_one_way)
 
 -- one list of slots has each item in its home bucket, and no other
 module _ {X : Type 0} (cap : ℕ) (homes : List ℕ) (items : List X) where

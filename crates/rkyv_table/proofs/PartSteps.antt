@@ -21,10 +21,7 @@ filled-append (None ∷ xs) ys = filled-append xs ys
 filled-append (Some x ∷ xs) ys = ap suc (filled-append xs ys) ∙ sym (suc_plus (filled xs) (filled ys))
 
 pub filled_front : {A : Type 0} (xs : List (Option A)) (i : ℕ) → filled (take i xs) ≤ filled xs
-filled_front xs i =
-    let e = filled-append (take i xs) (drop i xs) in
-    let t = ap filled (take-append-drop i xs) in
-    omega arith
+filled_front xs i = grind (arith, common_steps, filled-append (take i xs) (drop i xs), take-append-drop i xs)
 
 module _ {X R : Type 0} (f : Format X R) where
   -- the part of one value, and the parts after it
@@ -73,11 +70,7 @@ module _ {X R : Type 0} (f : Format X R) where
 
       -- there is room for a resolver
       pub step_room : (n : ℕ) → filled slots ≤ n → length rs < n
-      step_room n most =
-          let k = parts_filled (take i slots) (end_of o) part rs h in
-          let t : filled (take (i + 1) slots) ≡ filled (take i slots) + 1 = rw (take_more slots i None inside, e) (filled-append (take i slots) (Some x ∷ [])) in
-          let up = filled_front slots (i + 1) in
-          omega arith
+      step_room n most = grind (arith, common_steps, parts_filled, take_more, filled-append, filled_front)
 
       pub step_fails : {F : Type 0} (limit : ℕ) (o2 : Output) (err : WriteError F) → Within limit o1 part
           → WriteFails limit (f.next x (end_of o1)) o1 o2 err → WriteFails limit (PartsNext f slots (end_of o)) o o2 err

@@ -1,5 +1,6 @@
 -- The steps of a `Probe`.
 use Rattle.std.proofs.Common.{◌≡◌, ℕ, zero, suc, inl, inr, ◌+◌, ◌*◌, ◌-◌, ◌/◌, ◌%◌, ◌^◌, ◌<◌, ◌≤◌, refl, sym, ap, ◌∙◌, arith, [], ◌∷◌, true, false, ltb, bit_and, add-zero, add_comm}
+use Rattle.std.proofs.lemmas.Grind.{common_steps}
 use Rattle.std.proofs.Math.Nat.{mod-add-mod, mod-eq_of_lt}
 use Rattle.std.proofs.Math.Pow.{pow_mono}
 use Rattle.std.proofs.lemmas.Nat.{and_mask, mod_below, pow_pos}
@@ -11,25 +12,15 @@ use Rattle.rkyv_table.proofs.Lists.{range_cons}
 
 twice_below : (k : ℕ) → 2 * (k * (k - 1) / 2) ≡ k * (k - 1)
 twice_below zero = refl
-twice_below (suc j) =
-    let t = twice j in
-    let m : suc j - 1 ≡ j = omega arith in
-    let e : suc j * (suc j - 1) ≡ j * (j + 1) = ap (λ z. suc j * z) m ∙ omega arith in
-    ap (λ z. 2 * (z / 2)) e ∙ t ∙ sym e
+twice_below (suc j) = grind (arith, common_steps, twice j)
 
 -- the offset of the index with the number `k`, from that of the one before
 triangle_step : (k : ℕ) → 0 < k → 16 * (k * (k - 1) / 2) + 16 * k ≡ 16 * triangle k
 triangle_step zero h = absurd (omega arith)
-triangle_step (suc j) h =
-    let a = twice_below (suc j) in
-    let b = twice (suc j) in
-    let m : suc j - 1 ≡ j = omega arith in
-    let e : suc j * (suc j - 1) ≡ suc j * j = ap (λ z. suc j * z) m in
-    omega arith
+triangle_step (suc j) h = grind (arith, common_steps, twice_below (suc j), twice (suc j))
 
 offset_next : (m k offset : ℕ) → 0 < k → offset ≡ 16 * (k * (k - 1) / 2) % m → (offset + 16 * k) % m ≡ 16 * triangle k % m
-offset_next m k offset h e =
-    ap (λ z. (z + 16 * k) % m) e ∙ mod-add-mod (16 * (k * (k - 1) / 2)) m (16 * k) ∙ ap (λ z. z % m) (triangle_step k h)
+offset_next m k offset h e = grind (arith, common_steps, mod-add-mod, triangle_step)
 
 add_mod_inner : (s m x : ℕ) → (s + x % m) % m ≡ (s + x) % m
 add_mod_inner s m x = ap (λ z. z % m) (add_comm s (x % m)) ∙ mod-add-mod x m s ∙ ap (λ z. z % m) (add_comm x s)

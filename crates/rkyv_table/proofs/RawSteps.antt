@@ -1,5 +1,6 @@
 -- The steps of a walk over items, by their number.
-use Rattle.std.proofs.Common.{◌≡◌, ℕ, zero, suc, ◌+◌, ◌-◌, ◌*◌, ◌<◌, ◌≤◌, inl, inr, refl, sym, ap, ◌∙◌, arith, List, [], ◌∷◌, ◌++◌, Bool, ltb, map, filter, drop, take, length, get_or, Some, None, get_or-take, get_or-drop}
+use Rattle.std.proofs.Common.{◌≡◌, ℕ, ◌+◌, ◌-◌, ◌*◌, ◌<◌, ◌≤◌, inl, inr, refl, sym, ap, ◌∙◌, arith, List, [], ◌∷◌, ◌++◌, Bool, ltb, map, filter, drop, take, length, get_or, Some, None, get_or-take, get_or-drop}
+use Rattle.std.proofs.lemmas.Grind.{common_steps}
 use Rattle.std.specs.List.{range_with_len, slice_get}
 use Rattle.std.proofs.lemmas.Bool.{cases_eq}
 use Rattle.std.proofs.lemmas.Option.{none-some, same_Some}
@@ -59,8 +60,7 @@ full_head controls n b q rest e =
     f.from
 
 take_cons : (n x : ℕ) (xs : List ℕ) → 0 < n → take n (x ∷ xs) ≡ x ∷ take (n - 1) xs
-take_cons zero x xs h = absurd (omega arith)
-take_cons (suc n) x xs h = let e : suc n - 1 ≡ n = omega arith in ap (λ k. x ∷ take k xs) (sym e)
+take_cons f x xs h = grind (arith, common_steps)
 
 split_head : (xs : List ℕ) → 0 < length xs → (x : ℕ) × (rest : List ℕ) × (xs ≡ x ∷ rest)
 split_head [] h = absurd (omega arith)
@@ -78,10 +78,7 @@ module _ (buckets_end size count : ℕ) (controls : List ℕ) (base : ℕ) (mark
 
   -- the bucket of the lowest mark is before the position
   pub head_before : (j : ℕ) → 0 < count → Some j ≡ slice_get marks 0 → (j + 8 ≤ length controls) × ((j + 1) * size ≤ buckets_end)
-  head_before j some e =
-      let h = head_ahead j some e in
-      let p : (base + j + 1) * size ≡ base * size + (j + 1) * size = omega arith in
-      (omega (arith, h.0), omega (arith, h.1, p))
+  head_before j some e = grind (arith, common_steps, head_ahead j some e)
 
   pub head_positions : (j : ℕ) → 0 < count → Some j ≡ slice_get marks 0 → positions_left buckets_end size count controls base marks ≡ (buckets_end - (j + 1) * size) ∷ positions_left buckets_end size (count - 1) controls base (drop 1 marks)
   head_positions j some e =
@@ -135,10 +132,7 @@ module _ (buckets_end size count : ℕ) (controls : List ℕ) (base : ℕ) (mark
         rest_left none ∙ sym (ap (take count) (group_marked controls (base + 8) marks' (omega (arith, h.0)) read))
 
     next_pos : buckets_end - 8 * size + (base + 8) * size ≡ buckets_end + base * size
-    next_pos =
-        let h = next_inside some none in
-        let p : (base + 8) * size ≡ base * size + 8 * size = omega arith in
-        omega (arith, p, h.1)
+    next_pos = grind (arith, common_steps, next_inside)
 
     pub next_positions : positions_left buckets_end size count controls base marks ≡ positions_left (buckets_end - 8 * size) size count controls (base + 8) marks'
     next_positions =

@@ -1,5 +1,6 @@
 -- A lookup in two archives whose tables have the same header and control bytes.
-use Rattle.std.proofs.Common.{◌≡◌, ℕ, ◌+◌, ◌-◌, ◌*◌, ◌<◌, ◌^◌, ◌∙◌, refl, ap, inl, inr, sym, arith, Bool, List, Option, Some, None}
+use Rattle.std.proofs.Common.{◌≡◌, ℕ, ◌+◌, ◌-◌, ◌*◌, ◌<◌, ◌^◌, ◌∙◌, refl, ap, inl, inr, sym, arith, Bool, List, Option}
+use Rattle.std.proofs.lemmas.Grind.{common_steps}
 use Rattle.std.specs.Int.{Width, byte_len}
 use Rattle.std.specs.Option.{option_map}
 use Rattle.std.proofs.lemmas.Bool.{cases_eq, eq-eqb}
@@ -13,16 +14,12 @@ use Rattle.rkyv_table.proofs.ValidTable.{controls_accepted, some_cap}
 use Rattle.rkyv_table.proofs.Walks.{walked_full}
 
 map_of_found : (f g : ℕ → ℕ) → ((i : ℕ) → f i ≡ g i) → (o : Option ℕ) → option_map f o ≡ option_map g o
-map_of_found f g same None = refl
-map_of_found f g same (Some i) = ap Some (same i)
+map_of_found f g same found = grind (arith, common_steps)
 
 module _ (w : Width) (b c : List ℕ) (p : ℕ) (header : AgreeOn b c p (p + 3 * byte_len w)) (controls : table_controls w c p ≡ table_controls w b p) where
   -- a comparison of buckets finds the same bucket
   same_bucket : (kind : Kind) (hash : ℕ) (fits : ℕ → Bool) → found kind (table_controls w c p) (cap_at w c p) (len_at w c p) hash fits ≡ found kind (table_controls w b p) (cap_at w b p) (len_at w b p) hash fits
-  same_bucket kind hash fits =
-      ap (λ (x : List ℕ). found kind x (cap_at w c p) (len_at w c p) hash fits) controls
-      ∙ ap (λ n. found kind (table_controls w b p) n (len_at w c p) hash fits) (sym (cap_same w b c p header))
-      ∙ ap (λ n. found kind (table_controls w b p) (cap_at w b p) n hash fits) (sym (len_same w b c p header))
+  same_bucket kind hash fits = grind (arith, common_steps, cap_same w b c p header, len_same w b c p header)
 
   -- a comparison of positions finds the same bucket
   pub lookup_kept : (size : ℕ) (kind : Kind) (hash : ℕ) (accept : ℕ → Bool) → bucket_found kind w size c p hash accept ≡ bucket_found kind w size b p hash accept

@@ -55,12 +55,7 @@ module _ {T : Type 0} (w : Width) (s : ElementSpec) (law : IsElement s) (p : ℕ
   cap_some h = subst (λ n. 0 < n) is.cap h
 
   pub part_there : 0 < r.left → r.buckets_end + r.cap ≤ length bytes
-  part_there h =
-      let some = some_buckets h in
-      let e = is.buckets_end some in
-      let f = is.cap in
-      let k = (controls_inside w s law bytes p is.table (cap_some some)).0 in
-      omega arith
+  part_there h = grind (arith, common_steps, some_buckets, controls_inside, cap_some)
 
   control_same : 0 < r.left → (i : ℕ) → i < r.cap → slice_index controls i ≡ slice_index (table_controls w bytes p) i
   control_same h i l = grind (arith, common_steps)
@@ -72,10 +67,7 @@ module _ {T : Type 0} (w : Width) (s : ElementSpec) (law : IsElement s) (p : ℕ
       (λ j from to. ap is_full (control_same h j (omega arith)))
 
   pub bucket_before : 0 < r.left → (i : ℕ) → i < r.cap → (i + 1) * s.size ≤ r.buckets_end
-  bucket_before h i l =
-      let e = is.buckets_end (some_buckets h) in
-      let k = item_before w s law bytes p is.table i (subst (λ n. i < n) is.cap l) in
-      omega arith
+  bucket_before h i l = grind (arith, common_steps, some_buckets, item_before)
 
   pub first_item : 0 < r.left → (i q : ℕ) → i < r.cap → slice_index controls i < 128 → q ≡ pos_before r.buckets_end s.size i → IsItemAt w s bytes p i q
   first_item h i q l full at =
@@ -117,8 +109,7 @@ module _ {T : Type 0} (w : Width) (s : ElementSpec) (p i q : ℕ) (before after 
 module _ {T : Type 0} (w : Width) (s : ElementSpec) (law : IsElement s) (p : ℕ) (r : RawIterSeal T) (view : Viewable (table_spec w s) r.archive.now p)
     (cap : r.cap ≡ cap_at w r.archive.now p) (next : r.next ≡ 0) where
   pub all_left : cursor_buckets_left w p r ≡ walk (table_controls w r.archive.now p) (cap_at w r.archive.now p)
-  all_left = ap (λ n. full_from (table_controls w r.archive.now p) n r.next) cap
-      ∙ ap (λ n. full_from (table_controls w r.archive.now p) (cap_at w r.archive.now p) n) next ∙ whole_walk (table_controls w r.archive.now p) (cap_at w r.archive.now p)
+  all_left = grind (arith, common_steps, whole_walk)
 
   pub begun : r.left ≡ len_at w r.archive.now p → (0 < r.cap → r.buckets_end ≡ controls_pos w r.archive.now p) → IsSealIter w s p r
   begun left buckets_end = record { table = view; cap = cap; buckets_end = buckets_end; left = left ∙ sym (walk_count w s law r.archive.now p view) ∙ ap length (sym all_left) }

@@ -3,13 +3,12 @@ use Rattle.rkyv_base.specs.declared.element.HasSpec.{Ghosts as Specs}
 use Rattle.rkyv_base.specs.declared.width.Word.{Ghosts as Words}
 use Rattle.std.proofs.Common.{arith, ◌≡◌, ℕ, ap, sym, subst, ◌∙◌, Bool, List, Option}
 use Rattle.std.proofs.lemmas.Grind.{common_steps}
-use Rattle.std.specs.List.{find}
 use Rattle.rkyv_base.specs.{IsElement, SealAt, Viewable, archive_in, bytes_of, pos_in, pos_of}
 use Rattle.rkyv_base.specs.declared.seal.ArchiveSeal.{ArchiveSeal}
 use Rattle.rkyv_base.specs.declared.seal.Seal.{Seal}
 use Rattle.rkyv_base.specs.declared.view.View.{View}
 use Rattle.rkyv_scan.specs.{generic_kind}
-use Rattle.rkyv_table.specs.{FindsFirst, FindsFound, IsItemPos, IsItemSeal, IsReadAt, IsTableSeal, IsUnderHash, IsWalked, SealsFirst, SealsFound, WrittenAt, home_positions, item_at, pos_found}
+use Rattle.rkyv_table.specs.{FindsFirst, FindsFound, IsItemPos, IsItemSeal, IsReadAt, IsTableSeal, IsWalked, SealsFirst, SealsFound, item_at, pos_found}
 use Rattle.rkyv_table.specs.declared.table.ArchivedHashTable.{ArchivedHashTable}
 use Rattle.rkyv_table.specs.declared.table.TableOf.{TableOf}
 use Rattle.rkyv_table.proofs.Bare.{compares_by_of}
@@ -46,6 +45,4 @@ module _ {T W : Type 0} {ts : Specs T} {wt : Words W} (law : IsElement ts.spec) 
         subst (P (archive_in a)) read.1 (subst (λ b. P b t.view.pos) read.0 (found accept (compares_by_of (archive_in a) (pos_in a) t read.0 read.1 post accept compares)))
 
     pub seals_first : FindsFirst post t hash result → SealsFirst post wt.word ts.spec a hash result
-    seals_first first hashes homes accept written compares under =
-        let P = λ (b : List ℕ) (p : ℕ). WrittenAt wt.word b p hashes homes → IsUnderHash hash hashes (home_positions wt.word ts.spec.size b p homes) accept → result ≡ find accept (home_positions wt.word ts.spec.size b p homes) in
-        subst (P (archive_in a)) read.1 (subst (λ b. P b t.view.pos) read.0 (λ x y. first hashes homes accept x (compares_by_of (archive_in a) (pos_in a) t read.0 read.1 post accept compares) y)) written under
+    seals_first first hashes homes accept written compares under = grind (arith, common_steps, compares_by_of (archive_in a) (pos_in a) t read.0 read.1 post accept compares)

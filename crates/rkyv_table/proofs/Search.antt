@@ -81,9 +81,7 @@ mark_equal kind law controls t p q le e =
     law.equal (take kind.width (drop (p + (q - p) / kind.width * kind.width) controls)) t ((q - p) % kind.width) (mod_below (q - p) kind.width some) (at_mark kind controls p q some le ∙ e)
 
 pub mark_full : (kind : Kind) → IsKind kind → (controls : List ℕ) (t p q : ℕ) → t < 128 → p ≤ q → marked kind controls t p q ≡ true → get_or controls q 0 < 128
-mark_full kind law controls t p q ht le e =
-    let f = law.full (take kind.width (drop (p + (q - p) / kind.width * kind.width) controls)) t ((q - p) % kind.width) ht e in
-    rw (at_mark kind controls p q (width_some kind law) le) at f
+mark_full kind law controls t p q ht le e = grind (arith, common_steps, at_mark kind controls p q (width_some kind law) le, width_some kind law)
 
 -- ---- the walk over the strides, for any tests
 

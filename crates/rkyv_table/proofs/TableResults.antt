@@ -5,7 +5,6 @@ use Rattle.std.specs.Prelude.{◌≡◌, ℕ, ◌^◌, ◌<◌, List, length}
 use Rattle.std.specs.Int.{Width}
 use mir.Val.{bits}
 use Rattle.rkyv_base.specs.declared.errors.WriteError.{WriteError}
-use Rattle.rkyv_base.specs.declared.errors.WriteError.TheVariants.{CapacityTooLarge, DistanceTooLarge, InvalidLoadFactor, IteratorLengthMismatch, Memory, PositionTooLarge, Refused, TextTooLong, Writer}
 use Rattle.rkyv_base.proofs.WritingSteps.{fails_under}
 use Rattle.rkyv_base.specs.{ElementSpec, Format, IsLayout, Output, end_of}
 use Rattle.rkyv_table.specs.{ArePlaced, HasCapacity, InBuckets, OwnCause, PairsNext, PlacingFails, TableNext, WriteItemsFails, WriteNonemptyFails, WroteItems, WroteNonempty, capacity, table_format}
@@ -24,15 +23,7 @@ module _ {X R : Type 0} (yields : List (ℕ × X) → Type 0) (len : ℕ) (load_
 
     module _ {F : Type 0} (other : ℕ → Type 0) where
       own_of : (e : WriteError F) → PlacingFails len other e → OwnCause len load_factor max other e
-      own_of (InvalidLoadFactor n d) h = absurd h
-      own_of (CapacityTooLarge l) h = absurd h
-      own_of Memory h = (has, some)
-      own_of (IteratorLengthMismatch m) h = (h.0, has, h.1)
-      own_of PositionTooLarge h = absurd h
-      own_of DistanceTooLarge h = absurd h
-      own_of TextTooLong h = absurd h
-      own_of (Writer fault) h = absurd h
-      own_of (Refused c) h = absurd h
+      own_of e h = grind (arith, common_steps)
 
       pub fails_some : (e : WriteError F) → WriteNonemptyFails yields len (capacity len load_factor) s f o o' limit other e
           → WriteItemsFails yields len load_factor max (table_format w s f load_factor) o o' limit other e

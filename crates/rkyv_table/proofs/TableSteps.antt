@@ -1,5 +1,5 @@
 -- The parts of a table, in order.
-use Rattle.std.proofs.Common.{◌≡◌, ℕ, ◌+◌, ◌*◌, refl, ap, ◌∙◌, subst, arith, List, ◌++◌, length, Option, append_assoc, inl, inr}
+use Rattle.std.proofs.Common.{◌≡◌, ℕ, ◌+◌, refl, ap, ◌∙◌, subst, arith, List, ◌++◌, length, Option, append_assoc, inl, inr}
 use Rattle.std.proofs.lemmas.Grind.{common_steps}
 use Rattle.std.proofs.lemmas.List.{length-replicate}
 use Rattle.rkyv_base.specs.declared.errors.WriteError.{WriteError}
@@ -63,23 +63,4 @@ module _ (F : Type 0) {X R : Type 0} (s : ElementSpec) (limit : ℕ) (f : Format
             t
 
         pub table_wrote : (o4 : Output) → Appended limit controls o3 o4 → (bytes : List ℕ) × Appended limit bytes o o4 × TableBytes s f slots controls (end_of o) (end_of o3) bytes
-        table_wrote o4 d =
-            let e1 : end_of o1 ≡ end_of o + length a = end-appends o o1 a aa in
-            let e2 : end_of o2 ≡ end_of o1 + length pad = end-appends o1 o2 pad bb.0 in
-            let n : length pad ≡ padding s.align (end_of o1) = length-replicate {A = ℕ} (padding s.align (end_of o1)) 0 in
-            let q : padding s.align (end_of o1) ≡ padding s.align (end_of o + length a) = ap (padding s.align) e1 in
-            let e3 : end_of o3 ≡ end_of o2 + length w.0 = end-appends o2 o3 w.0 w.1.0 in
-            let m : length w.0 ≡ length slots * s.size = images_length s.size f sized slots rs (end_of o3) w.0 w.2 in (
-              (front ++ w.0) ++ controls,
-              (appends_after o o3 o4 (front ++ w.0) controls (appends_after o o2 o3 front w.0 table_front w.1.0) d.0, d.1),
-              record {
-                part = a;
-                resolvers = rs;
-                buckets = w.0;
-                made = made;
-                images = w.2;
-                at = e3 ∙ ap (λ k. end_of o2 + k) m ∙ ap (λ k. k + length slots * s.size) (e2 ∙ omega (arith, e1, n, q));
-                is = ap (λ (y : List ℕ). (y ++ w.0) ++ controls) front_is ∙ append_assoc (a ++ zeros (padding s.align (end_of o + length a))) w.0 controls
-                    ∙ append_assoc a (zeros (padding s.align (end_of o + length a))) (w.0 ++ controls);
-              },
-            )
+        table_wrote o4 d = grind (arith, common_steps, end-appends, length-replicate, images_length, appends_after, table_front, front_is, append_assoc)

@@ -1,10 +1,10 @@
 -- An iterator that passes on the items of another one.
-use Rattle.std.proofs.Common.{◌≡◌, ℕ, ◌+◌, sym, ap, subst, ◌∙◌, inl, inr, List, [], ◌∷◌, map, Option, Some, None, Result, Ok, Err, MatchResult}
+use Rattle.std.proofs.Common.{◌≡◌, ℕ, ap, List, [], ◌∷◌, map, Option, Some, None, Result, MatchResult, arith}
+use Rattle.std.proofs.lemmas.Grind.{common_steps}
 use Rattle.std.specs.Iterator.{Drains, Yields}
 use Rattle.std.proofs.lemmas.List.{length-map}
-use Rattle.rkyv_base.specs.{Format, Output, SerializeFails, Serialized, written_as}
+use Rattle.rkyv_base.specs.{Format, Output, written_as}
 use Rattle.rkyv_base.specs.declared.errors.WriteError.{WriteError}
-use Rattle.rkyv_base.specs.declared.errors.WriteError.TheVariants.{CapacityTooLarge, DistanceTooLarge, InvalidLoadFactor, IteratorLengthMismatch, Memory, PositionTooLarge, Refused, TextTooLong, Writer}
 use Rattle.rkyv_table.specs.{OwnCause, WriteItemsFails, WroteItems, YieldsOtherCount}
 
 -- a state of the outer iterator has one of the inner. Each step of the outer is one of the inner,
@@ -19,31 +19,12 @@ module _ {T S X Y : Type 0} (inner : T → S) (outer : T → Option X → T → 
   drains_through xs s d = (inner d.0, (inner d.1.0, yields_through xs s d.1.0 d.1.1, ends d.1.0 d.0 d.1.2))
 
   pub other_through : (len : ℕ) (s : T) (n : ℕ) → YieldsOtherCount outer len s n → YieldsOtherCount steps len (inner s) n
-  other_through len s n h =
-      let xs = h.0.0 in (
-        (
-          map inner_of xs,
-          h.0.1 ∙ ap (λ k. 0 + k) (sym (length-map xs inner_of)),
-          elim h.0.2 [
-            | inl d ↦ inl (d.0, drains_through xs s d.1)
-            | inr d ↦ inr (d.0, (inner d.1.0, yields_through xs s d.1.0 d.1.1))
-          ],
-        ),
-        h.1,
-      )
+  other_through len s n h = grind (arith, common_steps, length-map, drains_through, yields_through)
 
 -- an error before the first byte, with another test of numbers
 pub own_counted : {F : Type 0} (len : ℕ) (factor : ℕ × ℕ) (max : ℕ) (other other' : ℕ → Type 0) → ((n : ℕ) → other n → other' n)
     → (e : WriteError F) → OwnCause len factor max other e → OwnCause len factor max other' e
-own_counted len factor max other other' f (InvalidLoadFactor n d) h = h
-own_counted len factor max other other' f (CapacityTooLarge l) h = h
-own_counted len factor max other other' f Memory h = h
-own_counted len factor max other other' f (IteratorLengthMismatch m) h = (h.0, h.1, f m.actual h.2)
-own_counted len factor max other other' f PositionTooLarge h = h
-own_counted len factor max other other' f DistanceTooLarge h = h
-own_counted len factor max other other' f TextTooLong h = h
-own_counted len factor max other other' f (Writer fault) h = h
-own_counted len factor max other other' f (Refused c) h = h
+own_counted len factor max other other' f e h = grind (arith, common_steps)
 
 -- the result of writing the outer items is that of writing the inner ones
 module _ {F X Y V R : Type 0} (inner_of : X → Y) (yields : List X → Type 0) (yields' : List Y → Type 0) (other other' : ℕ → Type 0) (exactly : (xs : List X) → yields xs → yields' (map inner_of xs))
@@ -52,8 +33,4 @@ module _ {F X Y V R : Type 0} (inner_of : X → Y) (yields : List X → Type 0) 
   pub results_through : (result : Result R (WriteError F))
       → MatchResult result (WroteItems yields len factor max (written_as of_outer base) o o' limit) (WriteItemsFails yields len factor max (written_as of_outer base) o o' limit other)
       → MatchResult result (WroteItems yields' len factor max (written_as of_inner base) o o' limit) (WriteItemsFails yields' len factor max (written_as of_inner base) o o' limit other')
-  results_through (Ok r) h =
-      (h.0, map inner_of h.1, (exactly h.1 h.2.0, length-map h.1 inner_of ∙ h.2.1), subst (λ v. Serialized limit base v o o' r) (same h.1) h.3)
-  results_through (Err e) (inl h) = inl (own_counted len factor max other other' counted e h.0, h.1)
-  results_through (Err e) (inr h) =
-      inr (h.0, map inner_of h.1, (exactly h.1 h.2.0, length-map h.1 inner_of ∙ h.2.1), subst (λ v. SerializeFails limit base v o o' e) (same h.1) h.3)
+  results_through result h = grind (arith, common_steps, length-map, own_counted)

@@ -11,11 +11,8 @@ use Rattle.rkyv_scan.specs.{Kind}
 use Rattle.rkyv_base.specs.{ElementSpec, IsElement, Viewable, signed_at}
 use Rattle.rkyv_base.specs.declared.view.View.{View}
 use Rattle.rkyv_base.specs.Lemmas.ElementSpec.{valid_at}
-use Rattle.rkyv_table.specs.{AreValidControls, IsFullBucket, IsFullIn, IsWalked, ValidPart, cap_at}
-use Rattle.rkyv_table.specs.{control_count, controls_pos, found, item_at, len_at, probe_length}
-use Rattle.rkyv_table.specs.{table_bytes, table_controls, table_pos, table_spec}
-use Rattle.rkyv_table.specs.Lemmas.ItemPositions.{decoded_controls, decoded_item, decoded_pos}
-use Rattle.rkyv_table.specs.Lemmas.ItemPositions.{item_is_valid, valid_part}
+use Rattle.rkyv_table.specs.{AreValidControls, IsFullBucket, IsFullIn, IsWalked, ValidPart, cap_at, control_count, controls_pos, found, item_at, len_at, probe_length, table_bytes, table_controls, table_pos, table_spec}
+use Rattle.rkyv_table.specs.Lemmas.ItemPositions.{decoded_controls, decoded_item, decoded_pos, item_is_valid, valid_part}
 use Rattle.rkyv_table.specs.declared.table.ArchivedHashTable.{ArchivedHashTable}
 use Rattle.rkyv_table.specs.Lemmas.TableLaws.{bucket_aligned}
 
@@ -29,9 +26,7 @@ module _ (w : Width) (s : ElementSpec) (law : IsElement s) (b : List ℕ) (p : �
 
   -- its control bytes are valid
   pub controls_accepted : 0 < cap_at w b p → AreValidControls (cap_at w b p) (len_at w b p) (table_controls w b p)
-  controls_accepted h =
-      let t = part_of h in
-      subst (AreValidControls (cap_at w b p) (len_at w b p)) (sym (decoded_controls w s.size b p t.begin t.part.begins)) t.is.controls
+  controls_accepted h = grind (arith, common_steps, part_of, decoded_controls)
 
   -- the end and the begin of its control bytes
   pub controls_inside : 0 < cap_at w b p → (controls_pos w b p + control_count (cap_at w b p) ≤ length b) × (pos (controls_pos w b p) ≡ pos p +ℤ signed_at w b p)

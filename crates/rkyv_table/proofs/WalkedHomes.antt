@@ -1,5 +1,6 @@
 -- A walk over written control bytes visits the home buckets.
 use Rattle.std.proofs.Common.{◌≡◌, ℕ, ◌<◌, ◌∙◌, ◌↔◌, inl, inr, sym, ap, subst, arith, eqb, List, [], length, slice_index}
+use Rattle.std.proofs.lemmas.Grind.{common_steps}
 use Rattle.std.specs.List.{AllPairs, Contains, IsDistinct, list_any, range_with_len}
 use Rattle.std.proofs.lemmas.Bool.{cases_Bool, not-false}
 use Rattle.std.proofs.lemmas.List.{get_or_default}
@@ -13,11 +14,7 @@ use Rattle.rkyv_table.proofs.WrittenAccepted.{accepted_written, distinct_homes}
 use Rattle.rkyv_table.proofs.WrittenStep.{home_below}
 
 range_ascends : (n : ℕ) → AllPairs (λ a b. a < b) (range_with_len 0 n)
-range_ascends n i j d ij h =
-    let l = length-range_with_len 0 n in
-    let ei = get_or-range_with_len 0 n i d (omega arith) in
-    let ej = get_or-range_with_len 0 n j d (omega arith) in
-    omega arith
+range_ascends n i j d ij h = grind (arith, common_steps, length-range_with_len, get_or-range_with_len)
 
 walk_ascends : (controls : List ℕ) (cap : ℕ) → AllPairs (λ a b. a < b) (walk controls cap)
 unfolding walk

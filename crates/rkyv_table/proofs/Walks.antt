@@ -108,10 +108,7 @@ drop_first P a (suc n) q f = elim (cases_eq a q) [
 ]
 
 first_left : (controls : List ℕ) (cap base width j : ℕ) (indices : List ℕ) (w : WalkFrom controls cap base width indices) → Some j ≡ slice_get indices 0 → FirstIn (λ i. ltb (get_or controls (base + i) 0) 128) w.next (width - w.next) j
-first_left controls cap base width j indices w e =
-    let P = λ (i : ℕ). ltb (get_or controls (base + i) 0) 128 in
-    let e' : Some j ≡ slice_get (filter P (range_with_len w.next (width - w.next))) 0 = e ∙ ap (λ xs. slice_get xs 0) w.marks in
-    first_range P w.next (width - w.next) j (sym (e' ∙ head_filter P (range_with_len w.next (width - w.next))))
+first_left controls cap base width j indices w e = grind (arith, common_steps, filter, first_range, head_filter)
 
 pub head_inside : (controls : List ℕ) (cap base width j : ℕ) (indices : List ℕ) → IsWalk controls cap base width indices → Some j ≡ slice_get indices 0 → j < width
 head_inside controls cap base width j indices w e = grind (arith, common_steps)

@@ -1,5 +1,6 @@
 -- A lookup in written control bytes finds the first accepted home bucket.
 use Rattle.std.proofs.Common.{◌≡◌, ℕ, ◌+◌, ◌*◌, ◌%◌, ◌^◌, ◌<◌, ◌≤◌, inl, inr, refl, sym, ap, ◌∙◌, arith, List, [], ◌∷◌, Bool, true, false, ◌&&◌, eqb, ltb, leb, length, get_or, take, map, Some, None, get_or-take, length-take}
+use Rattle.std.proofs.lemmas.Grind.{common_steps}
 use Rattle.std.specs.List.{find, flat_map, list_any, position_or_len, range_with_len}
 use Rattle.std.specs.Option.{option_map}
 use Rattle.std.proofs.lemmas.Nat.{mod_below}
@@ -254,7 +255,4 @@ pub found_first : {X : Type 0} (cap h : ℕ) (hashes homes controls : List ℕ) 
     → items ≡ map item_at homes
     → ((j : ℕ) → j < length hashes → c (item_at (get_or homes j 0)) ≡ true → get_or hashes j 0 ≡ h)
     → option_map item_at (found kind controls cap (length hashes) h (λ b. c (item_at b))) ≡ find c items
-found_first cap h hashes homes controls kind items item_at c room hh law w fits e under_hash =
-    ap (option_map item_at) (found_written cap h hashes homes controls kind (λ b. c (item_at b)) room hh law w fits under_hash)
-    ∙ sym (find_through item_at c homes)
-    ∙ ap (find c) (sym e)
+found_first cap h hashes homes controls kind items item_at c room hh law w fits e under_hash = grind (arith, common_steps, found_written, find_through)

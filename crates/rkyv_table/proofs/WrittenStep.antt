@@ -1,13 +1,12 @@
 -- One item more in written control bytes.
-use Rattle.std.proofs.Common.{◌≡◌, ℕ, ◌+◌, ◌*◌, ◌-◌, ◌%◌, ◌^◌, ◌<◌, ◌≢◌, inl, inr, refl, sym, ap, ◌∙◌, arith, List, [], ◌∷◌, ◌++◌, Bool, true, false, ◌&&◌, eqb, ltb, length, get_or, take, set, replicate, Some, get_or-set_same, get_or-set_other, length-set}
+use Rattle.std.proofs.Common.{◌≡◌, ℕ, ◌+◌, ◌-◌, ◌^◌, ◌<◌, ◌≢◌, inl, inr, refl, sym, ap, ◌∙◌, arith, List, [], ◌∷◌, ◌++◌, Bool, true, false, eqb, length, get_or, take, set, replicate, Some, get_or-set_same, get_or-set_other, length-set}
 use Rattle.std.proofs.lemmas.Grind.{common_steps}
 use Rattle.std.specs.List.{IsDistinct, find, flat_map, list_any, range_with_len}
 use Rattle.std.specs.Cmp.{nat_eq_equiv}
 use Rattle.std.proofs.lemmas.Map.Keys.{IsDistinct-from_apart}
 use Rattle.std.proofs.lemmas.Map.Made.{length-le_from_is_member}
 use Rattle.std.proofs.lemmas.List.FromFn.{get_or-range_with_len, length-range_with_len}
-use Rattle.std.specs.Option.{option_map}
-use Rattle.std.proofs.lemmas.List.{get_or-replicate, get_or_append_left, get_or_push, length_push, take_all}
+use Rattle.std.proofs.lemmas.List.{get_or_append_left, get_or_push, length_push, take_all}
 use Rattle.std.proofs.lemmas.List.Folds.{Any-from_list_any, find-append, list_any-append}
 use Rattle.std.proofs.lemmas.Nat.{mod_below}
 use Rattle.std.proofs.lemmas.Bool.{both_ways, cases_Bool, cases_eq, cases_lt, eq-eqb, false_from_ne_true, le-leb, leb-true, lt-leb, ne_eqb, not-false, not-true, not_from_false, or_parts}
@@ -34,14 +33,7 @@ find_ext P Q (x ∷ xs) h = rw (h x, find_ext P Q xs h) refl
 
 pub probed_agree : (P Q : ℕ → Bool) (cap : ℕ) (ps : List ℕ) → 0 < cap → ((b : ℕ) → b < cap → P b ≡ Q b) → find P (flat_map (buckets_at cap) ps) ≡ find Q (flat_map (buckets_at cap) ps)
 probed_agree P Q cap [] pos h = refl
-probed_agree P Q cap (p ∷ ps) pos h =
-    let one : find P (buckets_at cap p) ≡ find Q (buckets_at cap p) =
-    find_buckets P cap p
-    ∙ ap (option_map (λ q. q % cap)) (find_ext (λ q. ltb q (2 * cap) && P (q % cap)) (λ q. ltb q (2 * cap) && Q (q % cap)) (range_with_len p 16)
-    (λ q. ap (λ z. ltb q (2 * cap) && z) (h (q % cap) (mod_below q cap pos))))
-    ∙ sym (find_buckets Q cap p) in
-    find-append P (buckets_at cap p) (flat_map (buckets_at cap) ps)
-    ∙ rw (one, probed_agree P Q cap ps pos h) (sym (find-append Q (buckets_at cap p) (flat_map (buckets_at cap) ps)))
+probed_agree P Q cap (p ∷ ps) pos h = grind (arith, common_steps, find_buckets, find_ext, mod_below, find-append, probed_agree P Q cap ps pos h)
 
 -- ---- the step
 
@@ -122,9 +114,6 @@ one_more cap h b hashes homes controls pos w fits hh e =
           at_other controls cap b t c apart (λ z. omega arith) ∙ w.others c hc (not_from_false (list_any (eqb c) homes) u.0);
       past = λ q g c. let x = at_other controls cap b t q (λ z. omega arith) (λ z. omega arith) in x ∙ w.past q g c;
     }
-
-fresh_at : (n q : ℕ) → q < n → get_or {A = ℕ} (replicate n 255) q 0 ≡ 255
-fresh_at n q h = get_or-replicate n q 255 0 h
 
 -- the fresh control bytes are those of no item
 pub fresh : (cap : ℕ) → 0 < cap → AreWrittenControls cap [] [] (replicate (control_count cap) 255)

@@ -1,5 +1,6 @@
 -- The numbers that are read of a header, by its bytes.
 use Rattle.std.proofs.Common.{arith, subst, length-append}
+use Rattle.std.proofs.lemmas.Grind.{common_steps}
 use Rattle.std.specs.Int.{Width, byte_len, cast_unsigned, to_le_bytes}
 use Rattle.std.specs.Prelude.{◌≡◌, ℕ, ◌+◌, ◌*◌, ◌^◌, ◌<◌, ℤ, FitsSigned, List, ◌++◌, length}
 use mir.Val.{bits}
@@ -14,22 +15,12 @@ module _ (w : Width) (kind : IsArchiveWord w) where
   word = archive_word w kind
 
   pub header_length : (d : ℤ) (len cap : ℕ) → length (header_bytes w d len cap) ≡ 3 * byte_len w
-  header_length d len cap =
-      let a = word_bytes w word (cast_unsigned w d) in
-      let b = word_bytes w word len in
-      let c = word_bytes w word cap in
-      let i = length-append (to_le_bytes w (cast_unsigned w d)) (to_le_bytes w len
-      ++ to_le_bytes w cap) in
-      let j = length-append (to_le_bytes w len) (to_le_bytes w cap) in
-      omega arith
+  header_length d len cap = grind (arith, common_steps, word_bytes, length-append)
 
   module _ (d : ℤ) (len cap : ℕ) (c : List ℕ) (p : ℕ) (s : OccursAt c p (header_bytes w d len cap))
     where
       behind : OccursAt c (p + byte_len w) (to_le_bytes w len ++ to_le_bytes w cap)
-      behind = subst (λ k. OccursAt c (p + k) (to_le_bytes w len ++ to_le_bytes w cap))
-          (word_bytes w word (cast_unsigned w d))
-          (occurs_back c p (to_le_bytes w (cast_unsigned w d)) (to_le_bytes w len
-          ++ to_le_bytes w cap) s)
+      behind = grind (arith, common_steps, word_bytes, occurs_back)
 
       pub distance_reads : FitsSigned w d → signed_at w c p ≡ d
       distance_reads fits =

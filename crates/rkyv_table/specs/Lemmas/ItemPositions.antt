@@ -1,7 +1,8 @@
 -- Lemmas: the positions of the items of a valid table, by the position of its buckets.
-use Rattle.std.proofs.Common.{◌≡◌, ℕ, zero, suc, ◌+◌, ◌-◌, ◌*◌, ◌<◌, ◌≤◌, sym, ap, subst, ◌∙◌}
+use Rattle.std.proofs.Common.{◌≡◌, ℕ, zero, suc, ◌+◌, ◌*◌, ◌<◌, ◌≤◌, sym, ap, subst}
 use Rattle.std.proofs.Common.{arith, inl, inr, List, ◌∷◌, Bool, true, false, filter, slice_index}
 use Rattle.std.proofs.Common.{slice_range, pos, ◌+ℤ◌}
+use Rattle.std.proofs.lemmas.Grind.{common_steps}
 use Rattle.std.specs.Int.{Width}
 use Rattle.std.specs.List.{range_with_len}
 use Rattle.std.specs.Prelude.{unsigned_abs}
@@ -77,12 +78,7 @@ module _ (w : Width) (size : ℕ) (b : List ℕ) (p begin : ℕ) (decoded : pos 
   -- the position of an item
   pub decoded_item : (i : ℕ) → i < cap_at w b p
       → item_at w size b p i ≡ bucket_at size begin (cap_at w b p) i
-  decoded_item i h =
-      let cap = cap_at w b p in
-      let e : cap ≡ (cap - (i + 1)) + (i + 1) = omega arith in
-      let m : cap * size ≡ (cap - (i + 1)) * size + (i + 1) * size =
-      ap (λ x. x * size) e ∙ add-mul (cap - (i + 1)) (i + 1) size in
-      ap (λ z. z - (i + 1) * size) decoded_pos ∙ omega (arith, m)
+  decoded_item i h = grind (arith, common_steps, add-mul, decoded_pos)
 
 module _ (w : Width) (s : ElementSpec) (law : IsElement s) (b : List ℕ) (p lo hi l : ℕ)
     (h : IsValidTable w s b p lo hi l) where

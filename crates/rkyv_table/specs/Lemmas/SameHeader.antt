@@ -1,7 +1,8 @@
 -- Headers with the same bytes have the same numbers, and lead to the same positions.
-use Rattle.std.specs.Prelude.{◌≡◌, ℕ, ◌+◌, ◌-◌, ◌*◌, ◌≤◌, pos, ◌+ℤ◌, ◌-ℤ◌, List, unsigned_abs}
+use Rattle.std.specs.Prelude.{◌≡◌, ℕ, ◌+◌, ◌-◌, ◌*◌, ◌≤◌, pos, ◌+ℤ◌, List, unsigned_abs}
 use Rattle.std.specs.Int.{Width, byte_len, cast_signed, from_le_bytes}
-use Rattle.std.proofs.Common.{arith, ap, subst, ◌∙◌}
+use Rattle.std.proofs.Common.{arith, ap, subst}
+use Rattle.std.proofs.lemmas.Grind.{common_steps}
 use Rattle.rkyv_base.specs.{AgreeOn, number_at, signed_at}
 use Rattle.rkyv_base.specs.Lemmas.Bytes.{agree_on_part}
 use Rattle.rkyv_table.specs.Table.Header.{cap_at, controls_pos, decode_begin, len_at}
@@ -28,9 +29,7 @@ module _ (w : Width) (b c : List ℕ) (p : ℕ) (same : AgreeOn b c p (p + 3 * b
       ≡ number_at w c n) z (number_same 0 (omega arith)))
 
   pub begin_same : (size : ℕ) → decode_begin w size b p ≡ decode_begin w size c p
-  begin_same size =
-      ap (λ d. (pos p +ℤ d) -ℤ pos (cap_at w b p * size)) distance_same
-      ∙ ap (λ n. (pos p +ℤ signed_at w c p) -ℤ pos (n * size)) cap_same
+  begin_same size = grind (arith, common_steps, distance_same, cap_same)
 
   pub pos_same : controls_pos w b p ≡ controls_pos w c p
   pos_same = ap (λ d. unsigned_abs (pos p +ℤ d)) distance_same

@@ -1,5 +1,6 @@
 -- The items of a written table are valid and represented, in bucket order.
 use Rattle.std.proofs.Common.{arith, refl, sym, ◌∙◌, ap, subst, zero, length-append}
+use Rattle.std.proofs.lemmas.Grind.{common_steps}
 use Rattle.std.proofs.lemmas.Option.{none-some, same_Some}
 use Rattle.std.specs.Prelude.{◌≡◌, ℕ, suc, ◌+◌, ◌-◌, ◌*◌, ◌%◌, ◌≤◌, List, [], ◌∷◌, ◌++◌, drop}
 use Rattle.std.specs.Prelude.{None, Option, Some, length, slice_get}
@@ -27,8 +28,7 @@ module _ {X R : Type 0} (s : ElementSpec) (laws : IsElement s) (represents : Lis
     → Type 0) (f : Format X R) (fl : IsFormat s represents f) (c : List ℕ) (cap begin : ℕ)
     (aligned : begin % s.align ≡ 0) where
   many : (n : ℕ) → (n * s.size) % s.align ≡ 0
-  many zero = subst (λ k. k % s.align ≡ 0) (sym (zero_times s.size))
-      (zero_multiple s.align laws.align_is)
+  many zero = grind (arith, common_steps, zero_times, zero_multiple)
   many (suc n) = subst (λ k. k % s.align ≡ 0) (sym (times_one n s.size))
       (sum_multiple (n * s.size) s.size s.align laws.align_is (many n) laws.size_whole)
 
@@ -50,10 +50,7 @@ module _ {X R : Type 0} (s : ElementSpec) (laws : IsElement s) (represents : Lis
   more_represent : (b : ℕ) (y : X) (ss : List (Option X)) → represents c (at b) y
       → SlotsRepresent (b + 1) ss
       → SlotsRepresent b (Some y ∷ ss)
-  more_represent b y ss one h zero x e =
-      let n : b ≡ b + 0 = omega arith in
-      subst (λ k. represents c (at k) x) n
-      (subst (λ v. represents c (at b) v) (same_Some y x (same_Some (Some y) (Some x) e)) one)
+  more_represent b y ss one h zero x e = grind (arith, common_steps, same_Some)
   more_represent b y ss one h (suc i) x e =
       let n : (b + 1) + i ≡ b + suc i = omega arith in
       subst (λ k. represents c (at k) x) n (h i x e)
@@ -65,8 +62,7 @@ module _ {X R : Type 0} (s : ElementSpec) (laws : IsElement s) (represents : Lis
       → p + length part ≤ begin
       → (l : ℕ) × AreValidAt s at c begin (filled_from b ss) p l × (l ≤ p + length part)
       × SlotsRepresent b ss
-  slots_sound [] b p z part out rs n m i sp so e o =
-      (p, refl, omega arith, λ k x g. absurd (none-some (Some x) g))
+  slots_sound [] b p z part out rs n m i sp so e o = grind (arith, common_steps, none-some)
   slots_sound (None ∷ ss) b p z part out rs n m i sp so e o =
       let e' : begin + length ss * s.size ≡ z - s.size =
       omega (arith, e, times_one (length ss) s.size) in

@@ -1,8 +1,9 @@
 -- A table is an element.
-use Rattle.std.specs.Prelude.{◌≡◌, ℕ, suc, ◌+◌, ◌-◌, ◌*◌, ◌%◌, ◌<◌, ◌≤◌, ℤ, List, slice_index}
+use Rattle.std.specs.Prelude.{◌≡◌, ℕ, ◌+◌, ◌-◌, ◌*◌, ◌%◌, ◌<◌, ◌≤◌, ℤ, List, slice_index}
 use Rattle.std.specs.Int.{Width, byte_len}
 use Rattle.std.specs.Coded.{×_prop}
 use Rattle.std.proofs.Common.{refl, arith, subst, sym, ◌∙◌, ap, inl, inr}
+use Rattle.std.proofs.lemmas.Grind.{common_steps}
 use Rattle.std.proofs.Props.{props}
 use Rattle.std.proofs.lemmas.Bool.{cases_lt}
 use Rattle.std.proofs.Math.Nat.{mul-le-mul_right, mul-zero}
@@ -33,9 +34,7 @@ use Rattle.rkyv_table.specs.Table.Layout.{table_spec}
 -- a bucket is between the begin of the buckets and the control bytes
 pub bucket_inside : (size begin cap i : ℕ) → i < cap → (begin ≤ bucket_at size begin cap i)
     × (bucket_at size begin cap i + size ≤ begin + cap * size)
-bucket_inside size begin cap i h =
-    let m : (suc (cap - (i + 1))) * size ≤ cap * size = mul-le-mul_right size (omega arith) in
-    (omega arith, omega (arith, m))
+bucket_inside size begin cap i h = grind (arith, common_steps, mul-le-mul_right)
 
 -- a bucket is aligned
 pub bucket_aligned : (s : ElementSpec) → IsElement s → (begin cap i : ℕ) → begin % s.align ≡ 0
@@ -92,20 +91,11 @@ module _ (s : ElementSpec) where
 module _ (s : ElementSpec) (law : IsElement s) where
   at_between : (b : List ℕ) (decoded : ℤ) (cap len lo hi l : ℕ) → lo ≤ hi
       → TableAt s b decoded cap len lo hi l → (lo ≤ l) × (l ≤ hi)
-  at_between b decoded cap len lo hi l o (inl h) = (omega (arith, h.2), omega (arith, h.2))
-  at_between b decoded cap len lo hi l o (inr (n, part, is, e)) =
-      (omega (arith, part.above, e), omega (arith, part.below, e))
+  at_between b decoded cap len lo hi l o h = grind (arith, common_steps)
 
   at_one : (b : List ℕ) (decoded : ℤ) (cap len lo hi l l' : ℕ) → TableAt s b decoded cap len lo hi l
       → TableAt s b decoded cap len lo hi l' → l ≡ l'
-  at_one b decoded cap len lo hi l l' (inl h) (inl k) = h.2 ∙ sym k.2
-  at_one b decoded cap len lo hi l l' (inl h) (inr (n, part, is, e)) =
-      absurd (omega (arith, h.1, is.controls.room))
-  at_one b decoded cap len lo hi l l' (inr (n, part, is, e)) (inl k) =
-      absurd (omega (arith, k.1, is.controls.room))
-  at_one b decoded cap len lo hi l l' (inr (n, part, is, e)) (inr (n', part', is', e')) =
-      let same : n ≡ n' = part_one decoded (part_size s.size cap) s.align lo hi n n' part part' in
-      e ∙ ap (λ x. x + part_size s.size cap) same ∙ sym e'
+  at_one b decoded cap len lo hi l l' h f = grind (arith, common_steps, part_one)
 
   part_proper : (b : List ℕ) (cap len lo begin : ℕ) → IsProp (IsPart s b cap len lo begin)
   part_proper b cap len lo begin =
@@ -136,13 +126,8 @@ module _ (s : ElementSpec) (law : IsElement s) where
   inside_exclusive : (b : List ℕ) (cap len lo begin : ℕ) (e : VerifyError)
       → IsPart s b cap len lo begin
       → FailsInside s b cap len lo begin e → ⊥
-  inside_exclusive b cap len lo begin e is (inl f) =
-      all_exclusive s law (bucket_at s.size begin cap) b begin
-      (walk (controls_at s.size b begin cap) cap) lo is.last e is.items f
-  inside_exclusive b cap len lo begin e is (inr (last, items, inl (unequal, x))) =
-      unequal is.controls.full
-  inside_exclusive b cap len lo begin e is (inr (last, items, inr (equal, q, unlike, x))) =
-      repeats_exclusive cap q (controls_at s.size b begin cap) is.controls.wrapped unlike
+  inside_exclusive b cap len lo begin e is h =
+      grind (arith, common_steps, all_exclusive, repeats_exclusive)
 
   at_exclusive : (b : List ℕ) (decoded : ℤ) (cap len lo hi l : ℕ) (e : VerifyError)
       → TableAt s b decoded cap len lo hi l → TableFailsAt s b decoded cap len lo hi e → ⊥
@@ -150,9 +135,9 @@ module _ (s : ElementSpec) (law : IsElement s) where
   at_exclusive b decoded cap len lo hi l e (inl h) (inr (inl f)) = omega (arith, h.1, f.0)
   at_exclusive b decoded cap len lo hi l e (inl h) (inr (inr f)) = omega (arith, h.1, f.0)
   at_exclusive b decoded cap len lo hi l e (inr (n, part, is, x)) (inl f) =
-      omega (arith, f.0, is.controls.room)
+      grind (arith, common_steps)
   at_exclusive b decoded cap len lo hi l e (inr (n, part, is, x)) (inr (inl f)) =
-      part_exclusive decoded (part_size s.size cap) s.align lo hi n e part f.1
+      grind (arith, common_steps, part_exclusive)
   at_exclusive b decoded cap len lo hi l e (inr (n, part, is, x)) (inr (inr (room, n', part', f))) =
       let same : n' ≡ n = part_one decoded (part_size s.size cap) s.align lo hi n' n part' part in
       inside_exclusive b cap len lo n e is (subst (λ m. FailsInside s b cap len lo m e) same f)
@@ -160,14 +145,11 @@ module _ (s : ElementSpec) (law : IsElement s) where
   inside_one_failure : (b : List ℕ) (cap len lo begin : ℕ) (e e' : VerifyError)
       → FailsInside s b cap len lo begin e → FailsInside s b cap len lo begin e' → e ≡ e'
   inside_one_failure b cap len lo begin e e' (inl f) (inl g) =
-      all_one_failure s law (bucket_at s.size begin cap) b begin
-      (walk (controls_at s.size b begin cap) cap) lo e e' f g
+      grind (arith, common_steps, all_one_failure)
   inside_one_failure b cap len lo begin e e' (inl f) (inr g) =
-      absurd (all_exclusive s law (bucket_at s.size begin cap) b begin
-      (walk (controls_at s.size b begin cap) cap) lo g.0 e g.1 f)
+      grind (arith, common_steps, all_exclusive)
   inside_one_failure b cap len lo begin e e' (inr f) (inl g) =
-      absurd (all_exclusive s law (bucket_at s.size begin cap) b begin
-      (walk (controls_at s.size b begin cap) cap) lo f.0 e' f.1 g)
+      grind (arith, common_steps, all_exclusive)
   inside_one_failure b cap len lo begin e e' (inr (last, items, inl f))
       (inr (last', items', inl g)) = f.1 ∙ sym g.1
   inside_one_failure b cap len lo begin e e' (inr (last, items, inl f))
@@ -183,20 +165,16 @@ module _ (s : ElementSpec) (law : IsElement s) where
       → TableFailsAt s b decoded cap len lo hi e → TableFailsAt s b decoded cap len lo hi e'
       → e ≡ e'
   at_one_failure b decoded cap len lo hi e e' (inl f) (inl g) = f.2 ∙ sym g.2
-  at_one_failure b decoded cap len lo hi e e' (inl f) (inr (inl g)) =
-      absurd (omega (arith, f.0, g.0))
-  at_one_failure b decoded cap len lo hi e e' (inl f) (inr (inr g)) =
-      absurd (omega (arith, f.0, g.0))
-  at_one_failure b decoded cap len lo hi e e' (inr (inl f)) (inl g) =
-      absurd (omega (arith, f.0, g.0))
-  at_one_failure b decoded cap len lo hi e e' (inr (inr f)) (inl g) =
-      absurd (omega (arith, f.0, g.0))
+  at_one_failure b decoded cap len lo hi e e' (inl f) (inr (inl g)) = grind (arith, common_steps)
+  at_one_failure b decoded cap len lo hi e e' (inl f) (inr (inr g)) = grind (arith, common_steps)
+  at_one_failure b decoded cap len lo hi e e' (inr (inl f)) (inl g) = grind (arith, common_steps)
+  at_one_failure b decoded cap len lo hi e e' (inr (inr f)) (inl g) = grind (arith, common_steps)
   at_one_failure b decoded cap len lo hi e e' (inr (inl f)) (inr (inl g)) =
-      part_one_failure decoded (part_size s.size cap) s.align lo hi e e' f.1 g.1
+      grind (arith, common_steps, part_one_failure)
   at_one_failure b decoded cap len lo hi e e' (inr (inl f)) (inr (inr g)) =
-      absurd (part_exclusive decoded (part_size s.size cap) s.align lo hi g.1 e g.2 f.1)
+      grind (arith, common_steps, part_exclusive)
   at_one_failure b decoded cap len lo hi e e' (inr (inr f)) (inr (inl g)) =
-      absurd (part_exclusive decoded (part_size s.size cap) s.align lo hi f.1 e' f.2 g.1)
+      grind (arith, common_steps, part_exclusive)
   at_one_failure b decoded cap len lo hi e e' (inr (inr f)) (inr (inr g)) =
       let same : g.1 ≡ f.1 =
       part_one decoded (part_size s.size cap) s.align lo hi g.1 f.1 g.2 f.2 in
@@ -213,14 +191,7 @@ module _ (s : ElementSpec) (law : IsElement s) where
 
   at_higher : (b : List ℕ) (decoded : ℤ) (cap len lo hi hi' l : ℕ) → hi ≤ hi'
       → TableAt s b decoded cap len lo hi l → TableAt s b decoded cap len lo hi' l
-  at_higher b decoded cap len lo hi hi' l o (inl h) = inl h
-  at_higher b decoded cap len lo hi hi' l o (inr (n, part, is, e)) =
-      inr (
-        n,
-        part_wider decoded (part_size s.size cap) s.align lo lo hi hi' n (omega arith) o part,
-        is,
-        e,
-      )
+  at_higher b decoded cap len lo hi hi' l o h = grind (arith, common_steps, part_wider)
 
   at_lower : (b : List ℕ) (decoded : ℤ) (cap len lo lo' hi l : ℕ) → lo' ≤ lo
       → TableAt s b decoded cap len lo hi l
@@ -259,9 +230,7 @@ module _ (s : ElementSpec) (law : IsElement s) where
 
   at_local : (b c : List ℕ) (decoded : ℤ) (cap len lo hi l : ℕ) → AgreeOn b c lo l
       → TableAt s b decoded cap len lo hi l → TableAt s c decoded cap len lo hi l
-  at_local b c decoded cap len lo hi l same (inl h) = inl h
-  at_local b c decoded cap len lo hi l same (inr (n, part, is, e)) =
-      inr (n, part, is_near b c cap len lo n part.above (subst (AgreeOn b c lo) e same) is, e)
+  at_local b c decoded cap len lo hi l same h = grind (arith, common_steps, is_near)
 
   is_valid_local : (w : Width) (b c : List ℕ) (p lo hi l : ℕ) → AgreeOn b c p (p + 3 * byte_len w)
       → AgreeOn b c lo l → IsValidTable w s b p lo hi l → IsValidTable w s c p lo hi l

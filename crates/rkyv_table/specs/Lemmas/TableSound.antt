@@ -1,13 +1,13 @@
 -- A written table is valid and represents its pairs, in every archive with its bytes.
-use Rattle.std.proofs.Common.{arith, refl, sym, ◌∙◌, ap, subst, inl, inr, zero, length-append}
+use Rattle.std.proofs.Common.{arith, refl, sym, ◌∙◌, ap, subst, inl, inr, length-append}
+use Rattle.std.proofs.lemmas.Grind.{common_steps}
 use Rattle.std.proofs.Math.Nat.{le-max_right}
 use Rattle.std.proofs.lemmas.Bool.{ne_eqb}
 use Rattle.std.proofs.lemmas.Int.{ints}
 use Rattle.std.proofs.lemmas.List.{length-map, length-replicate}
 use Rattle.std.specs.Int.{Width}
-use Rattle.std.specs.Prelude.{◌≡◌, ℕ, suc, ◌+◌, ◌*◌, ◌/◌, ◌%◌, ◌<◌, ◌≤◌, cond, max, pos, ◌+ℤ◌, ◌-ℤ◌}
-use Rattle.std.specs.Prelude.{FitsSigned, List, [], ◌++◌, length, slice_get, slice_index}
-use Rattle.std.specs.Prelude.{Option, Some, slice_range}
+use Rattle.std.specs.Prelude.{◌≡◌, ℕ, ◌+◌, ◌*◌, ◌%◌, ◌<◌, ◌≤◌, pos, ◌+ℤ◌, ◌-ℤ◌, FitsSigned, List}
+use Rattle.std.specs.Prelude.{[], ◌++◌, length, slice_get, slice_index, Option, Some, slice_range}
 use Rattle.rkyv_base.specs.{ElementSpec, Format, IsArchiveWord, IsElement, IsFormat, OccursAt}
 use Rattle.rkyv_base.specs.{padding, round_up, signed_at, zeros}
 use Rattle.rkyv_base.specs.Lemmas.Bytes.{occurs_back, occurs_front}
@@ -25,18 +25,11 @@ use Rattle.rkyv_table.specs.Lemmas.SlotWalk.{filled_count, walk_filled}
 
 -- some bucket stays empty
 pub capacity_above : (len : ℕ) (factor : ℕ × ℕ) → 0 < len → len < capacity len factor
-capacity_above len factor h =
-    let m = le-max_right (len * factor.1 / factor.0) (len + 1) in
-    let e : capacity len factor ≡ max (len * factor.1 / factor.0) (len + 1) =
-    ap (λ b. cond b 0 (max (len * factor.1 / factor.0) (len + 1)))
-    (ne_eqb len 0 (λ z. omega (arith, z, h))) in
-    omega (arith, m, e)
+capacity_above len factor h = grind (arith, common_steps, le-max_right, ne_eqb)
 
 -- there are at least as many buckets as items
 below_capacity : (len : ℕ) (factor : ℕ × ℕ) → len ≤ capacity len factor
-below_capacity zero factor = omega arith
-below_capacity (suc n) factor = let h = capacity_above (suc n) factor (omega arith) in
-    omega (arith, h)
+below_capacity n factor = grind (arith, common_steps, capacity_above)
 
 module _ {X R : Type 0} (s : ElementSpec) (laws : IsElement s) (represents : List ℕ → ℕ → X
     → Type 0) (f : Format X R) (fl : IsFormat s represents f)
@@ -68,34 +61,22 @@ module _ {X R : Type 0} (s : ElementSpec) (laws : IsElement s) (represents : Lis
     in_order = subst (OccursAt c p) t.is sits
 
     area : OccursAt c begin (t.buckets ++ controls)
-    area = subst (λ k. OccursAt c k (t.buckets ++ controls))
-        (ap (λ k. (p + length t.part) + k) pad_length)
-        (occurs_back c (p + length t.part) pad (t.buckets ++ controls) (occurs_back c p t.part (pad
-        ++ (t.buckets ++ controls)) in_order))
+    area = grind (arith, common_steps, pad_length, occurs_back, in_order)
 
     slots_size : length slots * s.size ≡ cap * s.size
     slots_size = ap (λ k. k * s.size) placed.slotted.count
 
     pub buckets_size : length t.buckets ≡ cap * s.size
-    buckets_size =
-        images_length s.size f (λ v r q o g. fl.size_exact v r q o g) slots t.resolvers z t.buckets
-        t.images ∙ slots_size
+    buckets_size = grind (arith, common_steps, images_length, slots_size)
 
     pub controls_begin : z ≡ begin + cap * s.size
     controls_begin = t.at ∙ ap (λ k. begin + k) slots_size
 
     pub bytes_end : p + length bytes ≡ begin + part_size s.size cap
-    bytes_end =
-        let a = ap length t.is in
-        let b = length-append t.part (pad ++ (t.buckets ++ controls)) in
-        let d = length-append pad (t.buckets ++ controls) in
-        let e = length-append t.buckets controls in
-        let n = placed.written.wrapped.count in
-        omega (arith, a, b, d, e, n, pad_length, buckets_size)
+    bytes_end = grind (arith, common_steps, length-append, pad_length, buckets_size)
 
     controls_sit : OccursAt c (begin + cap * s.size) controls
-    controls_sit = subst (λ k. OccursAt c k controls) (ap (λ k. begin + k) buckets_size)
-        (occurs_back c begin t.buckets controls area)
+    controls_sit = grind (arith, common_steps, buckets_size, occurs_back, area)
 
     pub controls_there : controls_at s.size c begin cap ≡ controls
     controls_there = ap (λ k. slice_range c (begin + cap * s.size) (begin + cap * s.size + k))

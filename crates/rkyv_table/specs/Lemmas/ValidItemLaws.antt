@@ -2,6 +2,7 @@
 use Rattle.std.specs.Prelude.{◌≡◌, ℕ, ◌+◌, ◌<◌, ◌≤◌, List, [], ◌∷◌}
 use Rattle.std.specs.Coded.{×_prop}
 use Rattle.std.proofs.Common.{refl, arith, subst, sym, ◌∙◌, inl, inr}
+use Rattle.std.proofs.lemmas.Grind.{common_steps}
 use Rattle.std.proofs.Props.{props}
 use Rattle.rkyv_scan.specs.{AllBelow}
 use Rattle.rkyv_base.specs.declared.errors.VerifyError.{VerifyError}
@@ -49,10 +50,8 @@ module _ (s : ElementSpec) (law : IsElement s) (at : ℕ → ℕ) where
       → FirstFails s at b hi is lo e → FirstFails s at b hi is lo e' → e ≡ e'
   all_one_failure b hi [] lo e e' f g = absurd f
   all_one_failure b hi (i ∷ is) lo e e' (inl f) (inl g) = law.one_failure b (at i) lo hi e e' f g
-  all_one_failure b hi (i ∷ is) lo e e' (inl f) (inr g) =
-      absurd (law.exclusive b (at i) lo hi g.0 e g.1 f)
-  all_one_failure b hi (i ∷ is) lo e e' (inr f) (inl g) =
-      absurd (law.exclusive b (at i) lo hi f.0 e' f.1 g)
+  all_one_failure b hi (i ∷ is) lo e e' (inl f) (inr g) = grind (arith, common_steps)
+  all_one_failure b hi (i ∷ is) lo e e' (inr f) (inl g) = grind (arith, common_steps)
   all_one_failure b hi (i ∷ is) lo e e' (inr f) (inr g) =
       let q : g.0 ≡ f.0 = law.rest_unique b (at i) lo hi g.0 f.0 g.1 f.1 in
       all_one_failure b hi is f.0 e e' f.2 (subst (λ m. FirstFails s at b hi is m e') q g.2)

@@ -1,4 +1,5 @@
-use Rattle.std.proofs.Common.{arith, ◌≡◌, ℕ, ◌+◌, ◌/◌, ◌<◌, sym, ap, ◌∙◌, Bool, Option, length, drop, length-take, length-drop, []}
+use Rattle.std.proofs.Common.{arith, ◌≡◌, ℕ, ◌+◌, ◌/◌, ◌<◌, sym, ap, ◌∙◌, Bool, Option, length, drop, length-take, length-drop}
+use Rattle.std.proofs.lemmas.Grind.{common_steps}
 use Rattle.rkyv_table.specs.{AreValidControls, ComparesByBucket, IsFullBucket, IsFullInStride, ReadsWithin, found, probe_capacity, probe_length, tag}
 use Rattle.rkyv_table.proofs.Coverage.{count_strides, stride_below}
 use Rattle.rkyv_table.proofs.FirstFree.{member_front, member_rest}
@@ -26,11 +27,7 @@ module _ (g : _) (c : After-cmp-1 g) where
     found_as r e = sym (found_is g.G.GroupKind.kind c.args.controls.now c.args.cap c.args.len c.args.hash accept c.if-len-eq0.false ∙ c.loop-pos.invariant.same accept compares ∙ e)
 
     counted : end_index g.G.GroupKind.kind c.args.controls.now c.args.cap (tag c.args.hash) accept c.loop-pos.pos-iterator ≡ 0 → c.stride.new.self ≡ c.args.strides.now + probe_length g.G.GroupKind.kind c.args.controls.now c.args.cap c.args.len c.args.hash accept
-    counted z =
-        let f = end_is g.G.GroupKind.kind c.args.controls.now c.args.cap c.args.len c.args.hash accept c.if-len-eq0.false in
-        let k = c.loop-pos.invariant.counted accept compares in
-        let d = c.stride.ensures.counted in
-        omega arith
+    counted z = grind (arith, common_steps, end_is)
 
 pub stride-requires-clause-inside : goal.stride-requires-clause-inside
 stride-requires-clause-inside g c =
@@ -41,14 +38,7 @@ stride-requires-clause-inside g c =
     omega arith
 
 pub stride-requires-clause-room : goal.stride-requires-clause-room
-stride-requires-clause-room g c =
-    let a : AreValidControls c.args.cap c.args.len c.args.controls.now = c.requires.accepted (omega (arith, c.if-len-eq0.false)) in
-    let room = a.room in
-    let count = a.wrapped.count in
-    let few = few_strides c.args.hash c.args.cap (omega arith) (omega arith) in
-    let r = c.loop-pos.invariant.room in
-    let q = c.requires.room in
-    omega arith
+stride-requires-clause-room g c = grind (arith, common_steps, few_strides)
 
 pub scan-requires-clause-whole : goal.scan-requires-clause-whole
 scan-requires-clause-whole g c =
@@ -76,14 +66,7 @@ scan-requires-clause-callable g c = λ b shown.
 -- one stride more was read, and there are no more than the bound
 module _ (g : _) (c : After-cmp-1 g) where
   within : ReadsWithin c.args.len (probe_capacity c.args.cap / 16) c.args.strides.now c.stride.new.self
-  within =
-      let room = (accepted g c).room in
-      let k = count_strides c.args.hash c.args.cap (omega arith) in
-      let l = ap length c.in-Some.ensures.steps in
-      let r = c.loop-pos.invariant.room in
-      let u = c.loop-pos.invariant.up in
-      let d = c.stride.ensures.counted in
-      record { none = λ z. absurd (c.if-len-eq0.false z); some = λ _. omega arith; most = omega arith }
+  within = grind (arith, common_steps, accepted, count_strides)
 
 -- the search ends at the stride, by an item or by an empty control byte
 pub returns-in-Accepted : goal.returns-in-Accepted
@@ -132,22 +115,4 @@ loop-pos-preserved g c =
 
 -- the probe sequence doesn't end before the search does
 pub returns : goal.returns
-returns g c =
-    let a : AreValidControls c.args.cap c.args.len c.args.controls.now = c.requires.accepted (omega (arith, c.if-len-eq0.false)) in
-    let room = a.room in
-    let done : c.loop-pos.pos-iterator ≡ [] = c.in-None.ensures.steps.0 in
-    let l = ap length done in
-    let r = c.loop-pos.invariant.room in
-    record {
-      walked = tt;
-      accepted = tt;
-      bounded = (let k = count_strides c.args.hash c.args.cap (omega arith) in record { none = λ z. absurd (c.if-len-eq0.false z); some = λ _. omega arith; most = omega arith });
-      finds = λ accept compares.
-          sym (found_is g.G.GroupKind.kind c.args.controls.now c.args.cap c.args.len c.args.hash accept c.if-len-eq0.false ∙ c.loop-pos.invariant.same accept compares
-          ∙ ap (found_along g.G.GroupKind.kind c.args.controls.now c.args.cap (tag c.args.hash) accept) done);
-      counted = λ accept compares.
-          let s = ends_somewhere g.G.GroupKind.kind c.args.controls.now c.args.cap c.args.len c.args.hash (tag c.args.hash) accept a in
-          let k = c.loop-pos.invariant.counted accept compares in
-          let p = ap (end_index g.G.GroupKind.kind c.args.controls.now c.args.cap (tag c.args.hash) accept) done in
-          absurd (omega arith);
-    }
+returns g c = grind (arith, common_steps, accepted, count_strides, found_is, counted, ends_somewhere)

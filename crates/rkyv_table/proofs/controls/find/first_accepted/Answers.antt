@@ -1,4 +1,5 @@
-use Rattle.std.proofs.Common.{◌≡◌, ℕ, List, ◌+◌, ◌%◌, ◌<◌, sym, ap, ◌∙◌, true, false, map, drop, length, get_or, Some}
+use Rattle.std.proofs.Common.{◌≡◌, ℕ, List, ◌+◌, ◌%◌, ◌<◌, sym, ap, ◌∙◌, false, map, drop, length, get_or, Some, arith}
+use Rattle.std.proofs.lemmas.Grind.{common_steps}
 use Rattle.std.specs.List.{find, slice_get}
 use Rattle.std.proofs.lemmas.List.{drop-drop}
 use Rattle.rkyv_table.specs.{IsMarked}
@@ -13,20 +14,10 @@ marked_head : (at cap : ℕ) (indices rest : List ℕ) (n j : ℕ) → rest ≡ 
 marked_head at cap indices rest n j e h = let w = at_head indices rest n j e h in (n, w.0, ap (λ z. (at + z) % cap) (sym w.1))
 
 pub returns-then-cmp-clause-first : goal.returns-then-cmp-clause-first
-returns-then-cmp-clause-first g c = λ accept compares.
-    let gone = c.loop-j.invariant.gone in
-    let m = marked_head c.args.at c.args.cap (g.M.Marks.indices c.args.marks) (g.M.Marks.indices c.loop-j.rest) gone.0 c.in-Some.j gone.1 c.in-Some.ensures in
-    let e = c.bucket_of-bucket.ensures in
-    let m' : IsMarked c.args.at c.args.cap (g.M.Marks.indices c.args.marks) c.bucket_of-bucket.result = rw e m in
-    let yes : accept ((c.args.at + c.in-Some.j) % c.args.cap) ≡ true = ap accept (sym e) ∙ sym (compares c.bucket_of-bucket.result true m' c.if-cmp.ensures) in
-    ap Some e
-    ∙ head_found (λ j. (c.args.at + j) % c.args.cap) accept (g.M.Marks.indices c.loop-j.rest) c.in-Some.j c.in-Some.ensures yes
-    ∙ sym (c.loop-j.invariant.same accept compares)
+returns-then-cmp-clause-first g c = grind (arith, common_steps, marked_head, head_found)
 
 pub returns-clause-first : goal.returns-clause-first
-returns-clause-first g c = λ accept compares.
-    none_found (λ j. (c.args.at + j) % c.args.cap) accept (g.M.Marks.indices c.loop-j.rest) c.in_default.ensures
-    ∙ sym (c.loop-j.invariant.same accept compares)
+returns-clause-first g c = grind (arith, common_steps, none_found)
 
 pub loop-j-preserved : goal.loop-j-preserved
 loop-j-preserved g c =

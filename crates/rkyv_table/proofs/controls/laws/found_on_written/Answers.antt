@@ -1,6 +1,7 @@
 use Rattle.rkyv_table.proofs.Written.{found_written}
 use Rattle.rkyv_table.proofs.controls.laws.found_on_written.Goals as goal
+use Rattle.std.proofs.Common.{arith}
+use Rattle.std.proofs.lemmas.Grind.{common_steps}
 
 pub returns : goal.returns
-returns c = λ kind cap hash hashes xs controls accept law hash_fits room fits written under.
-    found_written cap hash hashes xs controls kind accept room hash_fits law written (λ j l. fits j 0 l) under
+returns c = grind (arith, common_steps, found_written)

@@ -1,9 +1,7 @@
-use Rattle.std.specs.Int.{IsNextPowerOfTwo}
 use Rattle.rkyv_table.proofs.Modulus.{modulus_is}
 use Rattle.rkyv_table.proofs.controls.numbers.modulus.Goals as goal
+use Rattle.std.proofs.Common.{arith}
+use Rattle.std.proofs.lemmas.Grind.{common_steps}
 
 pub returns : goal.returns
-returns c =
-    let n = c.next_power_of_two.ensures in
-    let is : IsNextPowerOfTwo c.control_count.result c.next_power_of_two.result = (n.power, n.lower_bound, n.upper_bound) in
-    modulus_is c.args.cap c.next_power_of_two.result c.requires.some (rw c.control_count.ensures at is)
+returns c = grind (arith, common_steps, modulus_is)

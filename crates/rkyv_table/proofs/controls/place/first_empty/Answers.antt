@@ -1,4 +1,5 @@
 use Rattle.std.proofs.Common.{arith, ◌≡◌, ◌+◌, ◌*◌, ◌<◌, ◌≤◌, ◌/◌, sym, ap, ◌∙◌, None}
+use Rattle.std.proofs.lemmas.Grind.{common_steps}
 use Rattle.std.specs.List.{find, range_with_len}
 use Rattle.rkyv_table.specs.{is_empty_at}
 use Rattle.rkyv_table.proofs.Groups.{group_fits, groups_end, indices_are, width_divides}
@@ -6,14 +7,7 @@ use Rattle.rkyv_table.proofs.FirstFree.{empty_index_is, index_inside, more_indic
 use Rattle.rkyv_table.proofs.controls.place.first_empty.Goals as goal
 
 pub overflow_add-result : goal.overflow_add-result
-overflow_add-result g c =
-    let w : c.WIDTH.result ≡ g.G.GroupKind.kind.width = c.WIDTH.ensures ∙ g.met.G.GroupKind.width in
-    let lt : c.loop-i.i < 16 / g.G.GroupKind.kind.width = rw (c.WIDTH-i-end.ensures, g.met.G.GroupKind.width) at c.loop-i-test.true in
-    let fits = group_fits c.loop-i.i g.G.GroupKind.kind.width lt in
-    let e : c.loop-i.i * c.WIDTH.result ≡ c.loop-i.i * g.G.GroupKind.kind.width = ap (λ x. c.loop-i.i * x) w in
-    let l = index_inside _ g.G.GroupKind.kind.width c.in-Some.j (g.G.Mask.Marks.indices c.match_empty.result) c.match_empty.ensures c.in-Some.ensures in
-    let r = c.requires in
-    record { fits = omega arith }
+overflow_add-result g c = grind (arith, common_steps, group_fits, index_inside)
 
 pub returns-in-Some : goal.returns-in-Some
 returns-in-Some g c =

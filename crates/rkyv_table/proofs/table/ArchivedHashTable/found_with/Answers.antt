@@ -1,15 +1,11 @@
-use Rattle.std.proofs.Common.{◌∙◌, refl, ap, arith, length, Some, None, subst, sym}
+use Rattle.std.proofs.Common.{◌∙◌, refl, ap, arith, Some, None}
+use Rattle.std.proofs.lemmas.Grind.{common_steps}
 use Rattle.rkyv_scan.specs.{generic_kind}
-use Rattle.rkyv_base.specs.{Viewable}
 use Rattle.rkyv_table.proofs.Bare.{item_at_found, looks_up_none, looks_up_some}
 use Rattle.rkyv_table.proofs.table.ArchivedHashTable.found_with.Goals as goal
 
 pub lend_seal-requires : goal.lend_seal-requires
-lend_seal-requires g c =
-    let bytes = ap (λ v. v.archive.now) c.of-table.ensures.view ∙ ap (λ v. v.now) c.new.ensures.0 in
-    let pos = ap (λ v. v.pos) c.of-table.ensures.view ∙ c.new.ensures.1 in
-    let item = item_at_found c.args.archive.now c.args.pos c.of-table.result bytes pos g.T.HasSpec.laws c.requires.table c.in_ok-item_pos.item_pos c.in_ok-item_pos.ensures.walked in
-    λ x same at. c.requires.writable x same (omega (arith, item.1.viewable.inside, at, ap length same)) (subst (Viewable g.T.HasSpec.spec c.args.archive.now) (sym at) item.1.viewable)
+lend_seal-requires g c = grind (arith, common_steps, item_at_found)
 
 pub returns : goal.returns
 returns g c =

@@ -1,14 +1,12 @@
-use Rattle.std.proofs.Common.{◌∙◌, ◌<◌, ap, arith, length, sym}
-use Rattle.rkyv_table.specs.{table_bytes, table_controls, table_pos, walk}
+use Rattle.std.proofs.Common.{◌<◌, ap, arith, length}
+use Rattle.std.proofs.lemmas.Grind.{common_steps}
+use Rattle.rkyv_table.specs.{table_bytes, table_pos}
 use Rattle.rkyv_table.proofs.ValidTable.{controls_count}
 use Rattle.rkyv_table.proofs.Walks.{walk_none}
 use Rattle.rkyv_table.proofs.table.ArchivedHashTable.walk.Goals as goal
 
 pub returns-then-self-eq0 : goal.returns-then-self-eq0
-returns-then-self-eq0 g c =
-    let t = c.args.self in
-    let controls = table_controls g.W.Word.word (table_bytes t) (table_pos t) in
-    c.empty.ensures ∙ sym (ap (walk controls) (sym c.args.self.decoded.cap ∙ c.if-self-eq0.true) ∙ walk_none controls)
+returns-then-self-eq0 g c = grind (arith, common_steps, walk_none)
 
 pub new-requires-clause-some : goal.new-requires-clause-some
 new-requires-clause-some g c =

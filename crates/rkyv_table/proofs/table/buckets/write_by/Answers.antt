@@ -1,4 +1,5 @@
 use Rattle.std.proofs.Common.{arith, ◌≡◌, ◌+◌, ◌-◌}
+use Rattle.std.proofs.lemmas.Grind.{common_steps}
 use Rattle.std.proofs.lemmas.Result.{err_from_is_err_and}
 use Rattle.rkyv_base.specs.{written_as}
 use Rattle.rkyv_table.proofs.BucketSteps.{BucketsWritten, bucket_fails, down_init, down_read, down_rooms, down_step, overflow_fails}
@@ -39,10 +40,4 @@ returns-in_err-append_in-clause-writes g c =
     rw (p.1, p.2) (bucket_fails g.U.Archived.HasSpec.spec.size g.W.Width.LIMIT (written_as g.X.Lend.lent g.U.Archive.format) c.args.slots.now c.args.resolvers.items (g.S.Writer.output c.args.serializer.now) (c.loop-above.above - 1) c.loop-above.rest.items (g.S.Writer.output c.loop-above.serializer) (g.S.Writer.output c.append_in.new.serializer) d c.index-slots-above.result e c.fill_bucket.new.rest.items c.fill_bucket.new.bucket c.in_err-append_in.field-0.0 (rw c.pos.ensures at c.in_ok-fill_bucket.ensures.writes) c.in_err-append_in.ensures)
 
 pub loop-above-preserved : goal.loop-above-preserved
-loop-above-preserved g c =
-    let d = down_here g (goal.at.loop-above-preserved g c).In-loop-above in
-    let e = down_read g.U.Archived.HasSpec.spec.size g.W.Width.LIMIT (written_as g.X.Lend.lent g.U.Archive.format) c.args.slots.now c.args.resolvers.items (g.S.Writer.output c.args.serializer.now) (c.loop-above.above - 1) c.loop-above.rest.items (g.S.Writer.output c.loop-above.serializer) (g.S.Writer.output c.append_in.new.serializer) d c.index-slots-above.result c.index-slots-above.is in
-    record {
-      down = down_step g.U.Archived.HasSpec.spec.size g.W.Width.LIMIT (written_as g.X.Lend.lent g.U.Archive.format) c.args.slots.now c.args.resolvers.items (g.S.Writer.output c.args.serializer.now) (c.loop-above.above - 1) c.loop-above.rest.items (g.S.Writer.output c.loop-above.serializer) (g.S.Writer.output c.append_in.new.serializer) d c.index-slots-above.result c.fill_bucket.new.rest.items c.fill_bucket.new.bucket e (rw c.pos.ensures at c.in_ok-fill_bucket.ensures.writes) c.in_ok-fill_bucket.ensures.kept c.in_ok-append_in.ensures.0 c.in_ok-append_in.ensures.1;
-      room = c.in_ok-fill_bucket.ensures.kept;
-    }
+loop-above-preserved g c = grind (arith, common_steps, down_here, down_read, down_step)

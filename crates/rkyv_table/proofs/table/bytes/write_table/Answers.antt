@@ -1,8 +1,10 @@
 use Rattle.std.proofs.lemmas.Result.{err_from_is_err_and}
-use Rattle.rkyv_base.specs.{end_of, written_as}
+use Rattle.rkyv_base.specs.{written_as}
 use Rattle.rkyv_table.proofs.PartSteps.{parts_filled}
 use Rattle.rkyv_table.proofs.TableSteps.{stopped_buckets, stopped_controls, stopped_parts, stopped_zeros, table_wrote}
 use Rattle.rkyv_table.proofs.table.bytes.write_table.Goals as goal
+use Rattle.std.proofs.Common.{arith}
+use Rattle.std.proofs.lemmas.Grind.{common_steps}
 
 pub returns-in_err-serialize_slots : goal.returns-in_err-serialize_slots
 returns-in_err-serialize_slots g c =
@@ -16,9 +18,7 @@ returns-in_err-align_for_in g c =
     rw (p.1, p.2) (stopped_zeros g.row.S-Fault.Denot g.U.Archived.HasSpec.spec g.W.Width.LIMIT (written_as g.X.Lend.lent g.U.Archive.format) (λ x r p out h. g.met.U.Archive.laws.size_exact (g.X.Lend.lent x) r p out h) c.args.slots.now c.args.controls.now (g.S.Writer.output c.args.serializer.now) (g.S.Writer.output c.serialize_slots.new.serializer) s.0 c.serialize_slots.new.resolvers.items s.1 s.2 s.3 (g.S.Writer.output c.align_for_in.new.serializer) c.in_err-align_for_in.field-0.0 c.in_err-align_for_in.ensures)
 
 pub write_buckets-requires-clause-count : goal.write_buckets-requires-clause-count
-write_buckets-requires-clause-count g c =
-    let s = c.in_ok-serialize_slots.ensures in
-    parts_filled (written_as g.X.Lend.lent g.U.Archive.format) c.args.slots.now (end_of (g.S.Writer.output c.args.serializer.now)) s.0 c.serialize_slots.new.resolvers.items s.2
+write_buckets-requires-clause-count g c = grind (arith, common_steps, parts_filled)
 
 pub returns-in_err-write_buckets : goal.returns-in_err-write_buckets
 returns-in_err-write_buckets g c =

@@ -1,7 +1,7 @@
 use Rattle.std.proofs.Common.{arith, ◌≡◌, ◌<◌, ◌++◌, length, get_or, sym, ◌∙◌, Some, None, vec_capacity}
+use Rattle.std.proofs.lemmas.Grind.{common_steps}
 use Rattle.std.proofs.lemmas.Result.{err_from_is_err_and}
-use Rattle.std.proofs.lemmas.List.{take_all}
-use Rattle.std.proofs.lemmas.List.{get_or_default}
+use Rattle.std.proofs.lemmas.List.{take_all, get_or_default}
 use Rattle.rkyv_base.specs.{written_as}
 use Rattle.rkyv_base.proofs.WritingSteps.{appends_after, grows, within_after}
 use Rattle.rkyv_table.proofs.PartSteps.{step_fails, step_none, step_room, step_some}
@@ -54,7 +54,4 @@ loop-slot-preserved g c =
     ]
 
 pub returns : goal.returns
-returns g c =
-    let m = c.loop-slot.invariant.made in
-    let all = take_all c.loop-slot.slot-index c.args.slots.now (omega (arith, c.loop-slot-test.false)) in
-    (m.0, m.1, rw all at m.2, m.3)
+returns g c = grind (arith, common_steps, take_all)

@@ -1,4 +1,5 @@
-use Rattle.std.proofs.Common.{◌≡◌, ◌∙◌, ◌+◌, ◌≤◌, ◌∷◌, List, ap, arith, drop, ℕ, sym}
+use Rattle.std.proofs.Common.{◌≡◌, ◌∙◌, ◌+◌, ◌≤◌, ◌∷◌, List, arith, drop, ℕ}
+use Rattle.std.proofs.lemmas.Grind.{common_steps}
 use Rattle.std.proofs.lemmas.Result.{err_from_is_err_and}
 use Rattle.rkyv_table.specs.{full_from}
 use Rattle.rkyv_table.proofs.ItemSteps.{IsPartlyChecked, below_head, checked_end, checked_fails, checked_init, checked_same, checked_small, checked_step, marks_and_rest, marks_below, rest_group, rest_head, rest_none}
@@ -8,10 +9,7 @@ use Rattle.rkyv_table.proofs.table.verify.check_items.Goals.{In-Some, then-contr
 use Rattle.rkyv_table.proofs.Walks.{full_end}
 
 pub loop-base-init : goal.loop-base-init
-loop-base-init g c = record {
-  below = omega arith;
-  checked = checked_init g.T.HasSpec.spec c.args.begin c.args.cap c.args.bytes.now c.args.controls.now c.args.lo c.requires.ordered;
-}
+loop-base-init g c = grind (arith, common_steps, checked_init g.T.HasSpec.spec c.args.begin c.args.cap c.args.bytes.now c.args.controls.now c.args.lo c.requires.ordered)
 
 pub loop-j-init : goal.loop-j-init
 loop-j-init g c =
@@ -36,21 +34,13 @@ module _ (g : _) (c : In-Some g) where
   rest = marks_and_rest c.args.controls.now c.args.cap c.loop-base.base g.G.GroupKind.kind.width (drop 1 (g.G.Mask.Marks.indices c.loop-j.marks))
 
   here : IsPartlyChecked g.T.HasSpec.spec c.args.begin c.args.cap c.args.bytes.now c.args.controls.now c.args.lo ((c.loop-base.base + c.in-Some.j) ∷ rest) c.loop-j.low c.loop-j.count
-  here = checked_same g.T.HasSpec.spec c.args.begin c.args.cap c.args.bytes.now c.args.controls.now c.args.lo _ _ c.loop-j.low c.loop-j.count
-      (rest_head c.args.controls.now c.args.cap c.loop-base.base g.G.GroupKind.kind.width c.in-Some.j (g.G.Mask.Marks.indices c.loop-j.marks) c.in-Some.ensures) c.loop-j.invariant.checked
+  here = grind (arith, common_steps, checked_same, rest_head)
 
 pub overflow_add-base : goal.overflow_add-base
-overflow_add-base g c =
-    let l = below_head g.G.GroupKind.kind.width c.in-Some.j (g.G.Mask.Marks.indices c.loop-j.marks) c.loop-j.invariant.below c.in-Some.ensures in
-    let i = c.loop-j.invariant.inside in
-    let r = c.ranges.cap.fits in
-    record { fits = omega arith }
+overflow_add-base g c = grind (arith, common_steps, below_head)
 
 pub check_item-requires-clause-bucket : goal.check_item-requires-clause-bucket
-check_item-requires-clause-bucket g c =
-    let l = below_head g.G.GroupKind.kind.width c.in-Some.j (g.G.Mask.Marks.indices c.loop-j.marks) c.loop-j.invariant.below c.in-Some.ensures in
-    let i = c.loop-j.invariant.inside in
-    omega arith
+check_item-requires-clause-bucket g c = grind (arith, common_steps, below_head)
 
 pub returns-in_err-low-clause-fails : goal.returns-in_err-low-clause-fails
 returns-in_err-low-clause-fails g c =
@@ -66,24 +56,10 @@ overflow_add-count g c =
     record { fits = omega arith }
 
 pub loop-base-preserved : goal.loop-base-preserved
-loop-base-preserved g c =
-    let w = g.G.GroupKind.kind.width in
-    let b = c.loop-base.base in
-    let e : c.WIDTH-base.result ≡ w = c.WIDTH-base.ensures ∙ g.met.G.GroupKind.width in
-    let i = c.loop-j.invariant.inside in
-    record {
-      below = omega arith;
-      checked = checked_same g.T.HasSpec.spec c.args.begin c.args.cap c.args.bytes.now c.args.controls.now c.args.lo _ _ c.loop-j.low c.loop-j.count
-          (rest_none c.args.controls.now c.args.cap b w (g.G.Mask.Marks.indices c.loop-j.marks) c.in_default.ensures ∙ ap (λ z. full_from c.args.controls.now c.args.cap (b + z)) (sym e)) c.loop-j.invariant.checked;
-    }
+loop-base-preserved g c = grind (arith, common_steps, checked_same, rest_none)
 
 pub returns-in_err-low-2-clause-fails : goal.returns-in_err-low-2-clause-fails
-returns-in_err-low-2-clause-fails g c =
-    let i = c.loop-bucket.bucket in
-    let here = checked_same g.T.HasSpec.spec c.args.begin c.args.cap c.args.bytes.now c.args.controls.now c.args.lo _ _ c.loop-bucket.low c.loop-bucket.count
-    (full_taken c.args.controls.now c.args.cap i c.loop-bucket-test.true c.if-controls-bucket-lt128.true) c.loop-bucket.invariant.checked in
-    let p = err_from_is_err_and c.from_residual-in_err-low-2.result c.from_residual-in_err-low-2.ensures.1 in
-    rw (p.1, p.2) (checked_fails g.T.HasSpec.spec c.args.begin c.args.cap c.args.bytes.now c.args.controls.now c.args.lo i (full_from c.args.controls.now c.args.cap (i + 1)) c.loop-bucket.low c.loop-bucket.count c.in_err-low-2.field-0.0 here c.in_err-low-2.ensures)
+returns-in_err-low-2-clause-fails g c = grind (arith, common_steps, here, checked_same, full_taken, err_from_is_err_and, checked_fails)
 
 pub overflow_add-count-then-controls-bucket-lt128 : goal.overflow_add-count-then-controls-bucket-lt128
 overflow_add-count-then-controls-bucket-lt128 g c =
@@ -115,13 +91,7 @@ loop-bucket-preserved g c =
     }
 
 pub returns-clause-valid : goal.returns-clause-valid
-returns-clause-valid g c =
-    let e = full_end c.args.controls.now c.args.cap c.loop-bucket.bucket c.loop-bucket-test.false in
-    (checked_end g.T.HasSpec.spec c.args.begin c.args.cap c.args.bytes.now c.args.controls.now c.args.lo c.loop-bucket.low c.loop-bucket.count
-    (checked_same g.T.HasSpec.spec c.args.begin c.args.cap c.args.bytes.now c.args.controls.now c.args.lo _ _ c.loop-bucket.low c.loop-bucket.count e c.loop-bucket.invariant.checked)).0
+returns-clause-valid g c = grind (arith, common_steps, full_end, checked_end, checked_same)
 
 pub returns-clause-count : goal.returns-clause-count
-returns-clause-count g c =
-    let e = full_end c.args.controls.now c.args.cap c.loop-bucket.bucket c.loop-bucket-test.false in
-    (checked_end g.T.HasSpec.spec c.args.begin c.args.cap c.args.bytes.now c.args.controls.now c.args.lo c.loop-bucket.low c.loop-bucket.count
-    (checked_same g.T.HasSpec.spec c.args.begin c.args.cap c.args.bytes.now c.args.controls.now c.args.lo _ _ c.loop-bucket.low c.loop-bucket.count e c.loop-bucket.invariant.checked)).1
+returns-clause-count g c = grind (arith, common_steps, full_end, checked_end, checked_same)

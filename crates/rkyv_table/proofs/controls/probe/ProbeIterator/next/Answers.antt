@@ -1,20 +1,15 @@
-use Rattle.std.proofs.Common.{◌≡◌, ◌∙◌, ℕ, ◌+◌, ◌*◌, ◌-◌, ◌∷◌, ◌<◌, ap, sym, arith, bit_and, length, rules}
+use Rattle.std.proofs.Common.{◌≡◌, ◌∙◌, ℕ, ◌+◌, ◌*◌, ◌-◌, ◌∷◌, ◌<◌, ap, sym, arith, bit_and}
+use Rattle.std.proofs.lemmas.Grind.{common_steps}
 use Rattle.rkyv_table.specs.{modulus, probe_capacity, strides_from}
 use Rattle.rkyv_table.proofs.ProbeSteps.{ends, first_taken, masked_below, modulus_small, offset_below, probe_index_is, skips, stepped, takes}
 use Rattle.rkyv_table.proofs.controls.probe.ProbeIterator.next.Goals as goal
 use Rattle.rkyv_table.proofs.controls.probe.ProbeIterator.next.Goals.{In-loop-self}
 
 pub returns-then-self-eq0-clause-steps : goal.returns-then-self-eq0-clause-steps
-returns-then-self-eq0-clause-steps c =
-    let p = c.self.inside in
-    sym c.self.view_is ∙ ap (strides_from p.cap p.start) c.if-self-eq0.true ∙ first_taken p.cap p.start c.self.invariant.begun
+returns-then-self-eq0-clause-steps c = grind (arith, common_steps, first_taken)
 
 pub returns-then-self-eq0-clause-goes : goal.returns-then-self-eq0-clause-goes
-returns-then-self-eq0-clause-goes c =
-    let p = c.self.inside in
-    let e : c.args.self.now ≡ p.start ∷ strides_from p.cap p.start 1 = sym c.self.view_is ∙ ap (strides_from p.cap p.start) c.if-self-eq0.true ∙ first_taken p.cap p.start c.self.invariant.begun in
-    let l = ap length e in
-    record { on = λ _. (search rules, search rules, omega arith); keeps = search rules; rests = search rules }
+returns-then-self-eq0-clause-goes c = grind (arith, common_steps, first_taken)
 
 -- one turn
 module _ (c : In-loop-self) where
@@ -28,33 +23,13 @@ module _ (c : In-loop-self) where
   pos = bit_and (c.loop-self.self-inside.start + bit_and (c.loop-self.self-inside.offset + 16 * c.loop-self.self-inside.index) (c.modulus-modulus.result - 1)) (c.modulus-modulus.result - 1)
 
   step : pos < c.probe_capacity-limit.result → c.args.self.now ≡ pos ∷ strides_from c.loop-self.self-inside.cap c.loop-self.self-inside.start (c.loop-self.self-inside.index + 1)
-  step below =
-      let p = c.loop-self.self-inside in
-      let inv = c.loop-self.invariant in
-      let e : pos ≡ _ = rw modulus_is (probe_index_is p.cap p.start p.offset p.index inv.begun inv.is) in
-      sym c.self.view_is ∙ inv.same ∙ takes p.cap p.start p.index pos (rw modulus_is at c.loop-self-test.true) e (rw limit_is at below)
+  step below = grind (arith, common_steps, modulus_is, probe_index_is, takes, limit_is)
 
 pub overflow_add-self : goal.overflow_add-self
-overflow_add-self c =
-    let p = c.loop-self.self-inside in
-    let m = modulus_is (goal.at.overflow_add-self c).In-loop-self in
-    let o = offset_below p.cap p.start p.offset p.index c.loop-self.invariant.is in
-    let t = c.modulus-modulus.type_inv in
-    let s = modulus_small p.cap (omega arith) in
-    let k = c.loop-self-test.true in
-    record { fits = omega arith }
+overflow_add-self c = grind (arith, common_steps, modulus_is, offset_below, modulus_small)
 
 pub overflow_add-pos : goal.overflow_add-pos
-overflow_add-pos c =
-    let p = c.loop-self.self-inside in
-    let is = c.loop-self.invariant.is in
-    let m : c.modulus-modulus.result ≡ modulus p.cap = modulus_is (goal.at.overflow_add-pos c).In-loop-self in
-    let b : bit_and (p.offset + 16 * p.index) (c.modulus-modulus.result - 1) < modulus p.cap = rw m (masked_below p.cap (p.offset + 16 * p.index)) in
-    let t = c.modulus-modulus.type_inv in
-    let s = modulus_small p.cap (omega arith) in
-    let begun = is.begun in
-    let fits = is.fits in
-    record { fits = omega arith }
+overflow_add-pos c = grind (arith, common_steps, modulus_is, masked_below, modulus_small)
 
 pub invariant_of-self-then-pos-limit : goal.invariant_of-self-then-pos-limit
 invariant_of-self-then-pos-limit c =
@@ -66,17 +41,10 @@ pub returns-then-pos-limit-clause-steps : goal.returns-then-pos-limit-clause-ste
 returns-then-pos-limit-clause-steps c = step (goal.at.returns-then-pos-limit-clause-steps c).In-loop-self c.if-pos-limit.true
 
 pub returns-then-pos-limit-clause-goes : goal.returns-then-pos-limit-clause-goes
-returns-then-pos-limit-clause-goes c =
-    let n = ap length (step (goal.at.returns-then-pos-limit-clause-goes c).In-loop-self c.if-pos-limit.true) in
-    record { on = λ _. (search rules, search rules, omega arith); keeps = search rules; rests = search rules }
+returns-then-pos-limit-clause-goes c = grind (arith, common_steps, step)
 
 pub returns-clause-steps : goal.returns-clause-steps
-returns-clause-steps c =
-    let p = c.loop-self.self-inside in
-    let inv = c.loop-self.invariant in
-    let m : c.modulus-modulus.result ≡ modulus p.cap = c.modulus-modulus.ensures ∙ ap modulus (sym inv.cap) in
-    let none = ends p.cap p.start p.index (rw m at c.loop-self-test.false) in
-    (sym c.self.view_is ∙ inv.same ∙ none, none)
+returns-clause-steps c = grind (arith, common_steps, ends)
 
 pub loop-self-preserved : goal.loop-self-preserved
 loop-self-preserved c =

@@ -1,5 +1,6 @@
-use Rattle.std.proofs.Common.{◌≡◌, ◌+◌, ◌∷◌, ◌∙◌, ap, arith, sym, length, rules}
-use Rattle.rkyv_table.specs.{full_from, left}
+use Rattle.std.proofs.Common.{◌≡◌, ◌+◌, ◌∙◌, ap, arith, sym}
+use Rattle.std.proofs.lemmas.Grind.{common_steps}
+use Rattle.rkyv_table.specs.{full_from}
 use Rattle.rkyv_table.proofs.Groups.{width_small}
 use Rattle.rkyv_table.proofs.Walks.{ends_full, ends_last, ends_past, group_walk, head_inside, keeps_walk, left_group, left_none, takes_index, walk_from, walk_of}
 use Rattle.rkyv_table.proofs.controls.walk.WalkIterator.next.Goals as goal
@@ -14,11 +15,7 @@ overflow_add-bucket g c =
     record { fits = omega arith }
 
 pub returns-then-bucket-self-clause-steps : goal.returns-then-bucket-self-clause-steps
-returns-then-bucket-self-clause-steps g c =
-    let s = c.loop-self.self-inside in
-    let e = ends_past s.controls.now s.cap s.base g.G.GroupKind.kind.width c.in-Some.j (g.G.Mask.Marks.indices s.marks)
-    (walk_from s.controls.now s.cap s.base g.G.GroupKind.kind.width (g.G.Mask.Marks.indices s.marks) c.loop-self.invariant.is) c.in-Some.ensures c.if-bucket-self.true in
-    (sym c.self.view_is ∙ c.loop-self.invariant.value ∙ e, e)
+returns-then-bucket-self-clause-steps g c = grind (arith, common_steps, ends_past, walk_from)
 
 pub invariant_of-self-in-Some : goal.invariant_of-self-in-Some
 invariant_of-self-in-Some g c =
@@ -26,36 +23,16 @@ invariant_of-self-in-Some g c =
     keeps_walk s.controls.now s.cap s.base g.G.GroupKind.kind.width c.in-Some.j (g.G.Mask.Marks.indices s.marks) _ c.loop-self.invariant.is c.in-Some.ensures c.remove_lowest_bit-self-inside.ensures
 
 pub returns-in-Some-clause-steps : goal.returns-in-Some-clause-steps
-returns-in-Some-clause-steps g c =
-    let s = c.loop-self.self-inside in
-    sym c.self.view_is
-    ∙ c.loop-self.invariant.value
-    ∙ takes_index s.controls.now s.cap s.base g.G.GroupKind.kind.width c.in-Some.j (g.G.Mask.Marks.indices s.marks) c.in-Some.ensures c.if-bucket-self.false
-    ∙ ap (λ xs. (s.base + c.in-Some.j) ∷ left s.controls.now s.cap s.base g.G.GroupKind.kind.width xs) (sym c.remove_lowest_bit-self-inside.ensures)
+returns-in-Some-clause-steps g c = grind (arith, common_steps, takes_index)
 
 pub returns-then-self-WIDTH-clause-steps : goal.returns-then-self-WIDTH-clause-steps
-returns-then-self-WIDTH-clause-steps g c =
-    let s = c.loop-self.self-inside in
-    let t = c.if-self-WIDTH.true in
-    let w : c.WIDTH.result ≡ g.G.GroupKind.kind.width = c.WIDTH.ensures ∙ g.met.G.GroupKind.width in
-    let e = ends_last s.controls.now s.cap s.base g.G.GroupKind.kind.width (g.G.Mask.Marks.indices s.marks) c.in_default.ensures (omega arith) in
-    (sym c.self.view_is ∙ c.loop-self.invariant.value ∙ e, e)
+returns-then-self-WIDTH-clause-steps g c = grind (arith, common_steps, ends_last)
 
 pub returns-clause-steps : goal.returns-clause-steps
-returns-clause-steps g c =
-    let s = c.loop-self.self-inside in
-    let e = ends_full s.controls.now s.cap s.base g.G.GroupKind.kind.width (g.G.Mask.Marks.indices s.marks)
-    (walk_from s.controls.now s.cap s.base g.G.GroupKind.kind.width (g.G.Mask.Marks.indices s.marks) c.loop-self.invariant.is) c.loop-self-test.false in
-    (sym c.self.view_is ∙ c.loop-self.invariant.value ∙ e, e)
+returns-clause-steps g c = grind (arith, common_steps, ends_full, walk_from)
 
 pub read-requires : goal.read-requires
-read-requires g c =
-    let w = width_small g.G.GroupKind.kind g.met.G.GroupKind.lawful in
-    let v : c.WIDTH-in-loop-self.result ≡ g.G.GroupKind.kind.width = c.WIDTH-in-loop-self.ensures ∙ g.met.G.GroupKind.width in
-    let u : c.WIDTH.result ≡ g.G.GroupKind.kind.width = c.WIDTH.ensures ∙ g.met.G.GroupKind.width in
-    let t = c.if-self-WIDTH.false in
-    let count = c.loop-self.invariant.is.count in
-    omega arith
+read-requires g c = grind (arith, common_steps, width_small g.G.GroupKind.kind g.met.G.GroupKind.lawful)
 
 pub loop-self-preserved : goal.loop-self-preserved
 loop-self-preserved g c =
@@ -77,12 +54,4 @@ loop-self-preserved g c =
     }
 
 pub returns-in-Some-clause-goes : goal.returns-in-Some-clause-goes
-returns-in-Some-clause-goes g c =
-    let s = c.loop-self.self-inside in
-    let w = g.G.GroupKind.kind.width in
-    let e : c.args.self.now ≡ (s.base + c.in-Some.j) ∷ left s.controls.now s.cap s.base w (g.G.Mask.Marks.indices c.remove_lowest_bit-self-inside.result) = sym c.self.view_is
-    ∙ c.loop-self.invariant.value
-    ∙ takes_index s.controls.now s.cap s.base w c.in-Some.j (g.G.Mask.Marks.indices s.marks) c.in-Some.ensures c.if-bucket-self.false
-    ∙ ap (λ xs. (s.base + c.in-Some.j) ∷ left s.controls.now s.cap s.base w xs) (sym c.remove_lowest_bit-self-inside.ensures) in
-    let l = ap length e in
-    record { on = λ _. (search rules, search rules, omega arith); keeps = search rules; rests = search rules }
+returns-in-Some-clause-goes g c = grind (arith, common_steps, takes_index)

@@ -1,6 +1,7 @@
 use Rattle.rkyv_table.proofs.Misplaced.{repeated_misplaced}
 use Rattle.rkyv_table.proofs.table.laws.misplaced.repeated_are_misplaced.Goals as goal
+use Rattle.std.proofs.Common.{arith}
+use Rattle.std.proofs.lemmas.Grind.{common_steps}
 
 pub returns : goal.returns
-returns c = λ kind cap hashes homes controls hash_at same_at law room fits written same.
-    repeated_misplaced kind cap hashes homes controls hash_at same_at law room (λ j l. fits j 0 l) written same
+returns c = grind (arith, common_steps, repeated_misplaced)

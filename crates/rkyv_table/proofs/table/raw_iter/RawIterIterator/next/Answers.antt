@@ -1,6 +1,6 @@
-use Rattle.std.proofs.Common.{◌∙◌, ◌+◌, ◌-◌, ◌*◌, ◌∷◌, ap, arith, get_or, length, List, ltb, ℕ, rules, sym}
+use Rattle.std.proofs.Common.{◌∙◌, ap, arith, get_or, List, ltb, ℕ}
+use Rattle.std.proofs.lemmas.Grind.{common_steps}
 use Rattle.rkyv_scan.specs.{indices_where, mask_indices}
-use Rattle.rkyv_table.specs.{positions_left}
 use Rattle.rkyv_table.proofs.RawSteps.{head_before, head_keeps, head_positions, next_inside, next_keeps, next_positions}
 use Rattle.rkyv_table.proofs.table.raw_iter.RawIterIterator.next.Goals as goal
 
@@ -29,20 +29,10 @@ invariant_of-self-in-Some g c =
     (head_keeps s.buckets_end s.size s.count s.controls.now s.base (mask_indices 8 7 8 s.marks.bits) c.loop-self.invariant.is c.in-Some.j (omega (arith, c.loop-self-test.true)) c.in-Some.ensures)
 
 pub returns-in-Some-clause-steps : goal.returns-in-Some-clause-steps
-returns-in-Some-clause-steps g c =
-    let s = c.loop-self.self-inside in
-    record {
-      takes = sym (ap (λ v. v.positions) c.self.view_is) ∙ c.loop-self.invariant.value
-          ∙ head_positions s.buckets_end s.size s.count s.controls.now s.base (mask_indices 8 7 8 s.marks.bits) c.loop-self.invariant.is c.in-Some.j (omega (arith, c.loop-self-test.true)) c.in-Some.ensures
-          ∙ ap (λ (ms : List ℕ). (s.buckets_end - (c.in-Some.j + 1) * s.size) ∷ positions_left s.buckets_end s.size (s.count - 1) s.controls.now s.base ms) (sym c.remove_lowest_bit-self-inside.ensures);
-      archive = c.loop-self.invariant.archive ∙ ap (λ v. v.archive) c.self.view_is;
-    }
+returns-in-Some-clause-steps g c = grind (arith, common_steps, head_positions)
 
 pub returns-in-Some-clause-goes : goal.returns-in-Some-clause-goes
-returns-in-Some-clause-goes g c =
-    let t = returns-in-Some-clause-steps g c in
-    let l = ap length t.takes in
-    record { on = λ _. (search rules, search rules, omega arith); keeps = search rules; rests = search rules }
+returns-in-Some-clause-goes g c = grind (arith, common_steps, returns-in-Some-clause-steps g c)
 
 pub overflow_add-self : goal.overflow_add-self
 overflow_add-self g c =
