@@ -1,7 +1,8 @@
 -- From a lookup in the table of a map to a lookup in the map.
 use Rattle.rkyv_base.specs.declared.element.HasSpec.{Ghosts as Specs}
 use Rattle.rkyv_base.specs.declared.width.Word.{Ghosts as Words}
-use Rattle.std.proofs.Common.{◌≡◌, ℕ, ◌<◌, ◌^◌, ◌∙◌, ap, sym, Bool, true, List, None, Option, Some, map}
+use Rattle.std.proofs.Common.{◌≡◌, ℕ, ◌<◌, ◌^◌, ◌∙◌, ap, sym, Bool, true, List, None, Option, Some, map, arith}
+use Rattle.std.proofs.lemmas.Grind.{common_steps}
 use Rattle.std.specs.Borrow.{Bor}
 use Rattle.std.specs.List.{find}
 use Rattle.std.specs.Prelude.{IfSome}
@@ -29,8 +30,7 @@ module _ {K V H W : Type 0} {ks : Specs K} {vs : Specs V} {wt : Words W} (m : Ar
       → (entry : View (Entry K V)) (r : Bool) → IsItem t entry
       → (key : View K) × IsAt key (archive_of entry) (pos_of entry) × IsValidView ks.spec key × post key r
       → r ≡ accept entry.pos
-  key_compared post accept compares entry r item e =
-      compares e.0 r (key_of_entry m entry e.0 (entry_of_item m t at entry item) e.1 e.2) e.3 ∙ ap accept e.1.1
+  key_compared post accept compares entry r item e = grind (arith, common_steps, key_of_entry, entry_of_item)
 
   -- a found item is an entry of the map
   pub entry_found : (result : Option (View (Entry K V))) → IfSome result (IsItem t) → IfSome result (IsEntryIn m)
@@ -51,9 +51,7 @@ module _ {K V H W : Type 0} {ks : Specs K} {vs : Specs V} {wt : Words W} (m : Ar
   written_there hashes homes written = rw (same, same_pos) written
 
   positions_there : (homes : List ℕ) → home_positions wt.word (entry_spec ks.spec vs.spec).size (table_bytes t) (table_pos t) homes ≡ home_positions wt.word (entry_spec ks.spec vs.spec).size (map_bytes m) (map_pos m) homes
-  positions_there homes =
-      let positions : List ℕ → ℕ → List ℕ = λ b p. home_positions wt.word (entry_spec ks.spec vs.spec).size b p homes in
-      ap (λ b. positions b (table_pos t)) same ∙ ap (positions (map_bytes m)) same_pos
+  positions_there homes = grind (arith, common_steps, same, same_pos)
 
   under_there : (hash query_hash : ℕ) (key_hash : List ℕ → ℕ → ℕ) (accept : ℕ → Bool) (homes : List ℕ) → hash ≡ query_hash
       → AreUnderHash m query_hash key_hash accept → MapWrittenAt wt.word (entry_spec ks.spec vs.spec) key_hash (map_bytes m) (map_pos m) homes
@@ -97,8 +95,4 @@ pub one_found : {K V H W Q State : Type 0} {ks : Specs K} {vs : Specs V} {wt : W
     → IsQuery ks.spec same_key key_calls can_read calls fits → IsMap m → (q : Q) → can_read q → hash_of_calls hasher (calls q) < 2 ^ 64 → (P : Option ℕ → Type 0)
     → FindsKey m (hash_of_calls hasher (calls q)) (fits q (map_bytes m)) P
     → FindsOneKey m (hash_at hasher key_calls) same_key (fits q (map_bytes m)) P
-one_found {ks = ks} {vs = vs} {wt = wt} m kl vl hasher same_key key_calls can_read calls fits query is q ready small P found = λ none. (
-  pos_found generic_kind wt.word (entry_spec ks.spec vs.spec).size (map_bytes m) (map_pos m) (hash_of_calls hasher (calls q)) (fits q (map_bytes m)),
-  finds_the_one wt.word ks.spec vs.spec kl vl hasher same_key key_calls can_read calls fits query (map_bytes m) (map_pos m) is q ready small none,
-  found,
-)
+one_found {ks = ks} {vs = vs} {wt = wt} m kl vl hasher same_key key_calls can_read calls fits query is q ready small P found = grind (arith, common_steps, finds_the_one)

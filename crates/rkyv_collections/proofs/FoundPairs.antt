@@ -1,5 +1,6 @@
 -- Lookups in a map that represents a list, in terms of the list.
-use Rattle.std.proofs.Common.{◌≡◌, ℕ, suc, ◌+◌, ◌<◌, ap, sym, ◌∙◌, arith, inl, inr, Bool, true, false, List, [], ◌∷◌, length, slice_get, slice_index, Option, None, Some, subst, refl}
+use Rattle.std.proofs.Common.{◌≡◌, ℕ, suc, ◌+◌, ◌<◌, sym, ◌∙◌, arith, inl, inr, Bool, List, [], ◌∷◌, length, slice_get, slice_index, Option, Some, subst, refl}
+use Rattle.std.proofs.lemmas.Grind.{common_steps}
 use Rattle.std.specs.Int.{Width}
 use Rattle.std.specs.List.{find}
 use Rattle.std.specs.Option.{is_some, option_map}
@@ -12,8 +13,7 @@ use Rattle.rkyv_base.specs.declared.view.View.{View}
 use Rattle.rkyv_keys.specs.Lemmas.OfEntries.{valid_key}
 use Rattle.rkyv_table.specs.{home_positions, item_at}
 use Rattle.rkyv_keys.specs.{IsFoundAt, IsFoundPair, IsFoundValue, first_pair}
-use Rattle.rkyv_collections.specs.{AgreesOnKeys, IsPairAt, IsPosOfPair, IsValueAt, IsViewAt}
-use Rattle.rkyv_collections.specs.{MapRepresents, map_spec}
+use Rattle.rkyv_collections.specs.{AgreesOnKeys, IsPairAt, IsPosOfPair, IsValueAt, IsViewAt, MapRepresents, map_spec}
 use Rattle.rkyv_collections.proofs.WrittenPairs.{pair_valid, pos_of_pair}
 
 module _ {A B : Type 0} (k v : ElementSpec) (key : List ℕ → ℕ → A → Type 0) (value : List ℕ → ℕ → B → Type 0) (b : List ℕ) where
@@ -35,45 +35,19 @@ module _ {A B : Type 0} (k v : ElementSpec) (key : List ℕ → ℕ → A → Ty
   -- the views of the found value and of the found pair
   pub value_listed : {V : Type 0} (key_pos : Option ℕ) (o : Option (A × B)) (result : Option (View V)) → IfSome result (λ x. x.archive.now ≡ b)
       → IsPosOfPair k v key value b key_pos o → IsValueAt k v result key_pos → IsFoundValue value result (option_map (λ pair. pair.1) o)
-  value_listed None None None same t e = tt
-  value_listed None None (Some x) same t e = absurd cc
-  value_listed (Some q) (Some pair) None same t e = absurd cc
-  value_listed (Some q) (Some pair) (Some x) same t e =
-      subst (λ c. value c x.pos pair.1) (sym same) (subst (λ n. value b n pair.1) (sym (same_Some x.pos (q + value_offset k v) e)) t.1)
-  value_listed None (Some pair) result same t e = absurd t
-  value_listed (Some q) None result same t e = absurd t
+  value_listed found o result same t e = grind (arith, common_steps, same_Some)
 
   pub key_listed : {K : Type 0} (key_pos : Option ℕ) (o : Option (A × B)) (result : Option (View K)) → IfSome result (λ x. x.archive.now ≡ b)
       → IsPosOfPair k v key value b key_pos o → IsViewAt result key_pos → IsFoundValue key result (option_map (λ pair. pair.0) o)
-  key_listed None None None same t e = tt
-  key_listed None None (Some x) same t e = absurd cc
-  key_listed (Some q) (Some pair) None same t e = absurd cc
-  key_listed (Some q) (Some pair) (Some x) same t e = subst (λ c. key c x.pos pair.0) (sym same) (subst (λ n. key b n pair.0) (sym (same_Some x.pos q e)) t.0)
-  key_listed None (Some pair) result same t e = absurd t
-  key_listed (Some q) None result same t e = absurd t
+  key_listed found o result same t e = grind (arith, common_steps, same_Some)
 
   pub pair_listed : {K V : Type 0} (key_pos : Option ℕ) (o : Option (A × B)) (result : Option (View K × View V))
       → IfSome result (λ x. (x.0.archive.now ≡ b) × (x.1.archive.now ≡ b) × (x.1.pos ≡ x.0.pos + value_offset k v))
       → IsPosOfPair k v key value b key_pos o → IsPairAt result key_pos → IsFoundPair key value result o
-  pair_listed None None None same t e = tt
-  pair_listed None None (Some x) same t e = absurd cc
-  pair_listed (Some q) (Some pair) None same t e = absurd cc
-  pair_listed (Some q) (Some pair) (Some x) same t e =
-      let at : x.0.pos ≡ q = same_Some x.0.pos q e in
-      let behind : x.1.pos ≡ q + value_offset k v = same.2 ∙ ap (λ n. n + value_offset k v) at in (
-        subst (λ c. key c x.0.pos pair.0) (sym same.0) (subst (λ n. key b n pair.0) (sym at) t.0),
-        subst (λ c. value c x.1.pos pair.1) (sym same.1) (subst (λ n. value b n pair.1) (sym behind) t.1),
-      )
-  pair_listed None (Some pair) result same t e = absurd t
-  pair_listed (Some q) None result same t e = absurd t
+  pair_listed found o result same t e = grind (arith, common_steps, same_Some)
 
   pub contains_listed : (key_pos : Option ℕ) (o : Option (A × B)) (result : Bool) → IsPosOfPair k v key value b key_pos o → IsFoundAt result key_pos → result ≡ is_some o
-  contains_listed None None true t e = absurd (true≢false (sym (e.0 refl)))
-  contains_listed None None false t e = refl
-  contains_listed (Some q) (Some pair) true t e = refl
-  contains_listed (Some q) (Some pair) false t e = absurd (true≢false (sym (e.1 refl)))
-  contains_listed None (Some pair) result t e = absurd t
-  contains_listed (Some q) None result t e = absurd t
+  contains_listed found o result t e = grind (arith, common_steps, true≢false)
 
 -- the first accepted key is that of the first accepted pair
 pub first_listed : (w : Width) (k v : ElementSpec) (kl : IsElement k) (vl : IsElement v) {A B : Type 0} (key : List ℕ → ℕ → A → Type 0) (value : List ℕ → ℕ → B → Type 0) (hash : List ℕ → ℕ → ℕ)

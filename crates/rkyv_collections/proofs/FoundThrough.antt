@@ -1,17 +1,17 @@
 -- From the entry that a lookup finds to its result.
 use Rattle.rkyv_base.specs.declared.element.HasSpec.{Ghosts as Specs}
 use Rattle.rkyv_base.specs.declared.width.Word.{Ghosts as Words}
-use Rattle.std.proofs.Common.{◌≡◌, ℕ, ◌+◌, ◌<◌, ◌^◌, ◌∙◌, Bool, List, None, Option, Some, ap, sym, subst}
+use Rattle.std.proofs.Common.{◌≡◌, ℕ, ◌+◌, ◌<◌, ◌^◌, ◌∙◌, Bool, List, None, Option, Some, ap, sym, subst, arith}
+use Rattle.std.proofs.lemmas.Grind.{common_steps}
 use Rattle.std.specs.Borrow.{Bor}
-use Rattle.std.specs.Option.{option_map}
 use Rattle.std.specs.Prelude.{IfSome}
 use Rattle.std.proofs.lemmas.Option.{IfSome_then}
 use Rattle.rkyv_scan.specs.{Hasher, HasherCall, hash_of_calls}
-use Rattle.rkyv_base.specs.{ElementSpec, IsElement, IsValidView, entry_spec, pos_of_found, value_offset}
+use Rattle.rkyv_base.specs.{ElementSpec, IsElement, IsValidView, entry_spec, value_offset}
 use Rattle.rkyv_base.specs.declared.entry.Entry.{Entry}
 use Rattle.rkyv_base.specs.declared.view.View.{View}
 use Rattle.rkyv_keys.specs.{Comparison, IsQuery, KeyLookup, hash_at, query_of}
-use Rattle.rkyv_collections.specs.{ComparesKeysBy, GetsBy, GetsKey, IsEntryIn, IsMap, IsPairAt, IsPairIn, IsPairOfEntry, IsValueAt, IsValueIn, IsValueOfEntry, IsViewAt, Part, entry_part, key_part, key_pos_found, map_bytes, pair_part, value_part}
+use Rattle.rkyv_collections.specs.{ComparesKeysBy, GetsBy, GetsKey, IsEntryIn, IsMap, IsPairAt, IsPairIn, IsPairOfEntry, IsValueAt, IsValueIn, IsValueOfEntry, IsViewAt, Part, entry_part, key_part, map_bytes, pair_part, value_part}
 use Rattle.rkyv_collections.specs.declared.map.ArchivedHashMap.{ArchivedHashMap}
 use Rattle.rkyv_collections.proofs.FoundEntries.{one_found}
 use Rattle.rkyv_collections.proofs.Lookups.{query_under_hash}
@@ -81,13 +81,11 @@ module _ {K V H W : Type 0} {ks : Specs K} {vs : Specs V} {wt : Words W} (m : Ar
 module _ {K V : Type 0} (k v : ElementSpec) where
   -- the pair is at the position of the found entry
   pair_at : (found : Option (View (Entry K V))) (result : Option (View K × View V)) → IsPairOfEntry k v result found → (key_pos : Option ℕ) → IsViewAt found key_pos → IsPairAt result key_pos
-  pair_at None result is key_pos at = ap key_pos_found is ∙ at
-  pair_at (Some entry) result is key_pos at = ap key_pos_found is.1 ∙ ap Some is.2.1 ∙ at
+  pair_at found result is key_pos at = grind (arith, common_steps)
 
   -- the value is behind the position of the found entry
   value_at : (found : Option (View (Entry K V))) (result : Option (View V)) → IsValueOfEntry k v result found → (key_pos : Option ℕ) → IsViewAt found key_pos → IsValueAt k v result key_pos
-  value_at None result is key_pos at = ap pos_of_found is ∙ ap (option_map (λ (q : ℕ). q + value_offset k v)) at
-  value_at (Some entry) result is key_pos at = ap pos_of_found is.1 ∙ ap Some is.2.1 ∙ ap (option_map (λ (q : ℕ). q + value_offset k v)) at
+  value_at found result is key_pos at = grind (arith, common_steps)
 
 -- the clauses of a lookup on a found entry are clauses on its pair and on its value
 module _ {K V H W : Type 0} {ks : Specs K} {vs : Specs V} {wt : Words W} {m : ArchivedHashMap K V H W ks vs wt} {found : Option (View (Entry K V))} where

@@ -1,7 +1,8 @@
 -- Helpers for callers: the bytes of a map at a view, numbers of a list, the `Ok` of a result.
 use Rattle.rkyv_base.specs.declared.element.HasSpec.{Ghosts as Specs}
 use Rattle.rkyv_base.specs.declared.width.Word.{Ghosts as Words}
-use Rattle.std.proofs.Common.{◌≡◌, ℕ, List, Option, None, Some, Result, Ok, Err, MatchResult, IfOk, ap, refl, sym, ◌∙◌}
+use Rattle.std.proofs.Common.{◌≡◌, ℕ, List, Option, None, Some, Result, MatchResult, IfOk, ap, ◌∙◌, arith}
+use Rattle.std.proofs.lemmas.Grind.{common_steps}
 use Rattle.std.specs.Borrow.{Bor}
 use Rattle.rkyv_base.specs.{IsAt}
 use Rattle.rkyv_base.specs.declared.view.View.{View}
@@ -17,14 +18,11 @@ read_at {K} {V} {H} {W} m v b p e at =
 
 -- a found number is that of the list, and the list has none if none is found
 pub number_listed : {V : Type 0} (num : List ℕ → ℕ → ℕ) (view : View V) (n : ℕ) (o : Option ℕ) → num view.archive.now view.pos ≡ n → IsFoundValue (λ b p v. num b p ≡ v) (Some view) o → Some n ≡ o
-number_listed num view n None e h = absurd h
-number_listed num view n (Some v) e h = ap Some (sym e ∙ h)
+number_listed num view n found e h = grind (arith, common_steps)
 
 pub none_listed : {B : Type 0} (represents : List ℕ → ℕ → B → Type 0) (o : Option B) → IsFoundValue {V = ℕ} represents None o → None ≡ o
-none_listed represents None h = refl
-none_listed represents (Some v) h = absurd h
+none_listed represents found h = grind (arith, common_steps)
 
 -- a property of the `Ok` of a result
 pub on_ok : {T E : Type 0} (P R : T → Type 0) (Q : E → Type 0) (r : Result T E) → ((x : T) → P x → R x) → MatchResult r P Q → IfOk r R
-on_ok P R Q (Ok x) f h = f x h
-on_ok P R Q (Err e) f h = tt
+on_ok P R Q result f h = grind (arith, common_steps)

@@ -1,5 +1,6 @@
 -- A table of pairs under the hashes of their keys is the map of the pairs.
-use Rattle.std.proofs.Common.{◌≡◌, ℕ, refl, ap, subst, ◌∙◌, inl, inr, List, [], ◌∷◌, map, length, Option, Result, Ok, Err, MatchResult}
+use Rattle.std.proofs.Common.{◌≡◌, ℕ, refl, subst, ◌∙◌, inl, inr, List, [], ◌∷◌, map, length, Option, Result, MatchResult, arith}
+use Rattle.std.proofs.lemmas.Grind.{common_steps}
 use Rattle.std.specs.Int.{Width}
 use Rattle.std.specs.Iterator.{Drains, Yields}
 use Rattle.std.proofs.lemmas.List.{length-map}
@@ -41,9 +42,7 @@ module _ {T S BK BV A B : Type 0} (inner : T → S) (steps : S → Option (BK ×
   mapped_keyed : (xs : List (ℕ × EntryAdapter BK BV A B)) → Under xs
       → mapped_pairs (pair_of key value) xs ≡ keyed hash (pair_values key value (items_in inner steps (λ k. hash (key k)) xs))
   mapped_keyed [] h = refl
-  mapped_keyed (x ∷ xs) h =
-      ap (λ n. (n, (key x.1.key, value x.1.value)) ∷ mapped_pairs (pair_of key value) xs) h.0
-      ∙ ap (λ (t : List (ℕ × (A × B))). (hash (key x.1.key), (key x.1.key, value x.1.value)) ∷ t) (mapped_keyed xs h.1)
+  mapped_keyed (x ∷ xs) h = grind (arith, common_steps, mapped_keyed xs h.1)
 
   module _ {R Q : Type 0} (len : ℕ) (factor : ℕ × ℕ) (max : ℕ) (w : Width) (k v : ElementSpec) (kf : Format A R) (vf : Format B Q) (o o' : Output) (s : T) (limit : ℕ) where
     abbrev TableOf : Format (List (ℕ × EntryAdapter BK BV A B)) TableResolver
@@ -89,5 +88,4 @@ module _ {T S BK BV A B : Type 0} (inner : T → S) (steps : S → Option (BK ×
       pub writes_as_map : (result : Result TableResolver (WriteError F))
           → MatchResult result (WroteItems (Drains KeyedStep s) len factor max TableOf o o' limit) (WriteItemsFails (Drains KeyedStep s) len factor max TableOf o o' limit (YieldsOtherCount KeyedStep len s))
           → MatchResult result (WroteItems (Drains steps (inner s)) len factor max MapOf o o' limit) (WriteItemsFails (Drains steps (inner s)) len factor max MapOf o o' limit (YieldsOtherCount steps len (inner s)))
-      writes_as_map (Ok r) h = wrote_map r h
-      writes_as_map (Err e) h = map_fails e h
+      writes_as_map result h = grind (arith, common_steps, wrote_map, map_fails)

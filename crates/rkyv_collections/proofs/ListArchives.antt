@@ -1,5 +1,6 @@
 -- The archive of a list, and the scalar of a value that is found in it.
-use Rattle.std.proofs.Common.{◌≡◌, ◌+◌, ◌∙◌, ℕ, Bool, List, MatchResult, None, Option, Result, Some, [], ◌∷◌, ap, inl, inr, refl, subst, sym}
+use Rattle.std.proofs.Common.{◌≡◌, ◌+◌, ◌∙◌, ℕ, Bool, List, MatchResult, Option, Result, [], ◌∷◌, ap, inl, inr, refl, subst, sym, arith}
+use Rattle.std.proofs.lemmas.Grind.{common_steps}
 use Rattle.std.specs.Borrow.{Bor}
 use Rattle.std.specs.Int.{Width}
 use Rattle.std.specs.List.{find, list_any}
@@ -9,7 +10,7 @@ use Rattle.std.specs.declared.vec.Vec.{Vec}
 use Rattle.std.proofs.lemmas.Bool.{cases_Bool}
 use Rattle.std.proofs.lemmas.Option.{IfSome_then, none-some, same_Some}
 use Rattle.rkyv_scan.specs.{generic_kind}
-use Rattle.rkyv_base.specs.{ArchiveOf, ElementSpec, Encoding, IsAt, ToBytesFails, bytes_of, entry_spec, narrow_limit, pos_of, pos_of_found, value_at, value_offset}
+use Rattle.rkyv_base.specs.{ArchiveOf, ElementSpec, Encoding, IsAt, ToBytesFails, bytes_of, entry_spec, narrow_limit, pos_of_found, value_at, value_offset}
 use Rattle.rkyv_base.specs.declared.element.HasSpec.{Ghosts as Specs}
 use Rattle.rkyv_base.specs.declared.errors.WriteError.{WriteError}
 use Rattle.rkyv_base.specs.declared.view.View.{View}
@@ -18,8 +19,7 @@ use Rattle.rkyv_table.specs.{home_positions, pos_found, with_units}
 use Rattle.rkyv_table.proofs.Moved.{moved}
 use Rattle.rkyv_collections.proofs.FoundPairs.{first_listed, value_listed}
 use Rattle.rkyv_collections.specs.{FindsKey, FoundAreListed, IsPosOfPair, IsValueAt, IsValueIn, MapRepresents, MapWrittenAt, TextMapRepresents, TextMapResult, TextPairs, map_bytes, map_pos, map_root, text_map_format, text_map_spec}
-use Rattle.rkyv_keys.specs.{FindsByView, FitsItsEqual, FoundValues, NativeKeys, first_pair}
-use Rattle.rkyv_keys.specs.{scalar_found}
+use Rattle.rkyv_keys.specs.{FindsByView, FitsItsEqual, FoundValues, NativeKeys, first_pair, scalar_found}
 use Rattle.rkyv_collections.specs.declared.map.ArchivedHashMap.{ArchivedHashMap}
 use Rattle.rkyv_collections.specs.declared.map.HashMapOf.{HashMapOf}
 
@@ -35,11 +35,7 @@ text_map_result e {pairs' = pairs'} result is_factor is_pairs made =
 -- a found value, by the position of its key
 scalar_behind : {N : Type 0} (e : Encoding N) (b : List ℕ) (offset : ℕ) (found : Option (View N)) (key : Option ℕ) → IfSome found (λ view. bytes_of view ≡ b)
     → pos_of_found found ≡ option_map (λ q. q + offset) key → scalar_found e found ≡ option_map (λ q. value_at e b (q + offset)) key
-scalar_behind e b offset None None bytes at = refl
-scalar_behind e b offset (Some view) (Some q) bytes at =
-    ap Some (ap (λ c. value_at e c (pos_of view)) bytes ∙ ap (value_at e b) (same_Some (pos_of view) (q + offset) at))
-scalar_behind e b offset None (Some q) bytes at = absurd (none-some (q + offset) at)
-scalar_behind e b offset (Some view) None bytes at = absurd (none-some (pos_of view) (sym at))
+scalar_behind e b offset found o bytes at = grind (arith, common_steps, same_Some, none-some)
 
 -- the value that a lookup finds in a map at the root of an archive
 pub scalar_at_root : {K N H W : Type 0} {ks : Specs K} {vs : Specs N} {wt : Words W} (e : Encoding N) (m : ArchivedHashMap K N H W ks vs wt) (root : View (HashMapOf K N H W)) (archive : Bor (List ℕ))

@@ -1,7 +1,7 @@
 -- The entries and keys of a map, and their hashes.
 use Rattle.rkyv_base.specs.declared.element.HasSpec.{Ghosts as Specs}
 use Rattle.rkyv_base.specs.declared.width.Word.{Ghosts as Words}
-use Rattle.std.proofs.Common.{◌≡◌, ℕ, ◌<◌, ◌∙◌, None, Some, ap, sym, arith, Bool, length, map, subst, List, Option, slice_index}
+use Rattle.std.proofs.Common.{◌≡◌, ℕ, ◌<◌, ◌∙◌, ap, sym, arith, Bool, length, map, subst, List, Option, slice_index}
 use Rattle.std.proofs.lemmas.Grind.{common_steps}
 use Rattle.std.specs.Option.{is_some}
 use Rattle.std.proofs.lemmas.List.{get_or-map, length-map}
@@ -15,8 +15,7 @@ use Rattle.rkyv_keys.specs.Lemmas.OfEntries.{valid_key}
 use Rattle.rkyv_table.specs.{IsItem, IsUnderHash, home_positions}
 use Rattle.rkyv_table.specs.declared.table.ArchivedHashTable.{ArchivedHashTable}
 use Rattle.rkyv_table.proofs.ValidTable.{item_viewable}
-use Rattle.rkyv_collections.specs.{AreUnderHash, IsEntryIn, IsKeyIn, IsMap, IsViewAt, MapWrittenAt}
-use Rattle.rkyv_collections.specs.{map_archive, map_bytes, map_pos}
+use Rattle.rkyv_collections.specs.{AreUnderHash, IsEntryIn, IsKeyIn, IsMap, IsViewAt, MapWrittenAt, map_archive, map_bytes, map_pos}
 use Rattle.rkyv_collections.specs.declared.map.ArchivedHashMap.{ArchivedHashMap}
 use Rattle.rkyv_table.proofs.WrittenTables.{home_count, home_pos, home_walked}
 
@@ -61,5 +60,4 @@ module _ {K V H W : Type 0} {ks : Specs K} {vs : Specs V} {wt : Words W} (m : Ar
 
 -- an entry is found if and only if it has a position
 pub some_at : {E : Type 0} (found : Option (View E)) (key_pos : Option ℕ) (result : Bool) → result ≡ is_some found → IsViewAt found key_pos → IsFoundAt result key_pos
-some_at None key_pos result e at = rw (e, ← at) (λ t. t, λ t. t)
-some_at (Some entry) key_pos result e at = rw (e, ← at) (λ t. t, λ t. t)
+some_at found key_pos result e at = grind (arith, common_steps)

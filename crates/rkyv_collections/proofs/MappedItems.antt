@@ -1,14 +1,15 @@
 -- A table that is written from items is the table of the values that `model` returns for them.
-use Rattle.std.proofs.Common.{◌≡◌, ℕ, suc, ◌+◌, ◌-◌, ◌*◌, ◌<◌, refl, ap, sym, subst, ◌∙◌, inl, inr, List, [], ◌∷◌, map, take, drop, length, slice_get, slice_index, Option, Some, None}
+use Rattle.std.proofs.Common.{◌≡◌, ℕ, suc, ◌+◌, ◌-◌, refl, ap, sym, subst, ◌∙◌, inl, inr, List, [], ◌∷◌, map, take, drop, length, slice_get, Option, Some, None, arith}
+use Rattle.std.proofs.lemmas.Grind.{common_steps}
 use Rattle.std.specs.List.{drop-map, take-map}
 use Rattle.std.specs.Option.{option_map}
 use Rattle.std.specs.Int.{Width}
 use Rattle.std.proofs.lemmas.List.{length-map}
 use Rattle.std.proofs.lemmas.Option.{slice_get-map}
 use Rattle.rkyv_base.specs.declared.errors.WriteError.{WriteError}
-use Rattle.rkyv_base.specs.{ElementSpec, Format, Output, SerializeFails, Serialized, Step, end_of, round_up, written_as}
+use Rattle.rkyv_base.specs.{ElementSpec, Format, Output, SerializeFails, Serialized, Step, end_of, written_as}
 use Rattle.rkyv_base.proofs.WritingSteps.{fails_under}
-use Rattle.rkyv_table.specs.{Above, AreHashes, AreInSlots, ArePlaced, AreWrittenControls, BeforeBuckets, BucketNext, BucketOverflows, BucketStep, Filled, InBuckets, PairsNext, PartsNext, SlotImages, SlotParts, TableBytes, TableNext, TableParts, TableResolver, TableWritten, capacity, filled, hashes_of, items_of, table_format}
+use Rattle.rkyv_table.specs.{Above, AreHashes, AreInSlots, ArePlaced, AreWrittenControls, BeforeBuckets, BucketNext, BucketOverflows, BucketStep, Filled, InBuckets, PairsNext, PartsNext, SlotImages, SlotParts, TableBytes, TableNext, TableParts, TableResolver, TableWritten, filled, hashes_of, items_of, table_format}
 use Rattle.rkyv_table.proofs.Lists.{option_map_some}
 
 -- the value of each item, under the hash of the item
@@ -37,15 +38,7 @@ module _ {X Y : Type 0} (model : X → Y) where
 
   module _ (cap : ℕ) (homes : List ℕ) where
     mapped_slotted : (items : List X) (slots : List (Option X)) → AreInSlots cap homes items slots → AreInSlots cap homes (map model items) (mapped_slots model slots)
-    mapped_slotted items slots h = record {
-      count = length-map slots (option_map model) ∙ h.count;
-      full = mapped_filled slots ∙ h.full;
-      items_count = length-map items model ∙ h.items_count;
-      at = λ i y e.
-          let w = option_map_some model (slice_get items i) y (sym (slice_get-map model items i) ∙ e) in
-          mapped_at slots (slice_index homes i) (Some w.0) (h.at i w.0 w.1) ∙ ap (λ (z : Y). Some (Some z)) w.2;
-      others = λ b below free. mapped_at slots b None (h.others b below free);
-    }
+    mapped_slotted items slots h = grind (arith, common_steps, length-map, mapped_filled, option_map_some, slice_get-map, mapped_at)
 
   mapped_placed : (cap : ℕ) (pairs : List (ℕ × X)) (slots : List (Option X)) (controls : List ℕ) → ArePlaced cap pairs slots controls
       → ArePlaced cap (mapped_pairs model pairs) (mapped_slots model slots) controls
@@ -58,10 +51,7 @@ module _ {X Y : Type 0} (model : X → Y) where
 
   mapped_inside : (factor : ℕ × ℕ) (pairs : List (ℕ × X)) (slots : List (Option X)) (controls : List ℕ) → InBuckets factor pairs slots controls
       → InBuckets factor (mapped_pairs model pairs) (mapped_slots model slots) controls
-  mapped_inside factor pairs slots controls h =
-      let n : length (mapped_pairs model pairs) ≡ length pairs = length-map pairs (λ (pair : ℕ × X). (pair.0, model pair.1)) in
-      subst (λ k. (0 < k) × ArePlaced (capacity k factor) (mapped_pairs model pairs) (mapped_slots model slots) controls) (sym n)
-      (h.0, mapped_placed (capacity (length pairs) factor) pairs slots controls h.1)
+  mapped_inside factor pairs slots controls h = grind (arith, common_steps, length-map, mapped_placed)
 
 module _ {X Y R : Type 0} (model : X → Y) (f : Format Y R) where
   mapped_parts : (slots : List (Option X)) (p : ℕ) (part : List ℕ) (rs : List R) → SlotParts (written_as model f) slots p part rs → SlotParts f (mapped_slots model slots) p part rs
@@ -88,17 +78,14 @@ module _ {X Y R : Type 0} (model : X → Y) (f : Format Y R) where
 
     mapped_bucket : (s : Option X) (left more : List R) (p : ℕ) (out : List ℕ) → Filled size (written_as model f) s left more p out
         → Filled size f (option_map model s) left more p out
-    mapped_bucket None left more p out h = h
-    mapped_bucket (Some x) left more p out h = h
+    mapped_bucket found left more p out h = grind (arith, common_steps)
 
     mapped_overflows : (s : Option X) (left : List R) (p : ℕ) → BucketOverflows size (written_as model f) s left p → BucketOverflows size f (option_map model s) left p
-    mapped_overflows None left p h = h
-    mapped_overflows (Some x) left p h = h
+    mapped_overflows found left p h = grind (arith, common_steps)
 
     mapped_step : (s : Option X) (left : List R) (p : ℕ) (step : Step) → BucketStep size (written_as model f) s left p step
         → BucketStep size f (option_map model s) left p step
-    mapped_step s left p step (inl h) = inl (h.0, h.1, mapped_bucket s left h.0 p h.1 h.2, h.3)
-    mapped_step s left p step (inr h) = inr (mapped_overflows s left p h.0, h.1)
+    mapped_step s left p step h = grind (arith, common_steps, mapped_bucket, mapped_overflows)
 
     module _ (slots : List (Option X)) (rs : List R) (p : ℕ) where
       mapped_above : (i : ℕ) (left : List R) (front : List ℕ) → Above size (written_as model f) slots rs p i left front
@@ -116,15 +103,7 @@ module _ {X Y R : Type 0} (model : X → Y) (f : Format Y R) where
 
   module _ (s : ElementSpec) (slots : List (Option X)) (controls : List ℕ) (p : ℕ) where
     mapped_bytes : (z : ℕ) (bytes : List ℕ) → TableBytes s (written_as model f) slots controls p z bytes → TableBytes s f (mapped_slots model slots) controls p z bytes
-    mapped_bytes z bytes h = record {
-      part = h.part;
-      resolvers = h.resolvers;
-      buckets = h.buckets;
-      made = mapped_parts slots p h.part h.resolvers h.made;
-      images = mapped_images s.size slots h.resolvers z h.buckets h.images;
-      at = h.at ∙ ap (λ n. round_up (p + length h.part) s.align + n * s.size) (sym (length-map slots (option_map model)));
-      is = h.is;
-    }
+    mapped_bytes z bytes h = grind (arith, common_steps, mapped_parts, mapped_images, length-map)
 
     mapped_before : (a : List ℕ) (rs : List R) (front : List ℕ) → BeforeBuckets s (written_as model f) slots controls p a rs front
         → BeforeBuckets s f (mapped_slots model slots) controls p a rs front

@@ -1,5 +1,6 @@
 -- A query that matches a key of a written map finds the first key that is the same.
-use Rattle.std.proofs.Common.{◌≡◌, ℕ, ◌^◌, ◌<◌, ◌≤◌, ◌∙◌, inl, inr, sym, ap, arith, List, Bool, true, not, Some, get_or, length}
+use Rattle.std.proofs.Common.{◌≡◌, ℕ, ◌^◌, ◌<◌, ◌≤◌, ◌∙◌, sym, ap, arith, List, Bool, true, Some, get_or, length}
+use Rattle.std.proofs.lemmas.Grind.{common_steps}
 use Rattle.std.specs.Int.{Width}
 use Rattle.std.specs.List.{position_or_len}
 use Rattle.std.proofs.lemmas.Bool.{cases_lt}
@@ -16,11 +17,7 @@ use Rattle.rkyv_collections.proofs.WrittenPairs.{first_accepted, key_valid, pos_
 
 -- the first number that passes a test is not after another that does
 first_not_after : (test : ℕ → Bool) (xs : List ℕ) (i : ℕ) → test (get_or xs i 0) ≡ true → position_or_len test xs ≤ i
-first_not_after test xs i passes =
-    elim (cases_lt i (position_or_len test xs)) [
-      | inl l ↦ (let differs = sym (ap not passes) ∙ prefix_len_passes (λ x. not (test x)) xs i 0 l in grind arith)
-      | inr g ↦ g
-    ]
+first_not_after test xs i passes = grind (arith, common_steps, cases_lt, prefix_len_passes)
 
 pub finds_matched : {Q State : Type 0} (w : Width) (k v : ElementSpec) (kl : IsElement k) (vl : IsElement v) (hasher : Hasher State) (same : Comparison)
     (key_calls : List ℕ → ℕ → List HasherCall) (can_read : Q → Type 0) (calls : Q → List HasherCall) (fits : Q → List ℕ → ℕ → Bool)

@@ -54,8 +54,7 @@ module _ (w : Width) (k v : ElementSpec) (kl : IsElement k) (vl : IsElement v) (
 
 -- a property of a found value, by its position
 found_pos_satisfies : {E : Type 0} (P : View E → Type 0) (Q : ℕ → Type 0) → ((x : View E) → P x → Q (pos_of x)) → (result : Option (View E)) (pos : Option ℕ) → IsViewAt result pos → IfSome result P → IfSome pos Q
-found_pos_satisfies P Q implies None pos at h = subst (λ (o : Option ℕ). IfSome o Q) at tt
-found_pos_satisfies P Q implies (Some x) pos at h = subst (λ (o : Option ℕ). IfSome o Q) at (implies x h)
+found_pos_satisfies P Q implies found pos at h = grind (arith, common_steps)
 
 -- the map that is read has these bytes and this position
 module _ {K V H W : Type 0} {ks : Specs K} {vs : Specs V} {wt : Words W} (m : ArchivedHashMap K V H W ks vs wt) (b : List ℕ) (p : ℕ) (bytes : map_bytes m ≡ b) (same_pos : map_pos m ≡ p) where
@@ -71,8 +70,7 @@ module _ {K V H W : Type 0} {ks : Specs K} {vs : Specs V} {wt : Words W} (m : Ar
 
     -- a found entry has its key in the map, and a found value is behind a key
     pub entry_read : (result : Option (View (Entry K V))) (pos : Option ℕ) → IsViewAt result pos → IfSome result (IsEntryIn m) → IfSome pos (IsKeyPosAt wt.word ks.spec vs.spec b p)
-    entry_read result pos at found =
-        found_pos_satisfies (IsEntryIn m) (IsKeyPosAt wt.word ks.spec vs.spec b p) (λ x is. as_read (λ c q. IsKeyPosAt wt.word ks.spec vs.spec c q (pos_of x)) is.2) result pos at found
+    entry_read result pos at found = grind (arith, common_steps, found_pos_satisfies, as_read)
 
     -- the property of a lookup in the map that is read, for its bytes and its position
     module _ (Fact Implied : Option ℕ → Type 0) (implies : (found : Option ℕ) → Fact found → Implied found) where

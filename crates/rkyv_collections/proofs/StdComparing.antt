@@ -1,5 +1,5 @@
 -- Lookups whose result is compared with a value.
-use Rattle.std.proofs.Common.{arith, ◌≡◌, ℕ, ◌↔◌, sym, subst, Bool, false, List, ◌∷◌, Option, Some, None}
+use Rattle.std.proofs.Common.{arith, ◌≡◌, ℕ, ◌↔◌, Bool, false, List, ◌∷◌, Option, Some}
 use Rattle.std.proofs.lemmas.Grind.{common_steps}
 use Rattle.std.specs.Prelude.{IsSomeAnd, IsTrue}
 use Rattle.std.specs.List.{All}
@@ -9,8 +9,7 @@ use Rattle.std.proofs.lemmas.Option.{none-some, same_Some}
 
 -- `x`: `f` of the found position. `P x` if and only if a position `q` is found with `P (f q)`
 pub of_found : (f : ℕ → ℕ) (P : ℕ → Type 0) (o : Option ℕ) (x : ℕ) → Some x ≡ option_map f o → P x ↔ IsSomeAnd o (λ q. P (f q))
-of_found f P None x e = absurd (none-some x (sym e))
-of_found f P (Some q) x e = (λ h. subst P (same_Some x (f q) e) h, λ h. subst P (sym (same_Some x (f q) e)) h)
+of_found f P found x e = grind (arith, common_steps, none-some, same_Some)
 
 module _ {X : Type 0} (P : X → Type 0) (whole : List X) where
   -- the remaining items decide for all

@@ -1,5 +1,5 @@
 -- Lookups in an archive of a map of std.
-use Rattle.std.proofs.Common.{arith, ◌≡◌, ℕ, ◌+◌, refl, sym, ap, subst, ◌∙◌, cond, inl, inr, ◌↔◌, Bool, true, false, List, [], ◌∷◌, None, Option, Some}
+use Rattle.std.proofs.Common.{arith, ◌≡◌, ℕ, ◌+◌, refl, sym, ap, subst, ◌∙◌, cond, inl, inr, ◌↔◌, Bool, true, List, [], ◌∷◌, None, Option, Some}
 use Rattle.std.proofs.lemmas.Grind.{common_steps}
 use Rattle.std.specs.Int.{Width}
 use Rattle.std.specs.List.{find, list_any}
@@ -32,19 +32,12 @@ first_looked_up accept_value (e ∷ es) = elim (cases_Bool (accept_value e.0)) [
 -- the result of a lookup with a value, if an equal value is found
 as_value : {B : Type 0} (value : List ℕ → ℕ → B → Type 0) (b : List ℕ) (offset : ℕ) (key_pos : Option ℕ) (o : Option B) (x : B) (r : Bool) → Some x ≡ o
     → IsTrue r ↔ IsSomeAnd key_pos (λ q. value b (q + offset) x) → IsTrue r ↔ IsValueBehind value b offset key_pos o
-as_value value b offset key_pos None x r e h = absurd (none-some x (sym e))
-as_value value b offset None (Some y) x r e h = h
-as_value value b offset (Some q) (Some y) x r e h =
-    (λ t. subst (value b (q + offset)) (same_Some x y e) (h.0 t), λ v. h.1 (subst (value b (q + offset)) (sym (same_Some x y e)) v))
+as_value value b offset key_pos found x r e h = grind (arith, common_steps, none-some, same_Some)
 
 -- the result of a lookup without a value
 as_none : {B : Type 0} (value : List ℕ → ℕ → B → Type 0) (b : List ℕ) (offset : ℕ) (key_pos : Option ℕ) (o : Option B) (found r : Bool) → None ≡ o
     → IsTrue found ↔ IsSome key_pos → r ≡ not found → IsTrue r ↔ IsValueBehind value b offset key_pos o
-as_none value b offset key_pos (Some x) found r e h n = absurd (none-some x e)
-as_none value b offset None None true r e h n = absurd (true≢false (sym (h.0 refl)))
-as_none value b offset None None false r e h n = (λ t. tt, λ t. n)
-as_none value b offset (Some q) None true r e h n = (λ t. absurd (true≢false (sym t ∙ n)), λ t. absurd t)
-as_none value b offset (Some q) None false r e h n = absurd (true≢false (sym (h.1 refl)))
+as_none value b offset key_pos o found r e h n = grind (arith, common_steps, none-some, true≢false)
 
 -- The result for a key that is looked up in entries. If they have a value,
 -- an equal one must be found. If they have none, none may be found.
@@ -61,17 +54,11 @@ module _ {A B : Type 0} (w : Width) (k v : ElementSpec) (hash : A → ℕ) (fits
 -- at the position of a pair, its value is behind the key
 value_behind : {A B : Type 0} (k v : ElementSpec) (key : List ℕ → ℕ → A → Type 0) (value : List ℕ → ℕ → B → Type 0) (b : List ℕ) (key_pos : Option ℕ) (o : Option (A × B))
     → IsPosOfPair k v key value b key_pos o → IsValueBehind value b (value_offset k v) key_pos (option_map (λ pair. pair.1) o)
-value_behind k v key value b None None h = tt
-value_behind k v key value b (Some q) (Some pair) h = h.1
-value_behind k v key value b None (Some pair) h = absurd h
-value_behind k v key value b (Some q) None h = absurd h
+value_behind k v key value b found o h = grind (arith, common_steps)
 
 -- both find something, or neither does
 both_or_none : {B : Type 0} (value : List ℕ → ℕ → B → Type 0) (b : List ℕ) (offset : ℕ) (key_pos : Option ℕ) (o : Option B) → IsValueBehind value b offset key_pos o → is_some key_pos ≡ is_some o
-both_or_none value b offset None None h = refl
-both_or_none value b offset (Some q) (Some x) h = refl
-both_or_none value b offset None (Some x) h = absurd h
-both_or_none value b offset (Some q) None h = absurd h
+both_or_none value b offset found o h = grind (arith, common_steps)
 
 some_either : {X : Type 0} (x : X) (t : Bool) → is_some (cond t (Some x) None) ≡ t
 some_either x t = grind (arith, common_steps)

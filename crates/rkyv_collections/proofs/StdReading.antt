@@ -1,9 +1,10 @@
 -- Deserializing a map of std, pair by pair.
-use Rattle.std.proofs.Common.{◌≡◌, ◌<◌, ℕ, arith, length, refl, ap, ◌∙◌, Bool, true, false, cond, subst, sym, List, [], ◌∷◌, ◌++◌, append_assoc, append-nil, Option, Some, None}
+use Rattle.std.proofs.Common.{◌≡◌, ◌<◌, ℕ, arith, length, refl, ap, ◌∙◌, Bool, true, cond, subst, sym, List, [], ◌∷◌, ◌++◌, append_assoc, append-nil, Option, Some, None}
+use Rattle.std.proofs.lemmas.Grind.{common_steps}
 use Rattle.std.specs.Borrow.{Bor}
 use Rattle.std.specs.Int.{Width}
 use Rattle.std.specs.HashSet.{HashSet, Updates}
-use Rattle.std.specs.List.{AllZip, find, list_any}
+use Rattle.std.specs.List.{AllZip, find}
 use Rattle.std.specs.Option.{option_or}
 use Rattle.std.specs.Map.{keys_of, lookup, update_all}
 use Rattle.std.proofs.lemmas.List.{map-append}
@@ -95,12 +96,10 @@ module _ {A B : Type 0} (w : Width) (k v : ElementSpec) (key : List ℕ → ℕ 
 
   -- no position remains
   pub walks_last : (left : ItemsLeft) (found : A → Option B) (stored : List A) (on : WalksOn left found stored) → left.positions ≡ [] → ArePairsAt k v key value archive.now all_positions on.pairs
-  walks_last left found stored on none =
-      subst (λ (ps : List ℕ). ArePairsAt k v key value archive.now ps on.pairs) (sym (on.in_order ∙ ap (λ (ps : List ℕ). on.before ++ ps) none ∙ append-nil on.before)) on.read
+  walks_last left found stored on none = grind (arith, common_steps, append-nil)
 
 either_way : {X : Type 0} (x : X) (s t : Bool) → cond (cond s true t) (Some x) None ≡ cond s (Some x) (cond t (Some x) None)
-either_way x true t = refl
-either_way x false t = refl
+either_way x b t = grind (arith, common_steps)
 
 -- a lookup among the keys of a set
 abbrev pub found_units : {A : Type 0} → (A → A → Bool) → List A → A → Option (Unit {0})
@@ -108,7 +107,4 @@ found_units equal keys q = lookup (equal q) (with_units keys)
 
 pub key_inserted : {A S : Type 0} (equal : A → A → Bool) (s n : HashSet A S) (a : A) → Updates equal s n a true → (q : A)
     → lookup (equal q) (with_units n.keys) ≡ cond (equal a q) (Some tt) (lookup (equal q) (with_units s.keys))
-key_inserted equal s n a u q =
-    let unit : Unit {0} = tt in
-    unit_lookup (equal q) n.keys ∙ ap (λ t. cond t (Some unit) None) (u.0 q) ∙ either_way unit (equal a q) (list_any (equal q) s.keys)
-    ∙ ap (cond (equal a q) (Some unit)) (sym (unit_lookup (equal q) s.keys))
+key_inserted equal s n a u q = grind (arith, common_steps, unit_lookup, either_way)

@@ -1,5 +1,6 @@
 -- The result of writing exactly the values of a list, or the pairs of a map of std.
-use Rattle.std.proofs.Common.{◌≡◌, ℕ, sym, ap, ◌∙◌, Bool, List, length, map, Result, Ok, Err, MatchResult}
+use Rattle.std.proofs.Common.{◌≡◌, ℕ, sym, ap, ◌∙◌, Bool, List, length, map, Result, MatchResult, arith}
+use Rattle.std.proofs.lemmas.Grind.{common_steps}
 use Rattle.std.specs.Iterator.{Drains, YieldsFirstBy}
 use Rattle.std.specs.List.{IsDistinct}
 use Rattle.std.specs.Map.{keys_of}
@@ -27,5 +28,4 @@ module _ {I S V X F : Type 0} (view : I → V) (rest : S → List V) (whole : Li
 pub writes_distinct : {K X R F : Type 0} (equal : K → K → Bool) (f : Format (List (K × X)) R) (es : List (K × X)) → IsDistinct equal (keys_of es) → (limit : ℕ) (o o' : Output) (result : Result R (WriteError F))
     → MatchResult result (Serialized limit f es o o') (SerializeFails limit f es o o')
     → MatchResult result (Serialized limit (of_entries equal f) es o o') (SerializeFails limit (of_entries equal f) es o o')
-writes_distinct equal f es unique limit o o' (Ok r) h = (h.0, h.1, (unique, h.2), h.3)
-writes_distinct equal f es unique limit o o' (Err e) h = h
+writes_distinct equal f es unique limit o o' result h = grind (arith, common_steps)

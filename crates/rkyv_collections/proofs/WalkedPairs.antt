@@ -1,5 +1,6 @@
 -- A walk over a map that represents a list returns each item of the list once.
 use Rattle.std.proofs.Common.{◌≡◌, ◌∙◌, ℕ, zero, suc, ◌<◌, List, [], ◌∷◌, false, Some, ap, arith, eqb, get_or, length, refl, remove, slice_get, slice_index, slice_set, subst, swap, sym, IsPermutation}
+use Rattle.std.proofs.lemmas.Grind.{common_steps}
 use Rattle.std.specs.Int.{Width}
 use Rattle.std.specs.List.{AllZip, Contains, IsDistinct}
 use Rattle.std.proofs.lemmas.Bool.{eq-eqb, true≢false}
@@ -18,8 +19,7 @@ use Rattle.rkyv_collections.specs.Lemmas.PairHomes.{homes_count, homes_visited}
 
 -- a number of a list that isn't its first is behind it
 behind : (x z : ℕ) (xs : List ℕ) → (x ≡ z → ⊥) → Contains (x ∷ xs) z → Contains xs z
-behind x z xs other (zero, inside, is) = absurd (other is)
-behind x z xs other (suc k, inside, is) = (k, omega (arith, inside), is)
+behind x z xs other n = grind (arith, common_steps)
 
 pub permuted : (xs ys : List ℕ) → IsDistinct eqb xs → length ys ≡ length xs → ((x : ℕ) → Contains xs x → Contains ys x) → IsPermutation xs ys
 permuted [] [] distinct long within = IsPermutation-refl []
@@ -68,11 +68,7 @@ module _ {X : Type 0} (R : ℕ → X → Type 0) where
   zip_swap : (positions : List ℕ) (xs : List X) (i j : ℕ) → i < length positions → j < length positions → AllZip R positions xs → AllZip R (swap positions i j) (swap xs i j)
   zip_swap [] xs i j hi hj h = absurd (omega (arith, hi))
   zip_swap (q ∷ positions) [] i j hi hj h = absurd h
-  zip_swap (q ∷ positions) (x ∷ xs) i j hi hj h =
-      let qs = q ∷ positions in
-      let ys = x ∷ xs in
-      zip_set (slice_set qs i (get_or qs j q)) (slice_set ys i (get_or ys j x)) j (get_or qs i q) (get_or ys i x)
-      (zip_set qs ys i (get_or qs j q) (get_or ys j x) h (zip_at qs ys j q x h hj)) (zip_at qs ys i q x h hi)
+  zip_swap (q ∷ positions) (x ∷ xs) i j hi hj h = grind (arith, common_steps, positions, zip_set, zip_at)
 
   -- the items at some positions are at the same positions in another order
   pub permuted_has_each : (positions others : List ℕ) (xs : List X) → IsPermutation positions others → AllZip R positions xs → HasEachOnce R others xs

@@ -1,6 +1,7 @@
 -- Written maps are valid in each archive with their bytes, and so are copies of their bytes.
 use Rattle.std.proofs.Common.{◌≡◌, ℕ, ◌+◌, ◌-◌, ◌*◌, ◌<◌, ◌≤◌, refl, sym, ap, subst, ◌∙◌, arith}
 use Rattle.std.proofs.Common.{inl, inr, List, [], ◌∷◌, map, length, slice_get, slice_index, Some}
+use Rattle.std.proofs.lemmas.Grind.{common_steps}
 use Rattle.std.specs.Int.{Width, byte_len}
 use Rattle.std.proofs.lemmas.List.{ext_get_or, get_or-map, length-map}
 use Rattle.std.proofs.lemmas.Option.{slice_get_cases, slice_get_within}
@@ -46,9 +47,7 @@ module _ (k v : ElementSpec) (kl : IsElement k) (vl : IsElement v) (w : Width) w
   -- the key of a valid entry is valid
   pub key_valid : (b : List ℕ) (q lo hi l : ℕ) → IsValidWithin S b q lo hi l → hi ≤ q
       → ValidAt k b q
-  key_valid b q lo hi l h o =
-      let e = h.is_valid in
-      valid_at k kl b q h.lower hi e.1 h.below o e.2
+  key_valid b q lo hi l h o = grind (arith, common_steps, valid_at)
 
   module _ (b : List ℕ) (p lo hi l : ℕ) (h : IsValidTable w S b p lo hi l) (hashes homes : List ℕ)
       (written : WrittenAt w b p hashes homes) where

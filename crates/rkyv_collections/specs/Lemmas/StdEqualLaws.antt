@@ -2,6 +2,7 @@
 use Rattle.std.proofs.Common.{◌≡◌, ℕ, zero, suc, ◌+◌, ◌<◌, ◌^◌, refl, sym, ap, subst, ◌∙◌, arith}
 use Rattle.std.proofs.Common.{Bool, true, false, List, [], ◌∷◌, map, length, slice_get, slice_index}
 use Rattle.std.proofs.Common.{Some, get_or}
+use Rattle.std.proofs.lemmas.Grind.{common_steps}
 use Rattle.std.specs.Cmp.{IsEquivalence}
 use Rattle.std.specs.Int.{Width}
 use Rattle.std.specs.List.{All, IsDistinct, find}
@@ -54,8 +55,7 @@ module _ (w : Width) (k v : ElementSpec) (kl : IsElement k) (vl : IsElement v) {
     item_pos i = item_at w size b p (slice_index st.homes i)
 
     hashes_total : length hashes ≡ length st.homes
-    hashes_total = length-map (home_positions w size b p st.homes) (there b)
-        ∙ length-map st.homes (item_at w size b p)
+    hashes_total = grind (arith, common_steps, length-map)
 
     key_valid : (i : ℕ) → i < length st.homes → ValidAt k b (item_pos i)
     key_valid i h =

@@ -1,6 +1,7 @@
 -- The maps of std that one archived map represents are equal.
-use Rattle.std.proofs.Common.{◌≡◌, ℕ, ◌+◌, refl, sym, ap, ◌∙◌, inl, inr, arith, Bool, true, false}
+use Rattle.std.proofs.Common.{◌≡◌, ℕ, ◌+◌, refl, sym, ap, ◌∙◌, inl, inr, arith, Bool, true}
 use Rattle.std.proofs.Common.{cond, List, [], ◌∷◌, Option, Some, None}
+use Rattle.std.proofs.lemmas.Grind.{common_steps}
 use Rattle.std.specs.Cmp.{IsEquivalence}
 use Rattle.std.specs.HashMap.{HashMap, entries_eq, get, hash_map_eq}
 use Rattle.std.specs.HashSet.{HashSet, hash_set_eq}
@@ -59,10 +60,7 @@ module _ {A B : Type 0} (equal : A → A → Bool) (laws : IsEquivalence equal) 
     agreed : (o r : Option (A × B))
         → option_eq (λ p q. same p.1 q.1) o r
         ≡ option_eq same (option_map (λ (e : A × B). e.1) o) (option_map (λ (e : A × B). e.1) r)
-    agreed None None = refl
-    agreed None (Some y) = refl
-    agreed (Some x) None = refl
-    agreed (Some x) (Some y) = refl
+    agreed found o = grind (arith, common_steps)
 
     all_pass : {X : Type 0} (test : X → Bool) → ((x : X) → test x ≡ true) → (xs : List X)
         → list_all test xs ≡ true
@@ -144,10 +142,7 @@ module _ {A B : Type 0} (equal : A → A → Bool) (laws : IsEquivalence equal) 
 module _ {A : Type 0} (equal : A → A → Bool) (laws : IsEquivalence equal) where
   same_test : (unit : Unit {0}) (s t : Bool)
       → option_eq (λ x y. true) (cond s (Some unit) None) (cond t (Some unit) None) ≡ true → s ≡ t
-  same_test unit true true h = refl
-  same_test unit true false h = absurd (true≢false (sym h))
-  same_test unit false true h = absurd (true≢false (sym h))
-  same_test unit false false h = refl
+  same_test unit b t h = grind (arith, common_steps, true≢false)
 
   pub std_set_once : {S : Type 0} (k : ElementSpec) → IsElement k
       → (w : Width) (key : List ℕ → ℕ → A → Type 0) → RepresentsUniquely k key equal

@@ -1,7 +1,7 @@
 -- The stored key that equals a key, after insertions.
-use Rattle.std.proofs.Common.{◌≡◌, ℕ, zero, suc, refl, sym, ap, subst, ◌∙◌, arith, inl, inr}
-use Rattle.std.proofs.Common.{Bool, true, false, not, List, [], ◌∷◌, ◌++◌, slice_get}
-use Rattle.std.proofs.Common.{None, Option, Some}
+use Rattle.std.proofs.Common.{◌≡◌, ℕ, zero, suc, refl, sym, ap, subst, ◌∙◌, arith, inl, inr, Bool}
+use Rattle.std.proofs.Common.{true, not, List, [], ◌∷◌, ◌++◌, slice_get, None, Option, Some}
+use Rattle.std.proofs.lemmas.Grind.{common_steps}
 use Rattle.std.specs.Cmp.{IsEquivalence}
 use Rattle.std.specs.HashMap.{HashMap, IsUnique, PutsEntry, get, keys}
 use Rattle.std.specs.HashSet.{HashSet, PutsKey, contains}
@@ -130,11 +130,4 @@ module _ {A : Type 0} (equal : A → A → Bool) (laws : IsEquivalence equal) wh
   pub key_put : {S : Type 0} (s n : HashSet A S) (a : A) (added : Bool)
       → added ≡ not (contains equal s a) → IsDistinct equal n.keys → PutsKey s n a added
       → AddsKey equal s.keys n.keys a
-  key_put s n a true is d puts = key_added s.keys n.keys a d puts
-  key_put s n a false is d puts =
-      subst (λ (after : List A). AddsKey equal s.keys after a) (sym puts)
-      (key_kept s.keys a (present (contains equal s a) is))
-    where
-      present : (b : Bool) → false ≡ not b → b ≡ true
-      present true h = refl
-      present false h = absurd (both_ways true (sym h) refl)
+  key_put s n a b is d puts = grind (arith, common_steps, key_added, key_kept, both_ways)

@@ -1,4 +1,5 @@
-use Rattle.std.proofs.Common.{◌≡◌, ◌∙◌, sym}
+use Rattle.std.proofs.Common.{◌≡◌, ◌∙◌, arith}
+use Rattle.std.proofs.lemmas.Grind.{common_steps}
 use Rattle.rkyv_base.specs.{archive_in, pos_in}
 use Rattle.rkyv_keys.specs.{hash_at, hash_of}
 use Rattle.rkyv_collections.specs.{IsViewAt}
@@ -6,8 +7,7 @@ use Rattle.rkyv_collections.proofs.SealedMap.{entry_read, found_by_read}
 use Rattle.rkyv_collections.proofs.map.ArchivedHashMap.find_pos.Goals as goal
 
 pub returns-clause-walked : goal.returns-clause-walked
-returns-clause-walked g c =
-    entry_read c.map_in.result (archive_in c.args.this.now) (pos_in c.args.this.now) c.map_in.ensures.bytes c.map_in.ensures.pos c.find.result c.found_pos.result (sym c.found_pos.ensures) c.find.ensures.found.walked
+returns-clause-walked g c = grind (arith, common_steps, entry_read)
 
 pub returns-clause-finds : goal.returns-clause-finds
 returns-clause-finds g c =
