@@ -101,8 +101,7 @@ module _ (w : Width) (kind : IsArchiveWord w) (b : List ℕ) (p n begin : ℕ) (
 
 -- a property of the bytes and the position of a view is one of those that it is of
 pub moved_from_view : {T : Type 0} (view new : View T) (a : Bor (List ℕ)) (p : ℕ) → view ≡ new → IsAt new a p → (P : List ℕ → ℕ → Type 0) → P view.archive.now view.pos → P a.now p
-moved_from_view view new a p same at P =
-    moved P view.archive.now a.now view.pos p (ap (λ v. v.archive.now) same ∙ ap (λ b. b.now) at.0) (ap (λ v. v.pos) same ∙ at.1)
+moved_from_view view new a p same at P = grind (arith, common_steps, moved)
 
 -- the buckets of a table, by its decoded header
 module _ (w : Width) (kind : IsArchiveWord w) (b : List ℕ) (p : ℕ) (v : Viewable (table_spec w (stored_index_spec w)) b p) (header : Decoded) (is : IsDecoded w b p header) where

@@ -1,5 +1,6 @@
 -- The first accepted index below `n`, where one index is known to be accepted.
-use Rattle.std.proofs.Common.{◌≡◌, ℕ, zero, suc, ◌+◌, ◌-◌, ◌<◌, ◌∙◌, refl, sym, ap, arith, subst, cond, Bool, true, false, not, List, [], ◌∷◌, ◌++◌, Option, Some, None}
+use Rattle.std.proofs.Common.{◌≡◌, ℕ, zero, suc, ◌+◌, ◌-◌, ◌<◌, ◌∙◌, refl, ap, arith, cond, Bool, true, not, List, [], ◌∷◌, ◌++◌, Option, Some, None}
+use Rattle.std.proofs.lemmas.Grind.{common_steps}
 use Rattle.std.specs.List.{find, range_with_len}
 use Rattle.std.specs.Option.{is_some}
 use Rattle.std.proofs.lemmas.Bool.{eq-eqb, ne_eqb}
@@ -9,16 +10,13 @@ use Rattle.rkyv_table.proofs.Groups.{range_append}
 use Rattle.rkyv_index.specs.{indices_of}
 
 front_step : (t : Bool) (y x : ℕ) (r r' : Option ℕ) → (r ≡ Some x → r' ≡ Some x) → cond t (Some y) r ≡ Some x → cond t (Some y) r' ≡ Some x
-front_step true y x r r' h e = e
-front_step false y x r r' h e = h e
+front_step b y x r r' h e = grind (arith, common_steps)
 
 none_step : (t : Bool) (y : ℕ) (r r' s : Option ℕ) → (r ≡ None → r' ≡ s) → cond t (Some y) r ≡ None → cond t (Some y) r' ≡ s
-none_step true y r r' s h e = absurd (none-some y (sym e))
-none_step false y r r' s h e = h e
+none_step b y r r' s h e = grind (arith, common_steps, none-some)
 
 below_step : (t : Bool) (y x m : ℕ) (r : Option ℕ) → y < m → (r ≡ Some x → x < m) → cond t (Some y) r ≡ Some x → x < m
-below_step true y x m r lt h e = subst (λ k. k < m) (same_Some y x e) lt
-below_step false y x m r lt h e = h e
+below_step b y x m r lt h e = grind (arith, common_steps, same_Some)
 
 module _ (P : ℕ → Bool) where
   find-front : (xs ys : List ℕ) (x : ℕ) → find P xs ≡ Some x → find P (xs ++ ys) ≡ Some x
@@ -46,13 +44,7 @@ module _ (P : ℕ → Bool) where
         ap (range_with_len 0) e ∙ range_append 0 i (suc (n - (i + 1))) ∙ ap (λ k. indices_of i ++ range_with_len k (suc (n - (i + 1)))) z
 
     by_front : (o : Option ℕ) → find P (indices_of i) ≡ o → not (is_found_at i (find P (indices_of n))) ≡ is_some o
-    by_front None e =
-        let f : find P (indices_of n) ≡ Some i = ap (find P) split ∙ find-behind (indices_of i) (i ∷ rest) e ∙ ap (λ b. cond b (Some i) (find P rest)) ok in
-        ap (λ o. not (is_found_at i o)) f ∙ ap not (eq-eqb i i refl)
-    by_front (Some x) e =
-        let f : find P (indices_of n) ≡ Some x = ap (find P) split ∙ find-front (indices_of i) (i ∷ rest) x e in
-        let lt = found_below 0 i x e in
-        ap (λ o. not (is_found_at i o)) f ∙ ap not (ne_eqb i x (λ same. omega (arith, lt, same)))
+    by_front found e = grind (arith, common_steps, split, find-behind, eq-eqb, find-front, found_below, ne_eqb)
 
     -- an accepted index isn't the first if and only if an earlier index is accepted
     pub another_repeated : not (is_found_at i (find P (indices_of n))) ≡ is_some (find P (indices_of i))

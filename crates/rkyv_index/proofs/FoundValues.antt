@@ -1,15 +1,16 @@
 -- From the value that a lookup finds in the index map that is read to its position in the archive.
 use Rattle.rkyv_base.specs.declared.element.HasSpec.{Ghosts as Specs}
 use Rattle.rkyv_base.specs.declared.width.Word.{Ghosts as Words}
-use Rattle.std.proofs.Common.{◌≡◌, ℕ, ◌+◌, ◌<◌, ◌≤◌, ◌∙◌, Bool, None, Some, List, Option, ap, length, refl, subst, sym}
+use Rattle.std.proofs.Common.{◌≡◌, ℕ, ◌+◌, ◌<◌, ◌≤◌, ◌∙◌, Bool, None, Some, List, Option, ap, length, subst, sym, arith}
+use Rattle.std.proofs.lemmas.Grind.{common_steps}
 use Rattle.std.specs.Borrow.{Bor}
 use Rattle.std.specs.Option.{option_map}
 use Rattle.std.specs.Prelude.{IfSome}
-use Rattle.rkyv_base.specs.{Viewable, pos_of, pos_of_found, value_offset}
+use Rattle.rkyv_base.specs.{Viewable, pos_of, pos_of_found}
 use Rattle.rkyv_base.specs.declared.view.View.{View}
 use Rattle.rkyv_keys.specs.{KeyLookup}
 use Rattle.rkyv_table.specs.{len_at}
-use Rattle.rkyv_index.specs.{FoundByHas, FoundKeyHas, FoundValueHas, GetsKey, Index, IsIndex, IsStored, IsStoredIndex, IsValueOf, MatchesAt, index_bytes, index_over, index_pos, key_pos, pair_at, value_part, value_pos_of}
+use Rattle.rkyv_index.specs.{FoundByHas, FoundKeyHas, FoundValueHas, GetsKey, Index, IsIndex, IsStored, IsStoredIndex, IsValueOf, MatchesAt, index_bytes, index_over, index_pos, value_part, value_pos_of}
 use Rattle.rkyv_index.specs.declared.map.ArchivedIndexMap.{ArchivedIndexMap}
 use Rattle.rkyv_index.proofs.SealedIndex.{as_read, found_key_read}
 
@@ -43,9 +44,7 @@ module _ {K V H W : Type 0} {ks : Specs K} {vs : Specs V} {wt : Words W} (m : Ar
   -- the position of a found value
   value_at_index : (r : Option (View V)) (index : Option ℕ) → MatchesAt (IsValueOf m) r index → pos_of_found r ≡ option_map (value_pos_of (index_over wt ks vs b p)) index
   value_at_index r None at = ap pos_of_found at
-  value_at_index r (Some i) at =
-      let there : key_pos m i ≡ pair_at wt.word ks.spec vs.spec b p i = as_read m b p bytes pos (λ d q. key_pos m i ≡ pair_at wt.word ks.spec vs.spec d q i) refl in
-      ap pos_of_found at.1 ∙ ap Some (at.2.at.1 ∙ ap (λ n. n + value_offset ks.spec vs.spec) there)
+  value_at_index r (Some i) at = grind (arith, common_steps, as_read)
 
   pub value_found : (a : KeyLookup) (r : Option (View V)) (found : Option ℕ) → found ≡ pos_of_found r → GetsKey value_part m a r → FoundValueHas (index_over wt ks vs b p) a (λ q. found ≡ q)
   value_found a r found e got = found_implied (λ index at. e ∙ value_at_index r index at) (found_key_read m b p bytes pos value_part got)
@@ -58,10 +57,7 @@ module _ {K V H W : Type 0} {ks : Specs K} {vs : Specs V} {wt : Words W} (m : Ar
   -- a found value is inside the archive
   pub value_inside : (r : Option (View V)) (found : Option ℕ) → found ≡ pos_of_found r → IfSome r (λ x. (i : ℕ) × IsStored m i × IsValueOf m i x) → IfSome found (λ q. q + vs.spec.size ≤ length b)
   value_inside None found e walked = subst (λ o. IfSome o (λ q. q + vs.spec.size ≤ length b)) (sym e) tt
-  value_inside (Some x) found e walked =
-      let is = walked.2 in
-      let same : length x.archive.now ≡ length b = ap (λ (a : Bor (List ℕ)). length a.now) is.at.0 ∙ ap length bytes in
-      subst (λ o. IfSome o (λ q. q + vs.spec.size ≤ length b)) (sym e) (subst (λ n. pos_of x + vs.spec.size ≤ n) same is.viewable.inside)
+  value_inside (Some x) found e walked = grind (arith, common_steps)
 
   -- a found value is valid
   pub value_viewable : (r : Option (View V)) (found : Option ℕ) → found ≡ pos_of_found r → IfSome r (λ x. (i : ℕ) × IsStored m i × IsValueOf m i x) → IfSome found (λ q. Viewable vs.spec b q)

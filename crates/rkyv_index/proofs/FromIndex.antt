@@ -1,7 +1,8 @@
 -- From the index that a lookup finds to the clauses on its result.
 use Rattle.rkyv_base.specs.declared.element.HasSpec.{Ghosts as Specs}
 use Rattle.rkyv_base.specs.declared.width.Word.{Ghosts as Words}
-use Rattle.std.proofs.Common.{◌≡◌, ℕ, None, Some, Bool, List, Option, subst, sym}
+use Rattle.std.proofs.Common.{◌≡◌, ℕ, None, Some, Bool, List, Option, subst, sym, arith}
+use Rattle.std.proofs.lemmas.Grind.{common_steps}
 use Rattle.std.specs.Option.{is_some}
 use Rattle.std.specs.Prelude.{IfSome}
 use Rattle.rkyv_base.specs.declared.view.View.{View}
@@ -11,8 +12,7 @@ use Rattle.rkyv_index.specs.declared.map.ArchivedIndexMap.{ArchivedIndexMap}
 
 -- `is_found` is `true` if and only if an index is found
 pub some_at : (found index : Option ℕ) (is_found : Bool) → is_found ≡ is_some found → found ≡ index → IsFoundAt is_found index
-some_at None index is_found e at = rw (e, ← at) (λ t. t, λ t. t)
-some_at (Some i) index is_found e at = rw (e, ← at) (λ t. t, λ t. t)
+some_at found index is_found e at = grind (arith, common_steps)
 
 module _ {K V H W : Type 0} {ks : Specs K} {vs : Specs V} {wt : Words W} where
   -- the clauses on a found index are clauses on another result at it

@@ -1,5 +1,6 @@
 -- Steps of writing an index map, part by part.
-use Rattle.std.proofs.Common.{◌≡◌, ℕ, ◌+◌, refl, sym, ap, ◌∙◌, subst, arith, ◌≤◌, List, [], ◌∷◌, ◌++◌, length, append-nil, length-append, inl, inr, Result, Ok, Err, MatchResult}
+use Rattle.std.proofs.Common.{◌≡◌, ℕ, ◌+◌, refl, sym, ap, ◌∙◌, subst, arith, ◌≤◌, List, [], ◌∷◌, ◌++◌, length, append-nil, length-append, inl, inr, Result, MatchResult}
+use Rattle.std.proofs.lemmas.Grind.{common_steps}
 use Rattle.std.specs.Int.{Width}
 use Rattle.std.specs.Iterator.{Drains, Yields, YieldsFirst}
 use Rattle.rkyv_base.specs.declared.errors.WriteError.{WriteError}
@@ -21,15 +22,7 @@ module _ {S A : Type 0} (rest : S → List A) where
   drained xs s d = sym (left_after xs s d.1.0 d.1.1 ∙ ap (λ (l : List A). xs ++ l) d.1.2.0 ∙ append-nil xs)
 
   pub no_other_drained : (len : ℕ) (s : S) → length (rest s) ≡ len → (n : ℕ) → YieldsOtherCount (YieldsFirst rest) len s n → ⊥
-  no_other_drained len s e n h =
-      let xs = h.0.0 in
-      elim h.0.2 [
-        | inl d ↦ h.1 (h.0.1 ∙ omega (arith, ap length (drained xs s d.1), e))
-        | inr d ↦
-            let l = ap length (left_after xs s d.1.0 d.1.1) in
-            let a = length-append xs (rest d.1.0) in
-            omega (arith, h.0.1, d.0, l, a, e)
-      ]
+  no_other_drained len s e n h = grind (arith, common_steps, drained, left_after, length-append)
 
 module _ (F : Type 0) {P X : Type 0} (w : Width) (ps : ElementSpec) (e : Encoding P) (hash : X → ℕ) (factor : ℕ × ℕ) (limit : ℕ) (xs : List X) (o : Output) where
   abbrev Indices : List (ℕ × P)
@@ -56,8 +49,7 @@ module _ (F : Type 0) {P X : Type 0} (w : Width) (ps : ElementSpec) (e : Encodin
     pub indices_result : (result : Result TableResolver (WriteError F))
         → MatchResult result (WroteItems DrainsRest (length xs) factor max TableOf o o1 limit) (WriteItemsFails DrainsRest (length xs) factor max TableOf o o1 limit (YieldsOtherCount (YieldsFirst rest) (length xs) state))
         → MatchResult result (Serialized limit TableOf Indices o o1) (OwnOrSerializeFails (length xs) factor max NoOther limit TableOf Indices o o1)
-    indices_result (Ok r) h = wrote_indices r h
-    indices_result (Err err) h = indices_not_written err h
+    indices_result result h = grind (arith, common_steps, wrote_indices, indices_not_written)
 
   module _ {R : Type 0} (s : ElementSpec) (f : Format X R) where
     abbrev Next : List ℕ → Step → Type 0
@@ -73,8 +65,7 @@ module _ (F : Type 0) {P X : Type 0} (w : Width) (ps : ElementSpec) (e : Encodin
     -- if writing the indices fails, writing the values fails with the same error
     pub indices_fail : (max : ℕ) (o1 : Output) (err : WriteError F) → OwnOrSerializeFails (length xs) factor max NoOther limit TableOf Indices o o1 err
         → OwnOrSerializeFails (length xs) factor max NoOther limit (row_format w ps e s f hash factor) xs o o1 err
-    indices_fail max o1 err (inl h) = inl h
-    indices_fail max o1 err (inr h) = inr (table_fails o1 err h)
+    indices_fail max o1 err h = grind (arith, common_steps, table_fails)
 
     module _ (o1 : Output) (t : TableResolver) (wrote : Serialized limit TableOf Indices o o1 t) where
       abbrev table : List ℕ

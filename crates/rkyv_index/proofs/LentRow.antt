@@ -1,5 +1,6 @@
 -- Writing an index map of owned or borrowed items is writing that of the values.
-use Rattle.std.proofs.Common.{◌≡◌, ℕ, ◌+◌, refl, ap, sym, subst, ◌∙◌, inl, inr, List, [], ◌∷◌, map, take, length, Some, Result, Ok, Err, MatchResult}
+use Rattle.std.proofs.Common.{◌≡◌, ℕ, ◌+◌, refl, ap, sym, subst, ◌∙◌, inl, inr, List, [], ◌∷◌, map, take, length, Some, Result, Ok, Err, MatchResult, arith}
+use Rattle.std.proofs.lemmas.Grind.{common_steps}
 use Rattle.std.specs.Int.{Width}
 use Rattle.std.specs.List.{take-map}
 use Rattle.std.specs.Prelude.{slice_get}
@@ -73,15 +74,7 @@ module _ {X Y R : Type 0} (value_of : X → Y) (f : Format Y R) where
       mapped_front front t rs h = record { head = h.head; serialized = mapped_zeros h.head t rs h.serialized; is = h.is }
 
       mapped_whole : (part : List ℕ) (r : IndexResolver) → IndexParts w ps e s F own factor xs p part r → IndexParts w ps e s f hash factor (map value_of xs) p part r
-      mapped_whole part r h = record {
-        front = h.front;
-        resolvers = h.resolvers;
-        row = h.row;
-        before = mapped_front h.front r.table h.resolvers h.before;
-        at = h.at;
-        images = mapped_images xs h.resolvers r.entries h.row h.images;
-        is = h.is;
-      }
+      mapped_whole part r h = grind (arith, common_steps, mapped_front, mapped_images)
 
       mapped_next : (front : List ℕ) (step : Step) → IndexNext w ps e s F own factor xs p front step → IndexNext w ps e s f hash factor (map value_of xs) p front step
       mapped_next front step (inl h) = inl (subst (λ (l : List (ℕ × P)). PairsNext w ps (scalar_format e) factor l p front step) (mapped_indices 0 xs) h)
@@ -117,12 +110,7 @@ module _ (G : Type 0) {BK BV A B P R Q : Type 0} (key : BK → A) (value : BV �
   pub items_result : (result : Result IndexResolver (WriteError G))
       → MatchResult result (Serialized limit OfEntries entries o o') (OwnOrSerializeFails (length entries) factor max NoOther limit OfEntries entries o o')
       → MatchResult result (WroteItems yields len factor max (written_as (pair_values key value) Of) o o' limit) (WriteItemsFails yields len factor max (written_as (pair_values key value) Of) o o' limit other)
-  items_result (Ok r) h = (
-    has,
-    pairs_of entries,
-    (exactly, pairs_count),
-    subst (λ l. Serialized limit Of l o o' r) (pairs_lent key value entries) (mapped_serialized (pair_of key value) (pair_format k v kf vf) w ps e (entry_spec k v) (λ pair. hash pair.0) factor entries o o' limit r h),
-  )
+  items_result (Ok r) h = grind (arith, common_steps, pairs_count, pairs_lent, mapped_serialized)
   items_result (Err err) (inl h) = inl (own_counted len factor max NoOther other (λ n z. absurd z) err (subst (λ n. OwnCause n factor max NoOther err) count h.0), h.1)
   items_result (Err err) (inr h) = inr (
     has,

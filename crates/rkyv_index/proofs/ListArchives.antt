@@ -1,5 +1,6 @@
 -- Lookups in an index map at the root of an archive that represents a list of pairs.
-use Rattle.std.proofs.Common.{◌≡◌, ℕ, ◌+◌, ◌∙◌, ap, arith, inl, inr, refl, subst, suc, sym, Bool, true, false, List, [], ◌∷◌, None, Option, Some, length}
+use Rattle.std.proofs.Common.{◌≡◌, ℕ, ◌+◌, ◌∙◌, ap, arith, inl, inr, refl, subst, suc, sym, Bool, List, [], ◌∷◌, None, Option, Some, length}
+use Rattle.std.proofs.lemmas.Grind.{common_steps}
 use Rattle.std.specs.Borrow.{Bor}
 use Rattle.std.specs.Prelude.{MatchOption, cond}
 use Rattle.std.specs.List.{find, list_any, position_from, range_with_len, slice_get}
@@ -132,10 +133,7 @@ module _ {A : Type 0} (accept : A → Bool) where
   ]
 
 is_found : (found : Bool) (index : Option ℕ) → IsFoundAt found index → found ≡ is_some index
-is_found true None e = absurd (true≢false (sym (e.0 refl)))
-is_found false None e = refl
-is_found true (Some n) e = refl
-is_found false (Some n) e = absurd (true≢false (sym (e.1 refl)))
+is_found b found e = grind (arith, common_steps, true≢false)
 
 -- a lookup in the index set at the root of an archive finds the first item of the list
 pub members_listed : {A Q K W : Type 0} (H : Type 0) (wt : Words W) → IsArchiveWord wt.word → (ks : Specs K) (keys : NativeKeys A Q) → FitsItsEqual ks.spec keys.represents keys.equal keys.fits

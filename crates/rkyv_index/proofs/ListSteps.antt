@@ -1,5 +1,6 @@
 -- Properties of each element of a list after a push, of two equal lists, and of a count.
 use Rattle.std.proofs.Common.{◌≡◌, ◌<◌, ℕ, zero, suc, ◌+◌, ◌∙◌, List, [], ◌∷◌, ◌++◌, Bool, true, Some, ap, arith, length, refl, subst, sym}
+use Rattle.std.proofs.lemmas.Grind.{common_steps}
 use Rattle.std.proofs.lemmas.Bool.{and_from}
 use Rattle.std.proofs.lemmas.List.{length_push}
 use Rattle.std.proofs.lemmas.Option.{none-some, same_Some}
@@ -34,5 +35,4 @@ equal_lists equal (x ∷ xs) (y ∷ ys) n h =
 
 -- a number that equals one that isn't 0 is above 0
 pub above_zero : (n m : ℕ) → n ≡ m → (n ≡ 0 → ⊥) → 0 < m
-above_zero n zero is not_zero = absurd (not_zero is)
-above_zero n (suc m) is not_zero = omega arith
+above_zero n m is not_zero = grind (arith, common_steps)

@@ -68,9 +68,7 @@ module _ {K V H W P N : Type 0} {ks : Specs K} {vs : Specs V} {ts : Specs P} {wt
       )
 
   pub item_index : (h : View P) → IsItem t h → IsIndexOf w m.view h
-  item_index h item =
-      let there = item_there h item in
-      index_at_bucket h there.0 there.1 there.2 (read_there h item)
+  item_index h item = grind (arith, common_steps, item_there, index_at_bucket, read_there)
 
   -- a full bucket of the map has that index
   pub item_stored : (h : View P) → IsItem t h → IsStored m (number_at w (bytes_of h) h.pos)
@@ -81,8 +79,7 @@ module _ {K V H W P N : Type 0} {ks : Specs K} {vs : Specs V} {ts : Specs P} {wt
       → pos_of_found result ≡ pos_found generic_kind w ts.spec.size (table_bytes t) (table_pos t) hash (λ q. accept (number_at w (index_bytes m) q))
       → option_map (number_at w (index_bytes m)) (pos_of_found result)
       ≡ option_map (number_at w (index_bytes m)) (pos_found generic_kind w (byte_len w) (index_bytes m) (index_pos m) hash (λ q. accept (number_at w (index_bytes m) q)))
-  index_is result hash accept found =
-      ap (option_map (number_at w (index_bytes m))) (found ∙ found_is hash (λ q. accept (number_at w (index_bytes m) q)))
+  index_is result hash accept found = grind (arith, common_steps, found_is)
 
   module _ (key_hash : List ℕ → ℕ → ℕ) (homes : List ℕ) (written : IndexWrittenAt w s.size key_hash (index_bytes m) (index_pos m) homes) where
     abbrev hashes : List ℕ

@@ -1,7 +1,8 @@
 -- A query that matches a key of a written index map finds that key or one that is the same.
 use Rattle.rkyv_base.specs.declared.element.HasSpec.{Ghosts as Specs}
 use Rattle.rkyv_base.specs.declared.width.Word.{Ghosts as Words}
-use Rattle.std.proofs.Common.{◌≡◌, ℕ, ◌<◌, ◌≤◌, ◌^◌, ◌∙◌, arith, inl, inr, refl, sym, Bool, true, List, None, Option, Some}
+use Rattle.std.proofs.Common.{◌≡◌, ℕ, ◌<◌, ◌≤◌, ◌^◌, ◌∙◌, arith, inl, inr, refl, Bool, true, List, None, Option, Some}
+use Rattle.std.proofs.lemmas.Grind.{common_steps}
 use Rattle.std.specs.List.{find, range_with_len}
 use Rattle.std.proofs.lemmas.Bool.{both_ways, cases_lt}
 use Rattle.rkyv_scan.specs.{Hasher, HasherCall, hash_of_calls}
@@ -42,8 +43,7 @@ module _ {K V H W Q State : Type 0} {ks : Specs K} {vs : Specs V} {wt : Words W}
 
   -- two keys that the query matches are the same
   matching_same : (i j : ℕ) → i < index_len m → j < index_len m → accept i ≡ true → accept j ≡ true → same (index_bytes m) (key_pos m i) (index_bytes m) (key_pos m j) ≡ true
-  matching_same i j below there ok okay =
-      sym (query.respects_same q (index_bytes m) (index_bytes m) (key_pos m i) (key_pos m j) ready (key_valid i below) (key_valid j there) ok) ∙ okay
+  matching_same i j below there ok okay = grind (arith, common_steps, key_valid)
 
   pub finds_same_key : (homes : List ℕ) → IsWritten (index_of m) (hash_at hasher key_calls) homes → (i : ℕ) → i < index_len m → accept i ≡ true
       → FindsSameKey (index_of m) same i (index_found wt.word (index_bytes m) (index_pos m) (hash_of_calls hasher (calls q)) accept)

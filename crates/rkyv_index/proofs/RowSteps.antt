@@ -1,5 +1,6 @@
 -- One more value of a row.
-use Rattle.std.proofs.Common.{◌≡◌, ℕ, suc, ◌+◌, ◌-◌, ◌≤◌, refl, sym, ap, ◌∙◌, subst, arith, inl, inr, List, [], ◌∷◌, ◌++◌, length, get_or, take, drop, Some, append-nil, append_assoc, length-append}
+use Rattle.std.proofs.Common.{◌≡◌, ℕ, suc, ◌+◌, ◌-◌, ◌≤◌, refl, sym, ap, ◌∙◌, subst, arith, List, [], ◌∷◌, ◌++◌, length, get_or, take, drop, Some, append-nil, append_assoc, length-append}
+use Rattle.std.proofs.lemmas.Grind.{common_steps}
 use Rattle.std.specs.Prelude.{slice_get}
 use Rattle.std.proofs.lemmas.List.{drop-drop, get_or-drop, length-drop, take_more}
 use Rattle.std.proofs.lemmas.Option.{get_or_from_slice_get, slice_get_read, slice_get_within}
@@ -106,16 +107,7 @@ module _ {X R : Type 0} (f : Format X R) (limit : ℕ) (xs : List X) (rs : List 
       RowFails o' err = WriteFails limit (RowNext f xs rs (end_of o)) o o' err
 
       pub piece_fails : (one : List ℕ) (o2 : Output) (err : WriteError F) → f.image x r (end_of o1) one → WriteFails limit (Only (piece one)) o1 o2 err → RowFails o2 err
-      piece_fails one o2 err im t =
-          fails_after limit (RowNext f xs rs (end_of o)) (Only (piece one)) o o1 o2 w.out err w.appended (inr w.within)
-          (λ g step h.
-          let k : w.out ++ g ≡ w.out = ap (λ (y : List ℕ). w.out ++ y) h.0 ∙ append-nil w.out in
-          rw k (i, x, r, before, inl (one, subst (λ n. f.image x r n one) here im, h.1)))
-          t
+      piece_fails one o2 err im t = grind (arith, common_steps, fails_after, append-nil, before, here)
 
       pub overflow_fails : f.overflow x r (end_of o1) → RowFails o1 DistanceTooLarge
-      overflow_fails h = record {
-        front = w.out;
-        kept = grows o o1 w.out w.appended;
-        cause = (inr w.within, w.appended.failures, (i, x, r, before, inr (subst (λ n. f.overflow x r n) here h, refl)));
-      }
+      overflow_fails h = grind (arith, common_steps, grows, before, here)

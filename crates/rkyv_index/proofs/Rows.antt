@@ -1,13 +1,13 @@
 -- The positions of a row of values.
 use Rattle.std.proofs.Common.{◌≡◌, ℕ, zero, suc, ◌+◌, ◌-◌, ◌<◌, refl, sym, ◌∙◌, ap, arith, List, ◌∷◌, length}
+use Rattle.std.proofs.lemmas.Grind.{common_steps}
 use Rattle.std.specs.Borrow.{Bor}
 use Rattle.rkyv_table.specs.{ItemsLeft}
 use Rattle.rkyv_index.specs.{row}
 
 -- a row is its first position and the row of the others
 pub row_step : (size q n : ℕ) → 0 < n → row size q n ≡ q ∷ row size (q + size) (n - 1)
-row_step size q zero h = absurd (omega arith)
-row_step size q (suc n) h = let e : n ≡ suc n - 1 = omega arith in ap (λ k. q ∷ row size (q + size) k) e
+row_step size q n h = grind (arith, common_steps)
 
 pub row_length : (size q n : ℕ) → length (row size q n) ≡ n
 row_length size q zero = refl

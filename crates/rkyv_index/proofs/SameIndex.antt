@@ -1,5 +1,6 @@
 -- An index map whose header and table of indices are unchanged, and lookups in it.
-use Rattle.std.proofs.Common.{◌≡◌, ◌≢◌, ℕ, ◌+◌, ◌*◌, ◌<◌, ◌≤◌, ◌^◌, ◌∙◌, refl, sym, ap, subst, arith, Bool, List, Option, length, None, Some}
+use Rattle.std.proofs.Common.{◌≡◌, ◌≢◌, ℕ, ◌+◌, ◌*◌, ◌<◌, ◌≤◌, ◌^◌, ◌∙◌, sym, ap, subst, arith, Bool, List, Option, length, Some}
+use Rattle.std.proofs.lemmas.Grind.{common_steps}
 use Rattle.std.specs.Prelude.{slice_get, slice_set, unsigned_abs}
 use Rattle.std.specs.Int.{Width, byte_len}
 use Rattle.std.specs.Option.{option_map}
@@ -24,8 +25,7 @@ use Rattle.rkyv_index.proofs.ValidIndexMap.{begin_is, entries_inside, entry_view
 
 -- a found item is read alike if each item is
 read_alike : (f g f' g' : ℕ → ℕ) (o : Option ℕ) → ((i : ℕ) → o ≡ Some i → f (g i) ≡ f' (g' i)) → option_map f (option_map g o) ≡ option_map f' (option_map g' o)
-read_alike f g f' g' None same = refl
-read_alike f g f' g' (Some i) same = ap Some (same i refl)
+read_alike f g f' g' found same = grind (arith, common_steps)
 
 module _ (w : Width) (kind : IsArchiveWord w) (k v : ElementSpec) (kl : IsElement k) (vl : IsElement v) (b : List ℕ) (p : ℕ) (view : Viewable (index_spec w (entry_spec k v)) b p) where
   abbrev S : ElementSpec

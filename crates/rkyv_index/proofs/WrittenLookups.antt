@@ -1,5 +1,6 @@
 -- Lookups in the bytes of a written index map.
-use Rattle.std.proofs.Common.{◌≡◌, ℕ, ◌<◌, ◌^◌, ◌∙◌, refl, ap, sym, arith, cond, Bool, true, false, length, map, List, [], ◌∷◌, Option, Some, slice_index}
+use Rattle.std.proofs.Common.{◌≡◌, ℕ, ◌<◌, ◌^◌, ◌∙◌, refl, ap, sym, arith, cond, Bool, true, length, map, List, [], ◌∷◌, Option, Some, slice_index}
+use Rattle.std.proofs.lemmas.Grind.{common_steps}
 use Rattle.std.specs.Int.{Width, byte_len}
 use Rattle.std.specs.List.{find}
 use Rattle.std.specs.Option.{option_map}
@@ -15,8 +16,7 @@ use Rattle.rkyv_index.specs.{IndexWrittenAt, index_found, indices_of, pair_pos}
 -- the image of the first accepted element is the first accepted image
 find-step : (f : ℕ → ℕ) (accept : ℕ → Bool) (x : ℕ) (r : Option ℕ) (r' : Option ℕ) (t : Bool) → option_map f r ≡ r'
     → option_map f (cond t (Some x) r) ≡ cond t (Some (f x)) r'
-find-step f accept x r r' true e = refl
-find-step f accept x r r' false e = e
+find-step f accept x r r' b e = grind (arith, common_steps)
 
 pub find-map : (f : ℕ → ℕ) (accept : ℕ → Bool) (xs : List ℕ) → option_map f (find (λ x. accept (f x)) xs) ≡ find accept (map f xs)
 find-map f accept [] = refl

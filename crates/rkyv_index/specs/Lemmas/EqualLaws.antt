@@ -4,6 +4,7 @@ use Rattle.std.specs.Prelude.{unsigned_abs}
 use Rattle.std.specs.Int.{Width}
 use Rattle.std.specs.List.{list_all, range_with_len}
 use Rattle.std.proofs.Common.{refl, arith, subst, sym, ◌∙◌, ap, inl, inr}
+use Rattle.std.proofs.lemmas.Grind.{common_steps}
 use Rattle.std.proofs.lemmas.Bool.{and_from, and_parts, cases_eq, eq-eqb, eqb-true}
 use Rattle.rkyv_base.specs.{ElementSpec, IsElement, ValidAt}
 use Rattle.rkyv_base.specs.Lemmas.ElementSpec.{valid_at}
@@ -62,11 +63,7 @@ module _ (w : Width) (s : ElementSpec) (law : IsElement s) where
 
     from : (b c : List ℕ) (p q : ℕ) → len_at w b p ≡ len_at w c q → ((i : ℕ) → i < len_at w b p
         → same_at w s same b p c q i ≡ true) → index_equal w s same b p c q ≡ true
-    from b c p q n f =
-        and_from (len_at w b p == len_at w c q) (list_all (same_at w s same b p c q)
-        (indices_of (len_at w b p))) (eq-eqb (len_at w b p) (len_at w c q) n)
-        (all_from (same_at w s same b p c q) 0 (len_at w b p)
-        (λ i at below. f i (omega (arith, below))))
+    from b c p q n f = grind (arith, common_steps, and_from, eq-eqb, all_from)
 
     pub index_equivalence : IsEquivalence (index_spec w s) (index_equal w s same)
     index_equivalence = record {

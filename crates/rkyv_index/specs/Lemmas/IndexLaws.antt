@@ -18,7 +18,7 @@ use Rattle.rkyv_base.specs.Lemmas.Props.{only_one, prop_by}
 use Rattle.rkyv_base.specs.Lemmas.Parts.{part_exclusive, part_one, part_one_failure, part_prop}
 use Rattle.rkyv_base.specs.Lemmas.Parts.{part_wider}
 use Rattle.rkyv_base.specs.Lemmas.Text.{by_archive_word}
-use Rattle.rkyv_table.specs.{AreValidAt, FirstFails, IsValidTable, IsValidWithin, IsWalked, cap_at}
+use Rattle.rkyv_table.specs.{AreValidAt, IsValidTable, IsValidWithin, IsWalked, cap_at}
 use Rattle.rkyv_table.specs.{item_at, item_positions, len_at, table_controls, table_spec, walk}
 use Rattle.rkyv_table.specs.Lemmas.ItemPositions as items
 use Rattle.rkyv_table.specs.Lemmas.ItemPositions.{item_is_valid, valid_part}
@@ -66,8 +66,7 @@ entry_inside size begin n i h = grind (arith, common_steps)
 -- the index of an item of a list is below its length
 pub listed_below : {X : Type 0} (xs : List X) (n i : ℕ) (x : X) → n ≡ length xs
     → slice_get xs i ≡ Some x → i < n
-listed_below xs n i x count there =
-    let within = slice_get_within xs i x there in omega (arith, count, within)
+listed_below xs n i x count there = grind (arith, common_steps, slice_get_within)
 
 -- a filter that keeps each number keeps the list
 pub filter_every : (xs : List ℕ) → filter (λ x. true) xs ≡ xs
@@ -108,32 +107,15 @@ module _ (s : ElementSpec) (law : IsElement s) where
       → (lo ≤ l) × (l ≤ hi)
   entries_between b decoded len lo hi l h = grind (arith, common_steps)
 
-  entries_one : (b : List ℕ) (decoded : ℤ) (len lo hi l l' : ℕ) → EntriesIn s b decoded len lo hi l
-      → EntriesIn s b decoded len lo hi l' → l ≡ l'
-  entries_one b decoded len lo hi l l' h h' = grind (arith, common_steps)
-
   entries_exclusive : (b : List ℕ) (decoded : ℤ) (len lo hi l : ℕ) (e : VerifyError)
       → EntriesIn s b decoded len lo hi l → EntriesFail s b decoded len lo hi e → ⊥
-  entries_exclusive b decoded len lo hi l e h (inl f) =
-      part_exclusive decoded (len * s.size) s.align lo hi h.begin e h.part f
-  entries_exclusive b decoded len lo hi l e h (inr f) =
-      let same : f.0 ≡ h.begin =
-      part_one decoded (len * s.size) s.align lo hi f.0 h.begin f.1 h.part in
-      all_exclusive s law (entry_at s.size h.begin) b h.begin (indices_of len) lo h.last e h.valid
-      (subst (λ n. FirstFails s (entry_at s.size n) b n (indices_of len) lo e) same f.2)
+  entries_exclusive b decoded len lo hi l e h f =
+      grind (arith, common_steps, part_exclusive, part_one, all_exclusive)
 
   entries_one_failure : (b : List ℕ) (decoded : ℤ) (len lo hi : ℕ) (e e' : VerifyError)
       → EntriesFail s b decoded len lo hi e → EntriesFail s b decoded len lo hi e' → e ≡ e'
-  entries_one_failure b decoded len lo hi e e' (inl f) (inl g) =
-      part_one_failure decoded (len * s.size) s.align lo hi e e' f g
-  entries_one_failure b decoded len lo hi e e' (inl f) (inr g) =
-      absurd (part_exclusive decoded (len * s.size) s.align lo hi g.0 e g.1 f)
-  entries_one_failure b decoded len lo hi e e' (inr f) (inl g) =
-      absurd (part_exclusive decoded (len * s.size) s.align lo hi f.0 e' f.1 g)
-  entries_one_failure b decoded len lo hi e e' (inr f) (inr g) =
-      let same : g.0 ≡ f.0 = part_one decoded (len * s.size) s.align lo hi g.0 f.0 g.1 f.1 in
-      all_one_failure s law (entry_at s.size f.0) b f.0 (indices_of len) lo e e' f.2
-      (subst (λ n. FirstFails s (entry_at s.size n) b n (indices_of len) lo e') same g.2)
+  entries_one_failure b decoded len lo hi e e' h f =
+      grind (arith, common_steps, part_one_failure, part_exclusive, part_one, all_one_failure)
 
   entries_higher : (b : List ℕ) (decoded : ℤ) (len lo hi hi' l : ℕ) → hi ≤ hi'
       → EntriesIn s b decoded len lo hi l → EntriesIn s b decoded len lo hi' l
@@ -229,9 +211,7 @@ decoded_same w b c p fixed =
 -- the header of the table is the same if the bytes of the index map's header are
 pub head_same : (w : Width) (b c : List ℕ) (p : ℕ) → AgreeOn b c p (p + 4 * byte_len w)
     → AgreeOn b c p (p + 3 * byte_len w)
-head_same w b c p fixed =
-    agree_on_part b c p (p + 4 * byte_len w) p (p + 3 * byte_len w) (omega arith)
-    (omega arith) (omega arith) fixed
+head_same w b c p fixed = grind (arith, common_steps, agree_on_part)
 
 module _ (w : Width) (kind : IsArchiveWord w) (s : ElementSpec) (law : IsElement s) where
   abbrev T_law : IsElement (table_spec w (stored_index_spec w))

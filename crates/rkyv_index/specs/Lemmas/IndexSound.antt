@@ -1,7 +1,7 @@
 -- A written index map is valid and represents its list, in any archive that has its bytes.
 use Rattle.std.proofs.Common.{arith, get_or, refl, sym, ◌∙◌, ap, subst, inl, inr, zero}
-use Rattle.std.proofs.lemmas.Grind.{common_steps}
 use Rattle.std.proofs.Common.{length-append}
+use Rattle.std.proofs.lemmas.Grind.{common_steps}
 use Rattle.std.proofs.lemmas.Int.{ints}
 use Rattle.std.proofs.lemmas.List.{ext_get_or, get_or-map, get_or_default, length-map}
 use Rattle.std.proofs.lemmas.List.FromFn.{get_or-range_with_len, length-range_with_len}
@@ -51,8 +51,8 @@ module _ {X P : Type 0} (own : X → ℕ) (v : ℕ → P) where
       (items_of (indices_from own v i xs)) j ≡ Some (v (i + j))
   index_there i [] j h = absurd (omega (arith, h))
   index_there i (x ∷ xs) zero h = let k : i ≡ i + 0 = omega arith in ap (λ n. Some (v n)) k
-  index_there i (x ∷ xs) (suc j) h = let k : (i + 1) + j ≡ i + suc j = omega arith in index_there
-      (i + 1) xs j (omega (arith, h)) ∙ ap (λ n. Some (v n)) k
+  index_there i (x ∷ xs) (suc j) h =
+      grind (arith, common_steps, index_there (i + 1) xs j (omega (arith, h)))
 
   -- the hashes of the items are those of the values at the indices
   hashes_there : (at hash : ℕ → ℕ) (i : ℕ) (xs : List X) → ((j : ℕ) (x : X) → slice_get xs j
@@ -178,12 +178,10 @@ module _ {P X R : Type 0} (w : Width) (kind : IsArchiveWord w) (ps : ElementSpec
       front_sits = occurs_front c p0 t.front row (subst (OccursAt c p0) t.is sp)
 
       row_sits : OccursAt c begin row
-      row_sits = subst (λ k. OccursAt c k row) (sym t.at) (occurs_back c p0 t.front row
-          (subst (OccursAt c p0) t.is sp))
+      row_sits = grind (arith, common_steps, occurs_back)
 
       head_sits : OccursAt c p0 (zb.table ++ zb.part_bytes)
-      head_sits = subst (OccursAt c p0) zb.is (occurs_front c p0 t.before.head pad
-          (subst (OccursAt c p0) t.before.is front_sits))
+      head_sits = grind (arith, common_steps, occurs_front, front_sits)
 
       front_length : length t.front ≡ length t.before.head + padding s.align
           (p0 + length t.before.head)
@@ -259,9 +257,7 @@ module _ {P X R : Type 0} (w : Width) (kind : IsArchiveWord w) (ps : ElementSpec
       homes = (tw c p table_represents).homes
 
       pair_pos_is : (j : ℕ) → begin + (0 + j) * s.size ≡ pair_pos w s.size c p j
-      pair_pos_is j =
-          let z : 0 + j ≡ j = omega arith in
-          ap (λ k. begin + k * s.size) z ∙ ap (λ b. b + j * s.size) (sym begin_is)
+      pair_pos_is j = grind (arith, common_steps, begin_is)
 
       hashes_are : hashes_of Indices ≡ map (λ k. hash c (pair_pos w s.size c p k))
           (indices_of (len_at w c p))

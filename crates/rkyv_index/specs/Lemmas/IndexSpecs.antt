@@ -1,12 +1,12 @@
 -- A table of the indices of a width is a table of words.
 use Rattle.std.specs.Prelude.{◌≡◌, ℕ, ℤ, List, [], ◌∷◌}
 use Rattle.std.specs.Int.{Width, byte_len}
-use Rattle.std.proofs.Common.{inl, inr, subst, sym}
+use Rattle.std.proofs.Common.{inl, inr, subst, sym, arith}
+use Rattle.std.proofs.lemmas.Grind.{common_steps}
 use Rattle.rkyv_base.specs.declared.errors.VerifyError.{VerifyError}
 use Rattle.rkyv_base.specs.{ElementSpec, Encoding, IsIndexEncoding, IsScalar, Viewable}
 use Rattle.rkyv_table.specs.{AreValidAt, FailsInside, FirstFails, IsPart, IsValidTable, TableAt}
-use Rattle.rkyv_table.specs.{TableFails, TableFailsAt, bucket_at, cap_at, controls_at, decode_begin}
-use Rattle.rkyv_table.specs.{len_at, table_spec, walk}
+use Rattle.rkyv_table.specs.{TableFails, TableFailsAt, cap_at, decode_begin, len_at, table_spec}
 use Rattle.rkyv_index.specs.{stored_index_spec}
 
 -- specs of one size and alignment
@@ -30,44 +30,21 @@ module _ (size align : ℕ) (is_valid holds' : List ℕ → ℕ → ℕ → ℕ 
         → FirstFails from at b hi is lo e → FirstFails onto at b hi is lo e
     first_as at b hi [] lo e f = f
     first_as at b hi (i ∷ is) lo e (inl f) = inl (fail b (at i) lo hi e f)
-    first_as at b hi (i ∷ is) lo e (inr f) = inr (
-      f.0,
-      to b (at i) lo hi f.0 f.1,
-      first_as at b hi is f.0 e f.2,
-    )
+    first_as at b hi (i ∷ is) lo e (inr f) =
+        grind (arith, common_steps, first_as at b hi is f.0 e f.2)
 
     part_as : (b : List ℕ) (cap len lo begin : ℕ) → IsPart from b cap len lo begin
         → IsPart onto b cap len lo begin
-    part_as b cap len lo begin is = record {
-      controls = is.controls;
-      last = is.last;
-      items =
-          all_as (bucket_at size begin cap) b begin (walk (controls_at size b begin cap) cap) lo
-          is.last is.items;
-    }
+    part_as b cap len lo begin is = grind (arith, common_steps, all_as)
 
     inside_as : (b : List ℕ) (cap len lo begin : ℕ) (e : VerifyError)
         → FailsInside from b cap len lo begin e → FailsInside onto b cap len lo begin e
-    inside_as b cap len lo begin e (inl f) = inl (first_as (bucket_at size begin cap) b begin
-        (walk (controls_at size b begin cap) cap) lo e f)
-    inside_as b cap len lo begin e (inr f) =
-        inr (
-          f.0,
-          all_as (bucket_at size begin cap) b begin (walk (controls_at size b begin cap) cap) lo f.0
-              f.1,
-          f.2,
-        )
+    inside_as b cap len lo begin e h = grind (arith, common_steps, first_as, all_as)
 
     at_as : (b : List ℕ) (decoded : ℤ) (cap len lo hi l : ℕ)
         → TableAt from b decoded cap len lo hi l
         → TableAt onto b decoded cap len lo hi l
-    at_as b decoded cap len lo hi l (inl h) = inl h
-    at_as b decoded cap len lo hi l (inr (n, part, is, e)) = inr (
-      n,
-      part,
-      part_as b cap len lo n is,
-      e,
-    )
+    at_as b decoded cap len lo hi l h = grind (arith, common_steps, part_as)
 
     fails_at_as : (b : List ℕ) (decoded : ℤ) (cap len lo hi : ℕ) (e : VerifyError)
         → TableFailsAt from b decoded cap len lo hi e → TableFailsAt onto b decoded cap len lo hi e

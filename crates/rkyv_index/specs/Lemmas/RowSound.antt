@@ -1,5 +1,6 @@
 -- Written values in a row are valid and represent the values.
-use Rattle.std.proofs.Common.{arith, refl, sym, ◌∙◌, ap, subst, zero, length-append}
+use Rattle.std.proofs.Common.{arith, sym, ◌∙◌, ap, subst, zero, length-append}
+use Rattle.std.proofs.lemmas.Grind.{common_steps}
 use Rattle.std.proofs.lemmas.Option.{none-some, same_Some}
 use Rattle.std.specs.Prelude.{◌≡◌, ℕ, suc, ◌+◌, ◌*◌, ◌%◌, ◌≤◌, List, [], ◌∷◌, ◌++◌, length}
 use Rattle.std.specs.Prelude.{Some, slice_get}
@@ -59,13 +60,7 @@ module _ {X R : Type 0} (s : ElementSpec) (laws : IsElement s) (represents : Lis
         → OccursAt c (at n) out → p + length part ≤ begin → at n % s.align ≡ 0
         → (l : ℕ) × AreValidAt s at c begin (range_with_len n (length xs)) p l
         × (l ≤ p + length part) × RowRepresent n xs
-    row_sound [] n p part out rs m i sp so o al = (
-      p,
-      refl,
-      omega arith,
-      λ k x g. absurd
-          (none-some x g),
-    )
+    row_sound [] n p part out rs m i sp so o al = grind (arith, common_steps, none-some)
     row_sound (x ∷ xs) n p part out rs m i sp so o al =
         let a : List ℕ = m.0 in
         let b : List ℕ = m.2 in

@@ -1,4 +1,5 @@
 use Rattle.std.proofs.Common.{◌≡◌, ◌<◌, ◌∙◌, arith, sym, Bool, ℕ}
+use Rattle.std.proofs.lemmas.Grind.{common_steps}
 use Rattle.rkyv_keys.specs.{hash_at}
 use Rattle.rkyv_index.specs.{index_len, index_of, is_misplaced, is_repeated}
 use Rattle.rkyv_index.proofs.Counted.{count_is_all, left_first, none_more, one_more}
@@ -6,13 +7,7 @@ use Rattle.rkyv_index.proofs.map.ArchivedIndexMap.misplaced.Goals.{else-is_mispl
 use Rattle.rkyv_index.proofs.map.ArchivedIndexMap.misplaced.Goals as goal
 
 pub loop-index-init : goal.loop-index-init
-loop-index-init g c =
-    let m = index_of c.args.self in
-    let n : ℕ = index_len c.args.self in
-    let key_hash = hash_at g.H.KeyHasher.hasher g.K.KeyElement.key_calls in
-    let e = left_first (is_misplaced m key_hash g.K.ElementEq.same) n in
-    let f = left_first (is_repeated m key_hash g.K.ElementEq.same) n in
-    record { few = omega arith; exact = omega (arith, e); repeated = λ homes written. omega (arith, f) }
+loop-index-init g c = grind (arith, common_steps, left_first)
 
 pub loop-index-preserved : goal.loop-index-preserved
 loop-index-preserved g c =

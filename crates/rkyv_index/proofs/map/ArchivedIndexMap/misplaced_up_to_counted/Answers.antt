@@ -1,4 +1,5 @@
 use Rattle.std.proofs.Common.{subst, ◌≡◌, ◌+◌, ◌-◌, ◌<◌, ◌≤◌, ◌^◌, ◌⊎◌, ◌∙◌, arith, sym, Bool, ℕ}
+use Rattle.std.proofs.lemmas.Grind.{common_steps}
 use Rattle.std.specs.List.{range_with_len, sum_by}
 use Rattle.rkyv_keys.specs.{hash_at}
 use Rattle.rkyv_table.proofs.MisplacedIn.{past_all, past_cut, reads_on}
@@ -25,13 +26,7 @@ module _ (g : _) (c : After-is_misplaced-is_misplaced g) where
   spent : c.count-before.result + keys_strides (index_of c.args.self) (hash_at g.H.KeyHasher.hasher g.K.KeyElement.key_calls) g.K.ElementEq.same
       ≡ c.is_misplaced-is_misplaced.new.strides + sum_by (own_strides (index_of c.args.self) (hash_at g.H.KeyHasher.hasher g.K.KeyElement.key_calls) g.K.ElementEq.same)
       (range_with_len (c.loop-index.index + 1) (index_len c.args.self - (c.loop-index.index + 1)))
-  spent =
-      let key_hash = hash_at g.H.KeyHasher.hasher g.K.KeyElement.key_calls in
-      let same = g.K.ElementEq.same in
-      let f : ℕ → ℕ = own_strides (index_of c.args.self) key_hash same in
-      let now : c.is_misplaced-is_misplaced.new.strides ≡ c.loop-index.strides + f c.loop-index.index = c.is_misplaced-is_misplaced.ensures.counted in
-      let step = sum_step f c.loop-index.index (index_len c.args.self) below in
-      omega (arith, now, step, c.loop-index.invariant.spent)
+  spent = grind (arith, common_steps, sum_step, below)
 
   on : c.loop-index.strides ≤ c.is_misplaced-is_misplaced.new.strides
   on = reads_on _ _ _ _ c.is_misplaced-is_misplaced.ensures.bounded
@@ -46,9 +41,7 @@ returns-then-is_past-clause-counts g c =
     (past_all c.count-before.result _ _ strides _ all (rw c.count.ensures at c.is_past.ensures.past c.if-is_past.true))
 
 pub returns-then-is_past-clause-counted : goal.returns-then-is_past-clause-counted
-returns-then-is_past-clause-counted g c =
-    let all = spent g (goal.at.returns-then-is_past-clause-counted g c).After-is_misplaced-is_misplaced in
-    omega (arith, all, c.count-before.ensures)
+returns-then-is_past-clause-counted g c = grind (arith, common_steps, spent)
 
 pub returns-then-is_past-clause-bounded : goal.returns-then-is_past-clause-bounded
 returns-then-is_past-clause-bounded g c =
@@ -93,10 +86,4 @@ returns-clause-counts g c =
     (omega (arith, rest, spent, most), omega (arith, rest, spent, small, c.count-before.ensures), count_is_all _ _ c.loop-index.index (index_len c.args.self) _ c.loop-index.invariant.exact above)
 
 pub returns-clause-counted : goal.returns-clause-counted
-returns-clause-counted g c =
-    let m = index_of c.args.self in
-    let key_hash = hash_at g.H.KeyHasher.hasher g.K.KeyElement.key_calls in
-    let end : c.len-index-end.result ≡ index_len c.args.self = c.len-index-end.ensures in
-    let test = c.loop-index-test.false in
-    let rest = sum_end (own_strides m key_hash g.K.ElementEq.same) c.loop-index.index (index_len c.args.self) (omega (arith, test, end)) in
-    omega (arith, rest, c.loop-index.invariant.spent, c.count-before.ensures)
+returns-clause-counted g c = grind (arith, common_steps, sum_end)

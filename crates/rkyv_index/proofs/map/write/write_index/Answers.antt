@@ -1,15 +1,12 @@
 use Rattle.std.proofs.Common.{arith, inr}
+use Rattle.std.proofs.lemmas.Grind.{common_steps}
 use Rattle.std.proofs.lemmas.Result.{err_from_is_err_and}
-use Rattle.rkyv_base.specs.{end_of}
 use Rattle.rkyv_index.proofs.IndexSteps.{index_wrote, indices_fail, parts_fail, row_fails, zeros_fail}
 use Rattle.rkyv_index.proofs.RowSteps.{parts_count}
 use Rattle.rkyv_index.proofs.map.write.write_index.Goals as goal
 
 pub returns-in_err-table : goal.returns-in_err-table
-returns-in_err-table g c =
-    let p = err_from_is_err_and c.from_residual.result c.from_residual.ensures.1 in
-    rw (p.1, p.2) (indices_fail g.row.S-Fault.Denot g.W.Word.word g.W.Index.HasSpec.spec g.W.Index.Scalar.encoding g.U.HashedEntry.hash c.args.load_factor g.W.Width.LIMIT c.args.entries.now (g.S.Writer.output c.args.serializer.now) g.U.Archived.HasSpec.spec g.U.Archive.format
-    g.W.Width.MAX_CAPACITY (g.S.Writer.output c.write_indices.new.serializer) c.in_err-table.field-0.0 c.in_err-table.ensures)
+returns-in_err-table g c = grind (arith, common_steps, err_from_is_err_and, indices_fail)
 
 pub returns-in_err-serialize_row : goal.returns-in_err-serialize_row
 returns-in_err-serialize_row g c =
@@ -25,9 +22,7 @@ returns-in_err-pos g c =
     (g.S.Writer.output c.write_indices.new.serializer) c.in_ok-table.table c.in_ok-table.ensures (g.S.Writer.output c.serialize_row.new.serializer) r.0 c.serialize_row.new.resolvers.items r.1 r.2 r.3 (g.S.Writer.output c.align_for_in.new.serializer) c.in_err-pos.field-0.0 c.in_err-pos.ensures))
 
 pub write_row-requires-clause-count : goal.write_row-requires-clause-count
-write_row-requires-clause-count g c =
-    let r = c.in_ok-serialize_row.ensures in
-    parts_count g.U.Archive.format c.args.entries.now (end_of (g.S.Writer.output c.write_indices.new.serializer)) r.0 c.serialize_row.new.resolvers.items r.2
+write_row-requires-clause-count g c = grind (arith, common_steps, parts_count)
 
 pub returns : goal.returns
 returns g c =

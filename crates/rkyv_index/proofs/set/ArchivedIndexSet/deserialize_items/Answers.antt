@@ -1,4 +1,5 @@
-use Rattle.std.proofs.Common.{arith, inl, inr, refl, subst, sym, ℕ}
+use Rattle.std.proofs.Common.{arith, inl, refl, ℕ}
+use Rattle.std.proofs.lemmas.Grind.{common_steps}
 use Rattle.std.proofs.lemmas.Result.{err_from_is_err_and}
 use Rattle.rkyv_index.specs.{key_pos, keys_of, set_bytes}
 use Rattle.rkyv_index.proofs.ListSteps.{above_zero, one_pushed}
@@ -18,9 +19,4 @@ loop-index-preserved g c =
     (more.0, more.1, rw c.push_reserved.ensures.capacity inv.2)
 
 pub returns-in_err-item : goal.returns-in_err-item
-returns-in_err-item g c =
-    let p = err_from_is_err_and c.from_residual-in_err-item.result c.from_residual-in_err-item.ensures.1 in
-    let s = c.args.self in
-    let inv = c.loop-index.invariant in
-    let at = subst (λ n. g.K.Deserialize.deserialize_fails (set_bytes s) (key_pos (keys_of s) n) c.in_err-item.field-0.0) (sym inv.0) c.in_err-item.ensures in
-    rw (p.1, p.2) (inr (c.loop-index.list.items, omega (arith, inv.0), inv.1, at))
+returns-in_err-item g c = grind (arith, common_steps, err_from_is_err_and)

@@ -1,4 +1,5 @@
 use Rattle.std.proofs.Common.{arith, ◌++◌, refl}
+use Rattle.std.proofs.lemmas.Grind.{common_steps}
 use Rattle.std.proofs.lemmas.List.{length-take}
 use Rattle.std.proofs.lemmas.Option.{slice_get_read}
 use Rattle.std.proofs.lemmas.Result.{err_from_is_err_and}
@@ -7,14 +8,7 @@ use Rattle.rkyv_index.proofs.RowSteps.{parts_count, step_fails, step_part}
 use Rattle.rkyv_index.proofs.map.write.row.serialize_row.Goals as goal
 
 pub push_reserved-requires : goal.push_reserved-requires
-push_reserved-requires g c =
-    let m = c.loop-value.invariant.appended in
-    let n = parts_count g.U.Archive.format _ _ _ _ m.2 in
-    let t = length-take c.loop-value.value-index c.args.values.now in
-    let r = c.loop-value.invariant.room in
-    let k = c.loop-value-test.true in
-    let len = c.loop-value.resolvers.ok.0 in
-    omega arith
+push_reserved-requires g c = grind (arith, common_steps, parts_count, length-take)
 
 pub returns-in_err-resolver : goal.returns-in_err-resolver
 returns-in_err-resolver g c =

@@ -1,4 +1,5 @@
-use Rattle.std.proofs.Common.{◌≡◌, ◌∷◌, refl, sym}
+use Rattle.std.proofs.Common.{◌≡◌, ◌∷◌, refl, sym, arith}
+use Rattle.std.proofs.lemmas.Grind.{common_steps}
 use Rattle.std.specs.Vec.Iter.{into_iter_items}
 use Rattle.std.proofs.lemmas.Option.{slice_get_read}
 use Rattle.std.proofs.lemmas.Result.{err_from_is_err_and}
@@ -24,12 +25,4 @@ returns-in_err-append_in g c =
     c.resolve.new.out (g.S.Writer.output c.append_in.new.serializer) c.in_err-append_in.field-0.0 (rw c.pos.ensures at c.in_ok-resolve.ensures) c.in_err-append_in.ensures)
 
 pub loop-value-preserved : goal.loop-value-preserved
-loop-value-preserved g c =
-    let there = slice_get_read c.args.values.now _ c.loop-value.value-index c.value-item.result refl c.loop-value-test.true c.value-item.is in
-    let first : into_iter_items c.loop-value.rest ≡ c.in-Some.resolver ∷ into_iter_items c.next.new.self = c.in-Some.ensures.items in
-    record {
-      written = written_more g.U.Archive.format g.W.Width.LIMIT c.args.values.now (into_iter_items c.into_iter-rest.result) (g.S.Writer.output c.args.serializer.now)
-          c.loop-value.value-index c.value-item.result c.in-Some.resolver (into_iter_items c.loop-value.rest) (into_iter_items c.next.new.self) (g.S.Writer.output c.loop-value.serializer) c.loop-value.invariant.written there first
-          c.resolve.new.out (g.S.Writer.output c.append_in.new.serializer) (rw c.pos.ensures at c.in_ok-resolve.ensures) c.in_ok-append_in.ensures.0 c.in_ok-append_in.ensures.1;
-      room = λ some. g.met.U.Archive.laws.size_exact _ _ _ _ c.in_ok-resolve.ensures;
-    }
+loop-value-preserved g c = grind (arith, common_steps, slice_get_read, written_more)

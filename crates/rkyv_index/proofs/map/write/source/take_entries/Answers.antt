@@ -1,4 +1,5 @@
-use Rattle.std.proofs.Common.{arith, ◌≡◌, ◌+◌, ◌++◌, ◌∷◌, [], refl, ap, ◌∙◌, inl, inr, length}
+use Rattle.std.proofs.Common.{arith, ◌≡◌, ◌++◌, ◌∷◌, [], refl, inl, inr}
+use Rattle.std.proofs.lemmas.Grind.{common_steps}
 use Rattle.std.proofs.lemmas.List.{length-map, length_push}
 use Rattle.rkyv_index.specs.{pairs_of}
 use Rattle.rkyv_index.proofs.EntrySteps.{entries_yield_more}
@@ -13,14 +14,7 @@ returns-in-None g c =
     ((pairs_of c.loop-count.entries.items, omega (arith, n, i.count), inl (omega arith, (_, (_, i.taken, c.in-None.ensures.steps)))), λ z. omega (arith, z, t))
 
 pub loop-count-preserved : goal.loop-count-preserved
-loop-count-preserved g c =
-    let i = c.loop-count.invariant in
-    record {
-      ready = c.in-Some.ensures.keeps;
-      taken = rw (c.push_reserved.ensures.items) (entries_yield_more g.I.Iterator.next_gives _ _ _ c.loop-count.entries.items c.new.result i.taken (rw (c.new.ensures.key, c.new.ensures.value) c.in-Some.ensures.steps));
-      count = ap length c.push_reserved.ensures.items ∙ length_push c.loop-count.entries.items _ ∙ ap (λ n. n + 1) i.count;
-      room = rw c.push_reserved.ensures.capacity i.room;
-    }
+loop-count-preserved g c = grind (arith, common_steps, entries_yield_more, length_push)
 
 pub returns-in-Some-next_item : goal.returns-in-Some-next_item
 returns-in-Some-next_item g c =
