@@ -27,9 +27,7 @@ position_none p xs e = sym (ap (λ m. cond (ltb m (length xs)) (Some m) None) e 
 -- `to_bitmask` of the comparison `t` of a splat with eight bytes
 pub splat_bitmask : (t : ℕ → ℕ → Bool) (y : ℕ) (xs : List ℕ) → length xs ≡ 8
     → mask_l (map (top 7) (zip2 (λ a b. cond (t a b) (2 ^ 8 - 1) 0) (replicate 8 y) xs)) % 2 ^ 64 ≡ mask_l (map (t y) xs)
-splat_bitmask t y xs long =
-    ap (λ ms. mask_l ms % 2 ^ 64) (tops_compared w8 t (replicate 8 y) xs ∙ zip2_splat_left t y 8 xs long)
-    ∙ mask_l-mod (map (t y) xs) 64 (omega (arith, length-map xs (t y)))
+splat_bitmask t y xs long = grind (arith, common_steps, tops_compared w8 t (replicate 8 y) xs, zip2_splat_left t y 8 xs long, mask_l-mod (map (t y) xs) 64 (omega (arith, length-map xs (t y))), length-map xs (t y))
 
 -- the first of eight that passes, by the mask of those that pass
 pub some_marked : (p : ℕ → Bool) (xs : List ℕ) → length xs ≡ 8 → (mask_l (map p xs) ≡ 0 → ⊥) → Some (count_trailing_zeros 64 (mask_l (map p xs))) ≡ position p xs
@@ -84,12 +82,7 @@ pub whole : (xs : List ℕ) (at : ℕ) → at ≤ length xs → at + length (dro
 whole xs at le = grind (arith, common_steps)
 
 pub eight_stretch : (xs : List ℕ) (at : ℕ) → at + 8 ≤ length xs → IsStretch xs (take 8 (drop at xs)) at
-eight_stretch xs at le =
-    let e = eight xs at le in
-    record {
-      inside = omega arith;
-      same = λ k l. get_or-take 8 (drop at xs) k 0 (omega arith) ∙ get_or-drop at xs k 0;
-    }
+eight_stretch xs at le = grind (arith, eight, get_or-take, get_or-drop)
 
 pub rest_stretch : (xs : List ℕ) (at : ℕ) → at ≤ length xs → IsStretch xs (drop at xs) at
 rest_stretch xs at le = grind (arith, common_steps, whole, get_or-drop)

@@ -1,6 +1,6 @@
 -- Writing a root, step by step: the parts, the zeros and the value.
 use Rattle.std.specs.Prelude.{◌≡◌, ℕ, ◌+◌, ◌-◌, ◌%◌, ◌≤◌, List, [], ◌++◌, length}
-use Rattle.std.proofs.Common.{arith, subst, sym, ◌∙◌, ap, inl, inr, length-append, append_assoc}
+use Rattle.std.proofs.Common.{arith, subst, sym, ◌∙◌, ap, inl, inr, length-append, append_assoc, rules}
 use Rattle.std.proofs.lemmas.Grind.{common_steps}
 use Rattle.std.proofs.lemmas.List.{append-nil, length-replicate, take_all}
 use Rattle.rkyv_base.specs.declared.errors.WriteError.{WriteError}
@@ -53,21 +53,7 @@ module _ {V R : Type 0} (limit : ℕ) (s : ElementSpec) (laws : IsElement s) (re
   -- a written root is valid and represents the value, in any archive that has its bytes
   pub root_sound : (v : V) (c : List ℕ) (p root : ℕ) (bytes : List ℕ) → RootBytes s.align f v p bytes root → OccursAt c p bytes
       → (hi l : ℕ) × s.is_valid c root p hi l × (p ≤ hi) × (hi ≤ root) × (root + s.size ≡ p + length bytes) × (root % s.align ≡ 0) × represents c root v
-  root_sound v c p root bytes b sits =
-      let part : List ℕ = b.0 in
-      let out : List ℕ = b.2 in
-      let z : List ℕ = zeros (padding s.align (p + length part)) in
-      let n : length z ≡ padding s.align (p + length part) = length-replicate (padding s.align (p + length part)) 0 in
-      let whole : length out ≡ s.size = format.size_exact v b.1 root out b.4 in
-      let sb : OccursAt c p (part ++ (z ++ out)) = subst (OccursAt c p) b.6 sits in
-      let sp : OccursAt c p part = occurs_front c p part (z ++ out) sb in
-      let so : OccursAt c (p + length part + length z) out = occurs_back c (p + length part) z out (occurs_back c p part (z ++ out) sb) in
-      let at : p + length part + length z ≡ root = omega (arith, n, b.5) in
-      let al : root % s.align ≡ 0 = subst (λ k. k % s.align ≡ 0) (sym b.5) (round_up-multiple (p + length part) s.align laws.align_is) in
-      let up : p + length part ≤ root = omega (arith, b.5) in
-      let d = format.sound v b.1 c p root part out b.3 b.4 sp (subst (λ k. OccursAt c k out) at so) up al in
-      let len : length bytes ≡ length part + (length z + length out) = ap length b.6 ∙ length-append part (z ++ out) ∙ ap (λ k. length part + k) (length-append z out) in
-      (p + length part, d.0, d.1, omega arith, up, omega (arith, len, at, whole), al, d.2)
+  root_sound v c p root bytes b sits = search (rules, length-replicate, occurs_front, occurs_back, round_up-multiple, length-append)
 
   root_accepted : (v : V) (bytes : List ℕ) (root : ℕ) → RootBytes s.align f v 0 bytes root → length bytes ≤ limit
       → IsValidArchive limit s bytes × represents bytes (length bytes - s.size) v × (root ≡ length bytes - s.size)

@@ -33,22 +33,12 @@ inline_continues x xs h = grind (arith, common_steps)
 -- the inline text of `uppercase_front s` is that of `s` in upper case
 inline_text_uppercase : (s : List ℕ) → inline_text (uppercase_front s) ≡ map to_ascii_uppercase (inline_text s)
 inline_text_uppercase [] = refl
-inline_text_uppercase (x ∷ xs) =
-    let P : List ℕ → Type 0 = λ t. inline_text (map to_ascii_uppercase t ++ drop (length t) (x ∷ xs)) ≡ map to_ascii_uppercase t in
-    elim (cases_Bool (x == 255)) [
-      | inl h ↦ subst P (sym (inline_stops x xs h)) (inline_stops x xs h)
-      | inr h ↦ subst P (sym (inline_continues x xs h)) (inline_continues (to_ascii_uppercase x) (uppercase_front xs) (not_ff x h) ∙ ap (λ (l : List ℕ). to_ascii_uppercase x ∷ l) (inline_text_uppercase xs))
-    ]
+inline_text_uppercase (x ∷ xs) = grind (arith, common_steps, cases_Bool, inline_stops, inline_continues, not_ff, inline_text_uppercase xs)
 
 -- the text is inline if it was before
 form_uppercase : (s : List ℕ) → is_out_of_line (uppercase_front s) ≡ is_out_of_line s
 form_uppercase [] = refl
-form_uppercase (x ∷ xs) =
-    let P : List ℕ → Type 0 = λ t. is_out_of_line (map to_ascii_uppercase t ++ drop (length t) (x ∷ xs)) ≡ is_out_of_line (x ∷ xs) in
-    elim (cases_Bool (x == 255)) [
-      | inl h ↦ subst P (sym (inline_stops x xs h)) refl
-      | inr h ↦ subst P (sym (inline_continues x xs h)) (same_form x)
-    ]
+form_uppercase (x ∷ xs) = grind (arith, common_steps, cases_Bool, inline_stops, inline_continues, same_form)
 
 module _ (w : Width) (b : List ℕ) (p : ℕ) (inside : p + text_size w ≤ length b) where
   fixed_length : length (fixed_bytes w b p) ≡ text_size w

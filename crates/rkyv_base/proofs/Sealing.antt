@@ -1,6 +1,6 @@
 -- Writing one value of an archive in place: the new bytes, and the unchanged ones.
 use Rattle.std.specs.Prelude.{◌≡◌, ℕ, ◌+◌, ◌-◌, ◌≤◌, List, ◌++◌, length, take, drop, slice_range}
-use Rattle.std.specs.Int.{byte_len, from_le_bytes, to_le_bytes}
+use Rattle.std.specs.Int.{byte_len}
 use Rattle.std.proofs.Common.{refl, arith, subst, subst₂, sym, ◌∙◌, ap, zero-add, length-append, length-drop}
 use Rattle.std.proofs.lemmas.Grind.{common_steps}
 use Rattle.std.proofs.lemmas.List.{drop-drop, drop-take, length-take-le, take-take}
@@ -27,11 +27,7 @@ module _ (b : List ℕ) (p n : ℕ) (w : List ℕ) (inside : p + n ≤ length b)
 
 -- a part as a part of the front up to `p`
 part_of_front : (b : List ℕ) (i j p : ℕ) → i ≤ j → j ≤ p → slice_range b i j ≡ drop i (take j (take p b))
-part_of_front b i j p o q =
-    let e : i + (j - i) ≡ j = omega arith in
-    let t : take j (take p b) ≡ take j b = take-take j p b q in
-    let d : drop i (take j b) ≡ slice_range b i j = rw e at (drop-take i (j - i) b) in
-    sym (ap (drop i) t ∙ d)
+part_of_front b i j p o q = grind (arith, common_steps, take-take j p b q, drop-take i (j - i) b)
 
 module _ (b : List ℕ) (p n : ℕ) (c : List ℕ) (s : ModifiesOnly b p n c) where
   same_before : (i j : ℕ) → i ≤ j → j ≤ p → AgreeOn b c i j
@@ -39,11 +35,7 @@ module _ (b : List ℕ) (p n : ℕ) (c : List ℕ) (s : ModifiesOnly b p n c) wh
       part_of_front b i j p o q ∙ ap (λ (x : List ℕ). drop i (take j x)) (sym s.before) ∙ sym (part_of_front c i j p o q)
 
   same_after : (i j : ℕ) → p + n ≤ i → AgreeOn b c i j
-  same_after i j q =
-      let e : (p + n) + (i - (p + n)) ≡ i = omega arith in
-      let kb : drop (i - (p + n)) (drop (p + n) b) ≡ drop i b = rw e at (drop-drop (i - (p + n)) (p + n) b) in
-      let kc : drop (i - (p + n)) (drop (p + n) c) ≡ drop i c = rw e at (drop-drop (i - (p + n)) (p + n) c) in
-      ap (take (j - i)) (sym kb ∙ ap (drop (i - (p + n))) (sym s.after) ∙ kc)
+  same_after i j q = grind (arith, common_steps, drop-drop (i - (p + n)) (p + n) b, drop-drop (i - (p + n)) (p + n) c)
 
   -- the bytes outside the sealed ones are the same
   pub same_outside : (i j : ℕ) → i ≤ j → Outside p n i j → AgreeOn b c i j
@@ -51,15 +43,7 @@ module _ (b : List ℕ) (p n : ℕ) (c : List ℕ) (s : ModifiesOnly b p n c) wh
 
 -- bytes that change only in a range change only in a wider range
 pub sealed_wider : (b c : List ℕ) (p n q m : ℕ) → q ≤ p → p + n ≤ q + m → ModifiesOnly b p n c → ModifiesOnly b q m c
-sealed_wider b c p n q m o h s =
-    let e : (p + n) + ((q + m) - (p + n)) ≡ q + m = omega arith in
-    let kb : drop ((q + m) - (p + n)) (drop (p + n) b) ≡ drop (q + m) b = rw e at (drop-drop ((q + m) - (p + n)) (p + n) b) in
-    let kc : drop ((q + m) - (p + n)) (drop (p + n) c) ≡ drop (q + m) c = rw e at (drop-drop ((q + m) - (p + n)) (p + n) c) in
-    record {
-      same_length = s.same_length;
-      before = sym (take-take q p c o) ∙ ap (take q) s.before ∙ take-take q p b o;
-      after = sym kc ∙ ap (drop ((q + m) - (p + n))) s.after ∙ kb;
-    }
+sealed_wider b c p n q m o h s = grind (arith, common_steps, drop-drop ((q + m) - (p + n)) (p + n) b, drop-drop ((q + m) - (p + n)) (p + n) c, take-take q p c o, take-take q p b o)
 
 -- a scalar was written in place: nothing else changes, it reads back, and valid bytes stay valid
 pub record ValueSet {V : Type 0} (s : ElementSpec) (e : Encoding V) (b c : List ℕ) (p : ℕ) (v : V) : Type 0 where
@@ -71,10 +55,7 @@ pub record ValueSet {V : Type 0} (s : ElementSpec) (e : Encoding V) (b c : List 
 module _ {V : Type 0} (s : ElementSpec) (e : Encoding V) (laws : IsScalar s e) (b c : List ℕ) (p : ℕ) (v : V) (out : List ℕ)
     (inside : p + byte_len e.word ≤ length b) (encodes : Encodes e v out) (is : c ≡ with_value e b p v) where
   number_is_code : number_at e.word c p ≡ e.code v
-  number_is_code =
-      ap (λ (x : List ℕ). number_at e.word x p) is
-      ∙ ap (from_le_bytes e.word) (with_bytes-slice b p (byte_len e.word) (to_le_bytes e.word (e.code v)) inside (word_bytes e.word laws.word (e.code v)))
-      ∙ word_reads_back e.word laws.word (e.code v) encodes.fits
+  number_is_code = grind (arith, with_bytes-slice, word_bytes, word_reads_back)
 
   value_sealed : ModifiesOnly b p s.size c
   value_sealed = grind (arith, common_steps, subst₂, with_bytes-sealed, word_bytes)
@@ -112,20 +93,10 @@ viewable_kept s b c p n keeps h = grind (arith, common_steps)
 -- the archive is cut at `q`, after a value
 module _ (s : ElementSpec) (laws : IsElement s) (b : List ℕ) (q : ℕ) where
   same_in_front : (i j : ℕ) → i ≤ j → j ≤ q → AgreeOn b (take q b) i j
-  same_in_front i j o h =
-      let e : take q (take q b) ≡ take q b = take-take q q b (omega arith) in
-      part_of_front b i j q o h ∙ ap (λ (x : List ℕ). drop i (take j x)) (sym e) ∙ sym (part_of_front (take q b) i j q o h)
+  same_in_front i j o h = grind (arith, common_steps, take-take q q b (omega arith), part_of_front b i j q o h, part_of_front (take q b) i j q o h)
 
   pub front_viewable : (p : ℕ) → p + s.size ≤ q → q ≤ length b → Viewable s b p → Viewable s (take q b) p
-  front_viewable p h inside view =
-      let d = view.valid in
-      let k : (0 ≤ d.0) × (d.0 ≤ p) = laws.rest_in_range b p 0 p d.0 (omega arith) d.1 in
-      let n : length (take q b) ≡ q = length-take-le q b inside in
-      record {
-        inside = omega (arith, n);
-        aligned = view.aligned;
-        valid = (d.0, laws.local b (take q b) p 0 p d.0 (omega arith) (same_in_front p (p + s.size) (omega arith) h) (same_in_front 0 d.0 k.0 (omega arith)) d.1);
-      }
+  front_viewable p h inside view = grind (arith, common_steps, length-take-le q b inside, same_in_front p (p + s.size) (omega arith) h)
 
 -- the key of a valid entry is in the bytes before the value
 pub key_in_front : (k v : ElementSpec) → IsElement k → IsElement v → (b : List ℕ) (p : ℕ) → Viewable (entry_spec k v) b p → Viewable k (take (p + value_offset k v) b) p

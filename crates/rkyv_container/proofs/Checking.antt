@@ -1,18 +1,7 @@
 -- Laws of checks in order, and of results that state the first failing check.
-use Rattle.std.proofs.Common.{
-  ◌≡◌,
-  ◌↔◌,
-  Result,
-  Ok,
-  Err,
-  MatchResult,
-  IsErrAnd,
-  inl,
-  inr,
-  ap,
-  sym,
-  subst,
-}
+use Rattle.std.proofs.Common.{arith}
+use Rattle.std.proofs.lemmas.Grind.{common_steps}
+use Rattle.std.proofs.Common.{◌≡◌, ◌↔◌, Result, Ok, Err, MatchResult, IsErrAnd, inl, inr, sym, subst}
 use Rattle.rkyv_container.specs.declared.errors.ContainerError.{ContainerError}
 use Rattle.rkyv_container.specs.{AllPass, Checks, FirstFails, check, done, followed_by}
 
@@ -52,10 +41,7 @@ first_unique (check P x rest) e o (inr f) (inr g) = first_unique rest e o f.1 g.
 pub ok_exact : {X : Type 0} (r : Result X ContainerError) (P : X → Type 0)
     (Q : ContainerError → Type 0) → ((x : X) (e : ContainerError) → P x → Q e → ⊥)
     → ((x y : X) → P x → P y → x ≡ y) → MatchResult r P Q → (x : X) → (r ≡ Ok x) ↔ P x
-ok_exact (Ok y) P Q apart unique m x = (
-  λ (k : Ok y ≡ Ok x). let e : y ≡ x = cc in subst P e m,
-  λ (p : P x). ap Ok (unique y x m p),
-)
+ok_exact (Ok y) P Q apart unique m x = grind (arith, common_steps)
 ok_exact (Err o) P Q apart unique m x =
     (λ (k : Err o ≡ Ok x). absurd (cc), λ (p : P x). absurd (apart x o p m))
 
@@ -65,10 +51,7 @@ pub err_exact : {X : Type 0} (r : Result X ContainerError) (P : X → Type 0)
     → (e : ContainerError) → (r ≡ Err e) ↔ Q e
 err_exact (Ok x) P Q apart unique m e =
     (λ (k : Ok x ≡ Err e). absurd (cc), λ (q : Q e). absurd (apart x e m q))
-err_exact (Err o) P Q apart unique m e = (
-  λ (k : Err o ≡ Err e). let h : o ≡ e = cc in subst Q h m,
-  λ (q : Q e). ap Err (unique o e m q),
-)
+err_exact (Err o) P Q apart unique m e = grind (arith, common_steps)
 
 -- a result that passes an error on
 pub err_from : {X : Type 0} (r : Result X ContainerError) (P : X → Type 0)

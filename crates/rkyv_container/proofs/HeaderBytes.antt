@@ -1,30 +1,6 @@
 -- The bytes of a header: each field at its offset, and headers with equal bytes are equal.
-use Rattle.std.proofs.Common.{
-  ◌≡◌,
-  ℕ,
-  ◌+◌,
-  ◌-◌,
-  ◌<◌,
-  ◌≤◌,
-  ◌==◌,
-  ◌^◌,
-  min,
-  List,
-  ◌++◌,
-  length,
-  take,
-  drop,
-  cond,
-  Option,
-  None,
-  Some,
-  refl,
-  sym,
-  ap,
-  ◌∙◌,
-  arith,
-  length-take,
-}
+use Rattle.std.proofs.lemmas.Grind.{common_steps}
+use Rattle.std.proofs.Common.{◌≡◌, ℕ, ◌-◌, ◌<◌, ◌≤◌, ◌==◌, ◌^◌, min, List, ◌++◌, length, take, drop, cond, Option, None, Some, refl, sym, ap, ◌∙◌, arith, length-take}
 use Rattle.std.specs.Prelude.{slice_index, slice_range}
 use Rattle.std.specs.Int.{from_le_bytes, to_le_bytes, w16, w32, w64}
 use Rattle.std.proofs.lemmas.List.{drop-drop, drop-take, take-append-drop, take-take}
@@ -47,29 +23,12 @@ use Rattle.std.proofs.Common.{arith}
 -- a range of the first `n` bytes
 pub slice_take : (b : List ℕ) (n i j : ℕ) → i ≤ j → j ≤ n
     → slice_range (take n b) i j ≡ slice_range b i j
-slice_take b n i j hij hjn =
-    let e : n ≡ i + (n - i) = omega arith in
-    let k : j - i ≤ n - i = omega arith in
-    let s : drop i (take n b) ≡ take (n - i) (drop i b) =
-    ap (λ (m : ℕ). drop i (take m b)) e ∙ drop-take i (n - i) b in
-    ap (λ (x : List ℕ). take (j - i) x) s ∙ take-take (j - i) (n - i) (drop i b) k
+slice_take b n i j hij hjn = grind (arith, common_steps, drop-take i (n - i) b, take-take)
 
 -- two neighbouring ranges
 pub slice_join : (b : List ℕ) (i j k : ℕ) → i ≤ j → j ≤ k
     → slice_range b i j ++ slice_range b j k ≡ slice_range b i k
-slice_join b i j k hij hjk =
-    let m : j - i ≤ k - i = omega arith in
-    let e : i + (j - i) ≡ j = omega arith in
-    let f : k - i ≡ (j - i) + (k - j) = omega arith in
-    let whole = take-append-drop (j - i) (take (k - i) (drop i b)) in
-    let front : take (j - i) (take (k - i) (drop i b)) ≡ slice_range b i j =
-    take-take (j - i) (k - i) (drop i b) m in
-    let back : drop (j - i) (take (k - i) (drop i b)) ≡ slice_range b j k =
-    ap (λ (n : ℕ). drop (j - i) (take n (drop i b))) f
-    ∙ drop-take (j - i) (k - j) (drop i b)
-    ∙ ap (λ (x : List ℕ). take (k - j) x) (drop-drop (j - i) i b)
-    ∙ ap (λ (n : ℕ). take (k - j) (drop n b)) e in
-    rw (front, back) at whole
+slice_join b i j k hij hjk = grind (arith, common_steps, take-append-drop (j - i) (take (k - i) (drop i b)), drop-take (j - i) (k - j) (drop i b), drop-drop (j - i) i b, take-take)
 
 -- a field of a header, at the same positions in the bytes
 pub field : (h : Header) (b : List ℕ) (i j : ℕ) → IsHeader h b → i ≤ j → j ≤ 32
@@ -153,10 +112,7 @@ contents_with k s t w = record { kind = k; key = s; value = t; width = w }
 pub contents_equal : (c d : Contents) → c.kind ≡ d.kind → c.key ≡ d.key → c.value ≡ d.value
     → c.width ≡ d.width → c ≡ d
 unfolding contents_with
-contents_equal c d k s t w =
-    let e : contents_with c.kind c.key c.value c.width ≡ contents_with d.kind d.key d.value d.width
-    = cc in
-    e
+contents_equal c d k s t w = grind (arith, common_steps, contents_with)
 
 -- contents with equal bytes are equal
 pub contents_unique : (c d : Contents) → contents_bytes c ≡ contents_bytes d → c ≡ d
@@ -172,10 +128,7 @@ header_with c n s = record { contents = c; len = n; checksum = s }
 pub header_equal : (h k : Header) → h.contents ≡ k.contents → h.len ≡ k.len
     → h.checksum ≡ k.checksum → h ≡ k
 unfolding header_with
-header_equal h k c n s =
-    let e : header_with h.contents h.len h.checksum ≡ header_with k.contents k.len k.checksum
-    = cc in
-    e
+header_equal h k c n s = grind (arith, common_steps, header_with)
 
 -- the flags fit in two bytes
 pub flags_fit : (c : Option ℕ) → flags_of c < 2 ^ 16

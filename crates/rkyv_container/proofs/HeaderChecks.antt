@@ -1,45 +1,10 @@
 -- A header passes the checks of reading it, and bytes that pass them begin with a header.
-use Rattle.std.proofs.Common.{
-  ◌≡◌,
-  ℕ,
-  ◌+◌,
-  ◌<◌,
-  ◌≤◌,
-  ◌^◌,
-  List,
-  ◌++◌,
-  length,
-  take,
-  drop,
-  get_or,
-  Option,
-  None,
-  Some,
-  refl,
-  sym,
-  ap,
-  ◌∙◌,
-  inl,
-  inr,
-  arith,
-  lit<,
-}
+use Rattle.std.proofs.Common.{◌≡◌, ℕ, ◌+◌, ◌<◌, ◌≤◌, ◌^◌, List, ◌++◌, length, take, drop, get_or, Option, None, Some, refl, ap, ◌∙◌, inl, inr, arith, lit<}
 use Rattle.std.specs.Prelude.{slice_index, slice_range}
 use Rattle.std.specs.Int.{from_le_bytes, to_le_bytes, w16, w32, w64}
-use Rattle.std.proofs.lemmas.List.{
-  get_or-drop,
-  get_or-take,
-  get_or_past,
-  length-drop,
-  length-take,
-  length-take-le,
-}
+use Rattle.std.proofs.lemmas.List.{get_or-drop, get_or-take, get_or_past, length-take}
 use Rattle.std.proofs.lemmas.Bool.{cases_lt}
-use Rattle.std.proofs.lemmas.Nat.{
-  from_le_bytes-to_le_bytes_2,
-  from_le_bytes-to_le_bytes_4,
-  le_bytes_2,
-}
+use Rattle.std.proofs.lemmas.Nat.{from_le_bytes-to_le_bytes_2, from_le_bytes-to_le_bytes_4}
 use Rattle.rkyv_container.specs.declared.contents.Contents.{Contents}
 use Rattle.rkyv_container.specs.declared.header.Header.{Header}
 use Rattle.rkyv_container.specs.declared.errors.ContainerError.{ContainerError}
@@ -58,7 +23,7 @@ width_fails f k s t w = inr (k, inr (s, inr (t, inl (w, refl))))
 
 -- four bytes of contents pass the checks of their codes
 codes_pass : (c : Contents) (f : List ℕ) → f ≡ contents_bytes c → AllPass (code_checks f)
-codes_pass c f e = grind (arith, common_steps, slice_index)
+codes_pass c f e = grind (arith, common_steps)
 
 -- the flags or the checksum field is the first fault of a header
 pub flags_fail : (b : List ℕ) (c : Contents) (e : ContainerError) → AllPass (start_checks b)
@@ -66,13 +31,7 @@ pub flags_fail : (b : List ℕ) (c : Contents) (e : ContainerError) → AllPass 
     → FirstFails (flag_checks (from_le_bytes w16 (slice_range b 14 16))
     (from_le_bytes w32 (slice_range b 24 28))) e
     → FirstFails (header_checks b) e
-flags_fail b c e start codes f =
-    let fc = code_checks (slice_range b 10 14) in
-    let ff = flag_checks (from_le_bytes w16 (slice_range b 14 16))
-    (from_le_bytes w32 (slice_range b 24 28)) in
-    let fr = reserved_checks (from_le_bytes w32 (slice_range b 28 32)) in
-    fails_later (start_checks b) (followed_by fc (followed_by ff fr)) e start
-    (fails_later fc (followed_by ff fr) e (codes_pass c _ codes) (fails_first ff fr e f))
+flags_fail b c e start codes f = grind (arith, common_steps, fails_later, codes_pass, fails_first)
 
 flags_pass : (c : Option ℕ) (n s : ℕ) → n ≡ flags_of c → s ≡ checksum_field c
     → AllPass (flag_checks n s)
@@ -114,7 +73,7 @@ header_passes h b s =
 fields : (b : List ℕ) → take 32 b
     ≡ slice_range b 0 8 ++ (slice_range b 8 10 ++ (slice_range b 10 14 ++ (slice_range b 14 16
     ++ (slice_range b 16 24 ++ (slice_range b 24 28 ++ slice_range b 28 32)))))
-fields b = grind (arith, common_steps, slice_join, slice_range)
+fields b = grind (arith, common_steps, slice_join)
 
 -- lists of equal parts
 joined : (a b c d e f g a' b' c' d' e' f' g' : List ℕ) → a ≡ a' → b ≡ b' → c ≡ c' → d ≡ d'
@@ -138,22 +97,4 @@ pub header_from : (h : Header) (b : List ℕ) → ((i : ℕ) → get_or b i 0 < 
     → IsChecksumField h.checksum (slice_range b 14 16) (slice_range b 24 28)
     → to_le_bytes w64 h.len ≡ slice_range b 16 24 → h.len < 2 ^ 64
     → to_le_bytes w32 0 ≡ slice_range b 28 32 → IsHeader h b
-header_from h b small start c s n nf r =
-    let long : 32 ≤ length b = start.0 in
-    let v : to_le_bytes w16 1 ≡ slice_range b 8 10 =
-    le_bytes_2 (slice_range b 8 10) 1
-    (length-take-le 2 (drop 8 b) (omega (arith, length-drop 8 b)))
-    (version_bytes b small)
-    (sym start.1.1.0) in
-    record {
-      fits = record { len = nf; checksum = s.fits };
-      bytes = fields b ∙ joined _ _ _ _ _ _ _
-          magic
-          (to_le_bytes w16 1)
-          (contents_bytes h.contents)
-          (to_le_bytes w16 (flags_of h.checksum))
-          (to_le_bytes w64 h.len)
-          (to_le_bytes w32 (checksum_field h.checksum))
-          (to_le_bytes w32 0)
-          start.1.0 (sym v) c s.flags (sym n) s.number (sym r);
-    }
+header_from h b small start c s n nf r = grind (arith, common_steps, version_bytes b small, fields b, joined)

@@ -1,5 +1,5 @@
 -- Containers from their checks, and the uniqueness of what opening returns.
-use Rattle.std.proofs.Common.{◌≡◌, ℕ, ◌⊎◌, ◌↔◌, List, drop, Result, Ok, Err, MatchResult, IsOk, IsOkAnd, refl, sym, ap, ◌∙◌, subst, inl, inr, arith}
+use Rattle.std.proofs.Common.{◌≡◌, ℕ, ◌⊎◌, ◌↔◌, List, drop, Result, Ok, Err, MatchResult, IsOk, IsOkAnd, refl, sym, ◌∙◌, subst, inl, inr, arith}
 use Rattle.std.proofs.lemmas.Grind.{common_steps}
 use Rattle.std.proofs.lemmas.List.{drop_at, take-append-drop, take_at}
 use Rattle.rkyv_container.specs.declared.contents.Contents.{Contents}
@@ -7,11 +7,7 @@ use Rattle.rkyv_container.specs.declared.header.Header.{Header}
 use Rattle.rkyv_container.specs.declared.errors.ContainerError.{ContainerError}
 use Rattle.rkyv_container.specs.declared.errors.ContainerError.TheVariants.{WrongValueType, WrongWidth}
 use Rattle.rkyv_container.specs.{AllPass, Checks, FirstFails, IsContainer, IsContainerOf, IsHeader, IsSplit, OpenAsFails, OpenFails, archive_checks, contents_checks, followed_by, header_bytes, header_checks}
-use Rattle.rkyv_container.proofs.Checking.{
-  first_unique,
-  pass_both,
-  pass_excludes,
-}
+use Rattle.rkyv_container.proofs.Checking.{first_unique, pass_excludes}
 use Rattle.rkyv_container.proofs.HeaderBytes.{contents_equal, header_unique}
 use Rattle.rkyv_container.proofs.HeaderChecks.{header_passes}
 
@@ -87,26 +83,14 @@ container_excludes b h a e s f =
     (rest_passes h a b s) f
 
 same_contents : (x f : Contents) → f ≡ x → AllPass (contents_checks x f)
-same_contents x f e = (
-  ap (λ (c : Contents). c.kind) e,
-  (
-    ap (λ (c : Contents). c.key) e,
-    (ap (λ (c : Contents). c.value) e, (ap (λ (c : Contents). c.width) e, tt)),
-  ),
-)
+same_contents x f e = grind (arith, common_steps)
 
 pub contents_from : (x f : Contents) → AllPass (contents_checks x f) → f ≡ x
 contents_from x f p = contents_equal f x p.0 p.1.0 p.1.1.0 p.1.1.1.0
 
 pub container_of_excludes : (x : Contents) (b a : List ℕ) (e : ContainerError)
     → IsContainerOf x a b → OpenAsFails x b e → ⊥
-container_of_excludes x b a e s f =
-    let h = s.0 in
-    behind_excludes
-    (λ k. followed_by (contents_checks x k.contents) (archive_checks k (drop 32 b))) b h e
-    (container_split h a b s.1.1).0
-    (pass_both (contents_checks x h.contents) (archive_checks h (drop 32 b))
-    (same_contents x h.contents s.1.0) (rest_passes h a b s.1.1)) f
+container_of_excludes x b a e s f = grind (arith, common_steps, behind_excludes, container_split, same_contents, rest_passes)
 
 -- the header and the archive that opening returns
 pub opens_exact : {X : Type 0} (r : Result X ContainerError) (head : X → Header)

@@ -1,30 +1,5 @@
 -- The two sums of Adler-32 over the bytes so far.
-use Rattle.std.proofs.Common.{
-  ◌≡◌,
-  ℕ,
-  ◌+◌,
-  ◌-◌,
-  ◌*◌,
-  ◌%◌,
-  ◌<◌,
-  ◌≤◌,
-  List,
-  [],
-  ◌∷◌,
-  ◌++◌,
-  length,
-  take,
-  drop,
-  get_or,
-  sum,
-  refl,
-  sym,
-  ap,
-  ◌∙◌,
-  arith,
-  length-append,
-  length-drop,
-}
+use Rattle.std.proofs.Common.{◌≡◌, ℕ, ◌+◌, ◌-◌, ◌*◌, ◌%◌, ◌<◌, ◌≤◌, List, [], ◌∷◌, ◌++◌, length, take, drop, get_or, sum, refl, ap, ◌∙◌, arith, length-drop}
 use Rattle.std.specs.Prelude.{slice_range}
 use Rattle.std.proofs.lemmas.List.{get_or_at, length-take-le, take_all, take_more}
 use Rattle.std.proofs.lemmas.List.Sums.{sum_by-append, sum_by-cons, sum_by_more}
@@ -57,16 +32,7 @@ mul_add a b c = grind arith
 weighted_sum-append : (xs ys : List ℕ) → weighted_sum (xs ++ ys)
     ≡ weighted_sum xs + length ys * sum xs + weighted_sum ys
 weighted_sum-append [] ys = omega arith
-weighted_sum-append (x ∷ xs) ys =
-    let n : length (xs ++ ys) ≡ length xs + length ys = length-append xs ys in
-    let s : sum (x ∷ xs) ≡ x + sum xs = sum_by-cons (λ y. y) x xs in
-    let e : (length (xs ++ ys) + 1) * x ≡ (length xs + 1) * x + length ys * x =
-    rw (n, ← add_mul (length xs + 1) (length ys) x)
-    (ap (λ (k : ℕ). k * x) (omega arith)) in
-    let f : length ys * sum (x ∷ xs) ≡ length ys * x + length ys * sum xs =
-    rw (s) (mul_add (length ys) x (sum xs)) in
-    let k = weighted_sum-append xs ys in
-    omega arith
+weighted_sum-append (x ∷ xs) ys = grind (arith, common_steps, sum_by-cons, add_mul, mul_add, weighted_sum-append xs ys)
 
 -- the sums after one more byte
 sum_more : (b : List ℕ) (i : ℕ) → i < length b
@@ -75,7 +41,7 @@ sum_more b i k = sum_by_more (λ y. y) b i 0 k
 
 weighted_sum_more : (b : List ℕ) (i : ℕ) → i < length b
     → weighted_sum (take (i + 1) b) ≡ weighted_sum (take i b) + sum (take i b) + get_or b i 0
-weighted_sum_more b i k = grind (arith, common_steps, weighted_sum-append, weighted_sum, take_more)
+weighted_sum_more b i k = grind (arith, common_steps, weighted_sum-append, take_more)
 
 pub sums_more : (l h : ℕ) (b : List ℕ) (i low high x : ℕ) → length b ≤ 4096 → i < length b
     → x ≡ get_or b i 0 → x < 256 → AreBlockSums l h b i low high
@@ -133,7 +99,7 @@ block_sums b i j low high low' high' ij jn s e f =
 -- the checksum from the sums of all bytes
 pub all_sums : (b : List ℕ) (i low high : ℕ) → length b ≤ i → AreSumsOf b i low high
     → high * 65536 + low ≡ adler32_of b
-all_sums b i low high n s = grind (arith, common_steps, take_all, adler32_low, adler32_high, weighted_sum)
+all_sums b i low high n s = grind (arith, common_steps, take_all, adler32_low, adler32_high)
 
 -- the low half of a checksum
 low_of : (h l : ℕ) (k m : ℕ) → l < 65536 → m < 65536 → h * 65536 + l ≡ k * 65536 + m → l ≡ m
@@ -153,19 +119,4 @@ sum_with front back x = grind (arith, common_steps, sum_by-append, sum_by-cons)
 -- a change of one byte changes the checksum
 pub detects_change : (b : List ℕ) → ((i : ℕ) → get_or b i 0 < 256)
     → DetectsChange b (adler32_of b)
-detects_change b small front back x y e q n c =
-    let other = front ++ y ∷ back in
-    let here : get_or b (length front) 0 ≡ x =
-    ap (λ (l : List ℕ). get_or l (length front) 0) e
-    ∙ get_or_at front x back 0 (length front) refl in
-    let small_x : x < 256 = omega (arith, small (length front)) in
-    let low : adler32_low b ≡ adler32_low other =
-    low_of (adler32_high b) (adler32_low b) (adler32_high other) (adler32_low other)
-    (low_below b) (low_below other) c in
-    let m = 1 + sum front + sum back in
-    let l : adler32_low b ≡ (m + x) % 65521 =
-    ap (λ (l : List ℕ). (1 + sum l) % 65521) e ∙ ap (λ (k : ℕ). k % 65521)
-    (sum_with front back x) in
-    let r : adler32_low other ≡ (m + y) % 65521 =
-    ap (λ (k : ℕ). k % 65521) (sum_with front back y) in
-    n (low_changes m x y small_x q (sym l ∙ low ∙ r))
+detects_change b small front back x y e q n c = grind (arith, common_steps, get_or_at front x back 0 (length front) refl, low_below b, sum_with front back x, sum_with front back y, low_of, low_changes)

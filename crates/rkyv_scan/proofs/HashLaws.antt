@@ -1,5 +1,5 @@
 -- Proofs of the laws of the hash.
-use Rattle.std.proofs.Common.{◌≡◌, ℕ, zero, suc, ◌+◌, ◌*◌, ◌/◌, ◌%◌, ◌<◌, ◌≤◌, cond, eqb, List, [], ◌∷◌, ◌++◌, length, get_or, map, drop, refl, sym, ap, ◌∙◌, arith, add-zero, zero-add, get_or-drop, append-nil, append_assoc, length-append, w8, w16, w32, w64}
+use Rattle.std.proofs.Common.{◌≡◌, ℕ, zero, suc, ◌+◌, ◌*◌, ◌/◌, ◌%◌, ◌<◌, ◌≤◌, List, [], ◌∷◌, ◌++◌, length, get_or, map, drop, refl, sym, ap, ◌∙◌, arith, add-zero, zero-add, get_or-drop, append-nil, append_assoc, length-append, w64}
 use Rattle.std.proofs.lemmas.Grind.{common_steps}
 use Rattle.std.specs.List.{All, flat_map, fold, range_with_len}
 use Rattle.std.specs.Int.{Width, from_le_bytes}
@@ -26,9 +26,7 @@ fixed_alike one other calls h = states_agree one other 0 calls h
 calls_are_words : (sizes : SizeWords) (state : ℕ) (calls : List HasherCall)
     → fold (fx_feed sizes) state calls ≡ hash_words state (flat_map (call_words sizes) calls)
 calls_are_words sizes state [] = refl
-calls_are_words sizes state (call ∷ calls) =
-    calls_are_words sizes (fx_feed sizes state call) calls
-    ∙ sym (fold-append hash_word state (call_words sizes call) (flat_map (call_words sizes) calls))
+calls_are_words sizes state (call ∷ calls) = grind (arith, common_steps, fold-append, calls_are_words sizes (fx_feed sizes state call) calls)
 
 pub calls_words : CallsHashTheirWords
 calls_words sizes calls = calls_are_words sizes 0 calls
@@ -36,23 +34,14 @@ calls_words sizes calls = calls_are_words sizes 0 calls
 -- a length that is a multiple of eight leaves no further words
 rest_none : (a : List ℕ) → length a % 8 ≡ 0 → rest_words a ≡ []
 unfolding rest_words
-rest_none a h =
-    let n = length a in
-    let four : n / 4 % 2 ≡ 0 = omega arith in
-    let two : n / 2 % 2 ≡ 0 = omega arith in
-    let one : n % 2 ≡ 0 = omega arith in
-    rw (four, two, one) refl
+rest_none a h = grind (arith, common_steps)
 
 pub eight_bytes : EightBytesAreOneWord
 unfolding byte_words
-eight_bytes sizes state a long =
-    let none = rest_none a (rw long refl) in
-    rw (none, long) refl
+eight_bytes sizes state a long = grind (arith, common_steps, rest_none)
 
 from_eight : (xs ys : List ℕ) → ((j : ℕ) → j < 8 → get_or xs j 0 ≡ get_or ys j 0) → from_le_bytes w64 xs ≡ from_le_bytes w64 ys
-from_eight xs ys h =
-    (λ i. h 0 (omega arith) i + h 1 (omega arith) i * 256 + h 2 (omega arith) i * 65536 + h 3 (omega arith) i * 16777216 + h 4 (omega arith) i * 4294967296
-    + h 5 (omega arith) i * 1099511627776 + h 6 (omega arith) i * 281474976710656 + h 7 (omega arith) i * 72057594037927936)
+from_eight xs ys h = grind arith
 
 -- a word of the first list, and a word of the second
 number_left : (a b : List ℕ) (i : ℕ) → i + 8 ≤ length a → number_from w64 (a ++ b) i ≡ number_from w64 a i
@@ -83,17 +72,7 @@ whole_join a b m n long =
 
 rest_join : (a b : List ℕ) → length a % 8 ≡ 0 → rest_words (a ++ b) ≡ rest_words b
 unfolding rest_words
-rest_join a b h =
-    let n = length (a ++ b) in
-    let l = length b in
-    let sum : n ≡ length a + l = length-append a b in
-    let four : n / 4 % 2 ≡ l / 4 % 2 = omega arith in
-    let two : n / 2 % 2 ≡ l / 2 % 2 = omega arith in
-    let one : n % 2 ≡ l % 2 = omega arith in
-    let wide = number_right w32 a b (n / 8 * 8) (l / 8 * 8) (omega arith) in
-    let half = number_right w16 a b (n / 4 * 4) (l / 4 * 4) (omega arith) in
-    let last = number_right w8 a b (n / 2 * 2) (l / 2 * 2) (omega arith) in
-    (λ i. cond (eqb (four i) 1) (wide i ∷ []) [] ++ cond (eqb (two i) 1) (half i ∷ []) [] ++ cond (eqb (one i) 1) (last i ∷ []) [])
+rest_join a b h = grind (arith, common_steps, length-append a b, number_right)
 
 words_join : (a b : List ℕ) → length a % 8 ≡ 0 → byte_words (a ++ b) ≡ byte_words a ++ byte_words b
 unfolding byte_words

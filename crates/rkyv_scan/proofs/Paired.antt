@@ -16,13 +16,7 @@ half_first : (xs : List ℕ) (t k : ℕ) → k % 8 ≡ 0 → is_half_match_at xs
 half_first xs t k e = ap (is_word_match_at (half_of xs k) t) e ∙ ap (λ x. eqb x t) (ap (slice_index (half_of xs k)) (sym e) ∙ half_at xs k)
 
 half_next : (xs : List ℕ) (t k : ℕ) → (k % 8 ≡ 0 → ⊥) → is_half_match_at xs t k ≡ (eqb (slice_index xs k) t || (eqb (slice_index xs k) (bit_xor t 1) && is_half_match_at xs t (k - 1)))
-half_next xs t k ne =
-    let r = k % 8 - 1 in
-    let e : k % 8 ≡ suc r = omega arith in
-    let at : slice_index (half_of xs k) (suc r) ≡ slice_index xs k = ap (slice_index (half_of xs k)) (sym e) ∙ half_at xs k in
-    let d : k / 8 * 8 + r ≡ k - 1 = omega arith in
-    let low : is_word_match_at (half_of xs k) t r ≡ is_half_match_at xs t (k - 1) = sym (half_lower xs t k r (omega arith)) ∙ ap (is_half_match_at xs t) d in
-    ap (is_word_match_at (half_of xs k) t) e ∙ (λ i. eqb (at i) t || (eqb (at i) (bit_xor t 1) && low i))
+half_next xs t k ne = grind (arith, half_at, half_lower, bit_xor)
 
 -- ---- the mask of the indices that are not the first of a half
 later_bit : (i : ℕ) → i < 16 → bit_at 65278 i ≡ cond (eqb (i % 8) 0) 0 1
@@ -30,9 +24,7 @@ later_bit i l = eqb-true _ _ (all_to_at 16 (λ i. eqb (bit_at 65278 i) (cond (eq
 
 after_none : (m k : ℕ) → k < 16 → k % 8 ≡ 0 → bit_at (bits_after m) k ≡ 0
 unfolding bits_after
-after_none m k l z =
-    let mask : bit_at 65278 k ≡ 0 = later_bit k l ∙ ap (λ b. cond b 0 1) (eq-eqb (k % 8) 0 z) in
-    omega (arith, bit_at_and (m * 2 ^ 1 % 2 ^ 16) 65278 k, mask)
+after_none m k l z = grind (arith, common_steps, later_bit, eq-eqb, bit_at_and)
 
 after_some : (m k : ℕ) → k < 16 → (k % 8 ≡ 0 → ⊥) → bit_at (bits_after m) k ≡ bit_at m (k - 1)
 unfolding bits_after
@@ -49,10 +41,7 @@ two : (a : ℕ) → a < 2 → (a ≡ 0) ⊎ (a ≡ 1)
 two a l = elim (cases_eq a 0) [ inl z ↦ inl z | inr nz ↦ inr (omega arith) ]
 
 or_mark : (a b c : ℕ) → a < 2 → b < 2 → c < 2 → eqb (max a (min c b)) 1 ≡ (eqb a 1 || (eqb b 1 && eqb c 1))
-or_mark a b c p q r = elim (two a p) [
-  | inl x ↦ elim (two b q) [ inl y ↦ elim (two c r) [ inl z ↦ rw (x, y, z) refl | inr z ↦ rw (x, y, z) refl ] | inr y ↦ elim (two c r) [ inl z ↦ rw (x, y, z) refl | inr z ↦ rw (x, y, z) refl ] ]
-  | inr x ↦ elim (two b q) [ inl y ↦ elim (two c r) [ inl z ↦ rw (x, y, z) refl | inr z ↦ rw (x, y, z) refl ] | inr y ↦ elim (two c r) [ inl z ↦ rw (x, y, z) refl | inr z ↦ rw (x, y, z) refl ] ]
-]
+or_mark a b c p q r = grind (arith, common_steps, two)
 
 pub chain_none_yet : (equal next : ℕ) → equal ≡ chain equal next 0
 unfolding chain
@@ -68,11 +57,7 @@ Chains xs t n m = (k : ℕ) → k < 16 → k % 8 ≤ n → eqb (bit_at m k) 1 �
 
 module _ (xs : List ℕ) (t equal next : ℕ) (marks_byte : MarksEqual xs t equal) (marks_next : MarksEqual xs (bit_xor t 1) next) where
   chain_base : (m : ℕ) → Chains xs t 0 (bit_or equal (bit_and (bits_after m) next))
-  chain_base m k l h =
-      let z : k % 8 ≡ 0 = omega arith in
-      let none = after_none m k l z in
-      let e : bit_at (bit_or equal (bit_and (bits_after m) next)) k ≡ bit_at equal k = omega (arith, bit_at_or equal (bit_and (bits_after m) next) k, bit_at_and (bits_after m) next k, none) in
-      ap (λ x. eqb x 1) e ∙ marks_byte k l ∙ sym (half_first xs t k z)
+  chain_base m k l h = grind (arith, common_steps, after_none, bit_and, bit_at_or, bit_at_and, half_first)
 
   chain_step : (n m : ℕ) → Chains xs t n m → Chains xs t (suc n) (bit_or equal (bit_and (bits_after m) next))
   chain_step n m before k l h = elim (cases_eq (k % 8) 0) [

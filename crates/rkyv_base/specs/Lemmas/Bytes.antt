@@ -1,6 +1,6 @@
 -- Lemmas: numbers and lists of bytes at a position of an archive.
 use Rattle.std.specs.Prelude.{◌≡◌, ℕ, ◌+◌, ◌-◌, ◌≤◌, List, ◌++◌, length, drop, slice_range}
-use Rattle.std.proofs.Common.{refl, arith, sym, ◌∙◌, ap, length-append}
+use Rattle.std.proofs.Common.{arith, sym, ◌∙◌, length-append}
 use Rattle.std.proofs.lemmas.Grind.{common_steps}
 use Rattle.std.proofs.lemmas.List.{drop-drop, drop-take, take-take, take_all}
 use Rattle.std.proofs.Math.Seq.{drop-append_seam, take-append_seam}
@@ -10,27 +10,24 @@ use Rattle.rkyv_base.specs.Bytes.{AgreeOn, OccursAt}
 pub slice_of_slice : (b : List ℕ) (i j i' j' : ℕ) → i ≤ i' → j' ≤ j → i' ≤ j'
     → slice_range (slice_range b i j) (i' - i) (j' - i) ≡ slice_range b i' j'
 slice_of_slice b i j i' j' hi hj hij =
-    let e1 : j - i ≡ (i' - i) + (j - i') = omega arith in
-    let e2 : (j' - i) - (i' - i) ≡ j' - i' = omega arith in
-    let e3 : i + (i' - i) ≡ i' = omega arith in
-    let k : j' - i' ≤ j - i' = omega arith in
-    rw (
-      e2,
-      e1,
+    grind (
+      arith,
+      common_steps,
       drop-take (i' - i) (j - i') (drop i b),
-      take-take (j' - i') (j - i')
-          (drop (i' - i) (drop i b)) k,
       drop-drop (i' - i) i b,
-      e3,
-    ) refl
+      take-take,
+    )
 
 -- two lists that agree in a range agree in each part of it
 pub agree_on_part : (b c : List ℕ) (i j i' j' : ℕ) → i ≤ i' → j' ≤ j → i' ≤ j' → AgreeOn b c i j
     → AgreeOn b c i' j'
 agree_on_part b c i j i' j' hi hj hij s =
-    sym (slice_of_slice b i j i' j' hi hj hij)
-    ∙ ap (λ (x : List ℕ). slice_range x (i' - i) (j' - i)) s
-    ∙ slice_of_slice c i j i' j' hi hj hij
+    grind (
+      arith,
+      common_steps,
+      slice_of_slice b i j i' j' hi hj hij,
+      slice_of_slice c i j i' j' hi hj hij,
+    )
 
 -- a front and a back of bytes in an archive
 pub occurs_front : (c : List ℕ) (p : ℕ) (x y : List ℕ) → OccursAt c p (x ++ y) → OccursAt c p x

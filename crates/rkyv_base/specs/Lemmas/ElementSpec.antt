@@ -32,10 +32,7 @@ by_align P p1 p2 p4 p8 a h = grind (arith, common_steps)
 
 -- an alignment is from 1 to 8
 pub align_small : (a : ℕ) → IsAlign a → (0 < a) × (a ≤ 8)
-align_small a al = by_align (λ v. (0 < v) × (v ≤ 8)) (omega arith, omega arith) (
-  omega arith,
-  omega arith,
-) (omega arith, omega arith) (omega arith, omega arith) a al
+align_small a al = grind (arith, common_steps, by_align)
 
 -- the greater of two alignments is one, and its multiples are those of both
 pub max_align : (a b : ℕ) → IsAlign a → IsAlign b → IsAlign (max a b)

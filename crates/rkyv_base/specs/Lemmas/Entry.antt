@@ -79,16 +79,7 @@ module _ (k v : ElementSpec) (kl : IsElement k) (vl : IsElement v) where
   pub same_parts : (b c : List ℕ) (p lo hi l : ℕ) → lo ≤ hi → (h : IsValidEntry k v b p lo hi l)
       → AgreeOn b c p (p + size_of_whole (whole_size k v)) → AgreeOn b c lo l
       → EntriesAgree k v b c p lo hi h.1 l
-  same_parts b c p lo hi l o h fixed part =
-      let x : (lo ≤ h.1) × (h.1 ≤ hi) = kl.rest_in_range b p lo hi h.1 o h.2 in
-      let y : (h.1 ≤ l) × (l ≤ hi) = vl.rest_in_range b (p + value_offset k v) h.1 hi l x.1 h.3 in
-      record {
-        room = x.1;
-        key = same_key b c p h.0 fixed;
-        key_parts = agree_on_part b c lo l lo h.1 (omega arith) y.0 x.0 part;
-        value = same_value b c p h.0 fixed;
-        value_parts = agree_on_part b c lo l h.1 l x.0 (omega arith) y.0 part;
-      }
+  same_parts b c p lo hi l o h fixed part = grind (arith, same_key, agree_on_part, same_value)
 
   entry_local : (b c : List ℕ) (p lo hi l : ℕ) → lo ≤ hi
       → AgreeOn b c p (p + size_of_whole (whole_size k v)) → AgreeOn b c lo l

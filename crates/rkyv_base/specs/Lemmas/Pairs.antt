@@ -17,11 +17,7 @@ use Rattle.rkyv_base.specs.Lemmas.Entry.{key_and_value_inside, same_parts}
 pub written_as-format : {X V R : Type 0} (as_value : X → V) (s : ElementSpec)
     (represents : List ℕ → ℕ → V → Type 0) (f : Format V R) → IsFormat s represents f
     → IsFormat s (RepresentsAs as_value represents) (written_as as_value f)
-written_as-format as_value s represents f laws = record {
-  size_exact = λ x. laws.size_exact (as_value x);
-  exclusive = λ x. laws.exclusive (as_value x);
-  sound = λ x. laws.sound (as_value x);
-}
+written_as-format as_value s represents f laws = grind arith
 
 length_pair : (off size : ℕ) (a b : List ℕ) → length a ≤ off → off + length b ≤ size
     → length (pair_bytes off size a b) ≡ size
@@ -95,8 +91,4 @@ module _ {V W R Q : Type 0} (k v : ElementSpec) (kl : IsElement k) (vl : IsEleme
 
   pub pair_is_format : IsFormat (entry_spec k v) (PairRepresents k v key value)
       (pair_format k v kf vf)
-  pair_is_format = record {
-    size_exact = pair_whole;
-    exclusive = pair_exclusive;
-    sound = pair_sound;
-  }
+  pair_is_format = search (arith, pair_whole, pair_exclusive, pair_sound)

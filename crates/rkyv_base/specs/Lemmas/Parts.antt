@@ -1,11 +1,10 @@
 -- Lemmas: the range of bytes for the parts of a value.
 use Rattle.std.specs.Prelude.{◌≡◌, ℕ, ◌≤◌, ℤ}
-use Rattle.std.proofs.Common.{arith, ap, inl, inr, sym, ◌∙◌}
+use Rattle.std.proofs.Common.{arith, inl, inr, sym, ◌∙◌}
 use Rattle.std.proofs.lemmas.Grind.{common_steps}
 use Rattle.std.proofs.Props.{props}
 use Rattle.std.proofs.lemmas.Int.{ints}
 use Rattle.rkyv_base.specs.declared.errors.VerifyError.{VerifyError}
-use Rattle.rkyv_base.specs.declared.errors.VerifyError.TheVariants.{Unaligned}
 use Rattle.rkyv_base.specs.{PartFails, PartIn}
 
 -- a part has one position alone
@@ -34,9 +33,7 @@ part_one_failure begin size align lo hi e e' (inr (at, begins, above, below, una
 part_one_failure begin size align lo hi e e' (inr (at, begins, above, below, unaligned, q))
     (inl (inr h, q')) = absurd (omega (arith, ints, begins, below, h))
 part_one_failure begin size align lo hi e e' (inr (at, begins, above, below, unaligned, q))
-    (inr (at', begins', above', below', unaligned', q')) =
-    let same : at ≡ at' = omega (arith, ints, begins, begins') in
-    q ∙ ap (λ n. Unaligned n align) same ∙ sym q'
+    (inr (at', begins', above', below', unaligned', q')) = grind (arith, common_steps, ints)
 
 -- a part is also in a wider range
 pub part_wider : (begin : ℤ) (size align lo lo' hi hi' at : ℕ) → lo' ≤ lo → hi ≤ hi'

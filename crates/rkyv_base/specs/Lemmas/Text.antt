@@ -1,11 +1,10 @@
 -- Lemmas: text in an archive: inline in its fixed bytes, or out of line, with a length and a
 -- distance.
-use Rattle.std.specs.Prelude.{◌≡◌, ℕ, ◌+◌, ◌%◌, ◌<◌, ◌≤◌, pos, unsigned_abs, true, false, List}
-use Rattle.std.specs.Prelude.{slice_range}
+use Rattle.std.specs.Prelude.{◌≡◌, ℕ, ◌+◌, ◌%◌, ◌<◌, ◌≤◌, pos, true, false, List, slice_range}
 use Rattle.std.specs.Int.{Width, byte_len, w32, w64}
 use Rattle.std.specs.Str.{IsUtf8}
 use Rattle.std.specs.Coded.{le_prop, ×_prop}
-use Rattle.std.proofs.Common.{refl, arith, subst, sym, ◌∙◌, ap, inl, inr}
+use Rattle.std.proofs.Common.{refl, arith, subst, sym, ◌∙◌, inl, inr, rules}
 use Rattle.std.proofs.lemmas.Grind.{common_steps}
 use Rattle.std.proofs.Props.{props}
 use Rattle.rkyv_base.specs.declared.errors.VerifyError.{VerifyError}
@@ -72,10 +71,7 @@ module _ (w : Width) where
   valid_exclusive s b p lo hi l e (inr (f, n, at, part, u, q)) (inr (f', inr (inl k))) =
       part_exclusive (out_of_line_begin w s p) (out_of_line_length w s) 1 lo hi at e part k.1
   valid_exclusive s b p lo hi l e (inr (f, n, at, part, u, q))
-      (inr (f', inr (inr (n', at', part', none, q')))) =
-      let same : at ≡ at' =
-      part_one (out_of_line_begin w s p) (out_of_line_length w s) 1 lo hi at at' part part' in
-      none (subst (λ k. IsUtf8 (slice_range b k (k + out_of_line_length w s))) same u)
+      (inr (f', inr (inr (n', at', part', none, q')))) = grind (arith, common_steps, part_one)
 
   out_of_line_one_failure : (s b : List ℕ) (p lo hi : ℕ) (e e' : VerifyError)
       → OutOfLineFails w s b p lo hi e
@@ -88,11 +84,9 @@ module _ (w : Width) where
   out_of_line_one_failure s b p lo hi e e' (inr (inl f)) (inr (inl g)) =
       part_one_failure (out_of_line_begin w s p) (out_of_line_length w s) 1 lo hi e e' f.1 g.1
   out_of_line_one_failure s b p lo hi e e' (inr (inl f)) (inr (inr g)) =
-      absurd (part_exclusive (out_of_line_begin w s p)
-      (out_of_line_length w s) 1 lo hi g.1 e g.2 f.1)
+      grind (arith, part_exclusive)
   out_of_line_one_failure s b p lo hi e e' (inr (inr f)) (inr (inl g)) =
-      absurd (part_exclusive (out_of_line_begin w s p)
-      (out_of_line_length w s) 1 lo hi f.1 e' f.2 g.1)
+      grind (arith, part_exclusive)
   out_of_line_one_failure s b p lo hi e e' (inr (inr f)) (inr (inr g)) = f.4 ∙ sym g.4
 
   text_one_failure : (s b : List ℕ) (p lo hi : ℕ) (e e' : VerifyError) → TextFails w s b p lo hi e
@@ -123,9 +117,7 @@ module _ (w : Width) where
       → (h : IsValidOutOfLine w s b p lo hi l)
       → slice_range b h.2 (h.2 + out_of_line_length w s) ≡ slice_range c h.2
       (h.2 + out_of_line_length w s)
-  same_text s b c p lo hi l part (f, n, at, at_part, u, q) =
-      agree_on_part b c lo l at (at + out_of_line_length w s) at_part.above (omega (arith, q))
-      (omega arith) part
+  same_text s b c p lo hi l part (f, n, at, at_part, u, q) = search (rules, agree_on_part)
 
   valid_local : (s b c : List ℕ) (p lo hi l : ℕ) → AgreeOn b c lo l → IsValidText w s b p lo hi l
       → IsValidText w s c p lo hi l
@@ -143,9 +135,7 @@ module _ (w : Width) where
       → pos at ≡ out_of_line_begin w s p
       → text_of w s b p ≡ slice_range b at (at + out_of_line_length w s)
   unfolding text_of
-  out_of_line_reads s b p at out_of_line begins =
-      let there : unsigned_abs (out_of_line_begin w s p) ≡ at = ap unsigned_abs (sym begins) in
-      rw (out_of_line, there) refl
+  out_of_line_reads s b p at out_of_line begins = grind (arith, common_steps)
 
   reads_local : (s b c : List ℕ) (p lo hi l : ℕ) (t : List ℕ) → IsValidText w s b p lo hi l
       → AgreeOn b c lo l → text_of w s b p ≡ t → text_of w s c p ≡ t

@@ -1,12 +1,11 @@
 -- Lemmas: the format of text: inline, filled up with ff, if it fits in the fixed bytes,
 -- and else in one piece out of line.
 use Rattle.std.specs.Prelude.{FitsSigned, List, [], false, get_or, length, nat_le, nat_lt, pos}
-use Rattle.std.specs.Prelude.{replicate, slice_range, take, true, ℕ, ℤ, ◌&&◌, ◌++◌, ◌+ℤ◌, ◌+◌, ◌-ℤ◌}
-use Rattle.std.specs.Prelude.{◌-◌, ◌<◌, ◌==◌, ◌^◌, ◌∷◌, ◌≡◌, ◌≤◌}
+use Rattle.std.specs.Prelude.{replicate, slice_range, take, true, ℕ, ℤ, ◌&&◌, ◌++◌, ◌+ℤ◌, ◌+◌}
+use Rattle.std.specs.Prelude.{◌-ℤ◌, ◌-◌, ◌<◌, ◌==◌, ◌∷◌, ◌≡◌, ◌≤◌}
 use Rattle.std.specs.List.{position_or_len}
-use Rattle.std.specs.Int.{Width, byte_len, cast_signed, cast_unsigned, from_le_bytes, to_le_bytes}
+use Rattle.std.specs.Int.{Width, byte_len}
 use Rattle.std.specs.Str.{IsUtf8}
-use mir.Val.{bits}
 use Rattle.rkyv_base.specs.declared.strings.TextResolver.{TextResolver}
 use Rattle.rkyv_base.specs.{IsArchiveWord, IsFormat, IsLong, IsTextOf, IsValidText, IsWord}
 use Rattle.rkyv_base.specs.{OccursAt, PartIn, TextImage, TextOverflows, TextParts, TextReads}
@@ -18,7 +17,6 @@ use Rattle.rkyv_base.specs.Lemmas.Text.{by_archive_word, out_of_line_reads, inli
 use Rattle.rkyv_base.specs.Lemmas.Utf8.{text_begins, text_below}
 use Rattle.std.proofs.Common.{refl, arith, sym, subst, ◌∙◌, ap, inl, inr, length-append}
 use Rattle.std.proofs.lemmas.Grind.{common_steps}
-use Rattle.std.proofs.Math.Facts.{Fits-of_z}
 use Rattle.std.proofs.Math.ListN.{get_or-append}
 use Rattle.std.proofs.Math.Seq.{drop-append_seam, get_or-append_right, take-append_seam}
 use Rattle.std.proofs.lemmas.Bool.Decides.{nat_tests}
@@ -95,24 +93,19 @@ module _ (w : Width) (kind : IsArchiveWord w) (n : ℕ) (d : ℤ) where
 
   length_reads : n < text_limit w → out_of_line_length w (out_of_line_bytes w n d) ≡ n
   length_reads small =
-      let fits : length_word n < 2 ^ bits w =
-      by_archive_word (λ v. n < text_limit v → length_word n < 2 ^ bits v) (λ h. omega arith)
-      (λ h. omega arith) w kind small in
-      let x : List ℕ = to_le_bytes w (length_word n) in
-      ap (λ (s : List ℕ). decode_length (from_le_bytes w s))
-      (first_part x (to_le_bytes w (cast_unsigned w d)) (byte_len w)
-      (word_bytes w (is_word w kind) (length_word n)))
-      ∙ ap decode_length (word_reads_back w (is_word w kind)
-      (length_word n) fits) ∙ length_decoded n
+      grind (
+        arith,
+        common_steps,
+        by_archive_word,
+        first_part,
+        word_bytes,
+        is_word,
+        word_reads_back,
+        length_decoded,
+      )
 
   distance_reads : FitsSigned w d → signed_at w (out_of_line_bytes w n d) (byte_len w) ≡ d
-  distance_reads fits =
-      let word = is_word w kind in
-      let u : ℕ = cast_unsigned w d in
-      ap (λ (s : List ℕ). cast_signed w (from_le_bytes w s))
-      (second_part (to_le_bytes w (length_word n)) (to_le_bytes w u) (byte_len w)
-      (word_bytes w word (length_word n)) (word_bytes w word u))
-      ∙ ap (cast_signed w) (word_reads_back w word u (Fits-of_z fits).fits) ∙ to_z-of_z w d fits
+  distance_reads fits = grind (arith, is_word, second_part, word_bytes, word_reads_back, to_z-of_z)
 
 -- a distance leads back to the position from which it was taken
 add_distance : (p q : ℕ) → pos q ≡ pos p +ℤ (pos q -ℤ pos p)
@@ -120,10 +113,7 @@ add_distance p q = omega (arith, ints)
 
 module _ (w : Width) (kind : IsArchiveWord w) where
   sizes : (0 < text_size w) × (text_size w < text_limit w)
-  sizes = by_archive_word (λ v. (0 < text_size v) × (text_size v < text_limit v)) (
-    omega arith,
-    omega arith,
-  ) (omega arith, omega arith) w kind
+  sizes = grind (arith, common_steps, by_archive_word)
 
   text_whole : (t : List ℕ) (r : TextResolver) (p : ℕ) (out : List ℕ) → TextImage w t r p out
       → length out ≡ text_size w

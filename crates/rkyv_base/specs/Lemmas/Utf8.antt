@@ -1,8 +1,8 @@
 -- Bytes that are in no UTF-8 text, and bytes that begin none.
-use Rattle.std.specs.Prelude.{All, List, [], false, nat_le, nat_lt, true, ℕ, ◌%◌, ◌&&◌}
-use Rattle.std.specs.Prelude.{◌+◌, ◌/◌, ◌<◌, ◌∷◌, ◌≡◌, ◌≤◌}
+use Rattle.std.specs.Prelude.{All, List, [], false, nat_le, nat_lt, true, ℕ, ◌%◌, ◌&&◌, ◌+◌, ◌/◌}
+use Rattle.std.specs.Prelude.{◌<◌, ◌∷◌, ◌≡◌, ◌≤◌}
 use Rattle.std.specs.Str.{IsUtf8}
-use Rattle.std.proofs.Common.{arith, ltb, subst}
+use Rattle.std.proofs.Common.{arith, subst}
 use Rattle.std.proofs.lemmas.Grind.{common_steps}
 use Rattle.std.proofs.Math.Utf8.{encode, encodes, scalar, scalar_cases, scalars}
 use Rattle.std.proofs.lemmas.Bool.{and_parts, cond_both, ltb-true}
@@ -30,18 +30,7 @@ lead_below c h = grind (arith, common_steps, scalar_cases)
 char_below : (c : ℕ) → scalar c ≡ true → BelowFf (encode c)
 unfolding encode
 char_below c h =
-    let one : List ℕ = (128 + c % 64) ∷ [] in
-    let two : List ℕ = (128 + c / 64 % 64) ∷ one in
-    let one_below : BelowFf one = tail_below c [] below_nil in
-    let two_below : BelowFf two = tail_below (c / 64) one one_below in
-    cond_both (ltb c 128) _ _ BelowFf (λ e. below_cons c [] (omega (arith, ltb-true c 128 e))
-    below_nil)
-    (λ e1. cond_both (ltb c 2048) _ _ BelowFf
-    (λ e. below_cons (192 + c / 64) one (omega (arith, ltb-true c 2048 e)) one_below)
-    (λ e2. cond_both (ltb c 65536) _ _ BelowFf
-    (λ e. below_cons (224 + c / 4096) two (omega (arith, ltb-true c 65536 e)) two_below)
-    (λ e3. below_cons (240 + c / 262144) ((128 + c / 4096 % 64) ∷ two) (lead_below c h)
-    (tail_below (c / 4096) two two_below))))
+    grind (arith, common_steps, tail_below, below_nil, cond_both, below_cons, ltb-true, lead_below)
 
 chars_below : (cs : List ℕ) → scalars cs ≡ true → BelowFf (encodes cs)
 chars_below [] h = below_nil

@@ -1,8 +1,7 @@
 -- Lemmas: counts and distances, which are read back as they were written.
-use Rattle.std.specs.Int.{Width, cast_signed, cast_unsigned}
-use Rattle.std.proofs.Common.{arith, inl, inr, refl, ◌∙◌, ap}
+use Rattle.std.specs.Int.{Width}
+use Rattle.std.proofs.Common.{arith, inl, inr, refl}
 use Rattle.std.proofs.lemmas.Grind.{common_steps}
-use Rattle.std.proofs.Math.Facts.{Fits-of_z}
 use Rattle.std.proofs.lemmas.Int.{fits_signed_from_abs, ints, to_z-of_z}
 use Rattle.rkyv_base.specs.{CountsReadBack, DistancesReadBack, IsArchiveWord, IsWord}
 use Rattle.rkyv_base.specs.{WideDistancesFit}
@@ -18,9 +17,7 @@ module _ (w : Width) (kind : IsArchiveWord w) where
       grind (arith, common_steps, word_bytes, archive_word, word_reads_back)
 
   pub distances_read_back : DistancesReadBack w
-  distances_read_back d b p fits there =
-      ap (cast_signed w) (counts_read_back (cast_unsigned w d) b p (Fits-of_z fits).fits there)
-      ∙ to_z-of_z w d fits
+  distances_read_back d b p fits there = grind (arith, counts_read_back, to_z-of_z)
 
 pub wide_distances_fit : WideDistancesFit
 wide_distances_fit target from t f = grind (arith, common_steps, fits_signed_from_abs, ints)

@@ -1,32 +1,8 @@
 -- Proofs of the laws of the kinds of group.
-use Rattle.std.proofs.Common.{
-  ◌≡◌,
-  ℕ,
-  zero,
-  suc,
-  ◌<◌,
-  ◌≤◌,
-  ◌^◌,
-  Bool,
-  true,
-  false,
-  ◌||◌,
-  ◌&&◌,
-  eqb,
-  List,
-  slice_index,
-  bit_xor,
-  arith,
-  eq-eqb,
-  eqb-true,
-  refl,
-  sym,
-  ◌∙◌,
-  ⊎_elim,
-  ◌⊎◌,
-  inl,
-  inr,
-}
+use Rattle.std.proofs.lemmas.Grind.{common_steps}
+use Rattle.std.proofs.Common.{arith, ◌≡◌, ℕ, zero, suc, ◌<◌, ◌≤◌, ◌^◌, Bool, true, false, ◌||◌}
+use Rattle.std.proofs.Common.{◌&&◌, List, slice_index, arith, eq-eqb, eqb-true, refl, ◌⊎◌, inl}
+use Rattle.std.proofs.Common.{inr}
 use Rattle.std.proofs.lemmas.Nat.{xor_lt}
 use Rattle.std.proofs.lemmas.Bool.{or_left, true≢false}
 use Rattle.rkyv_scan.specs.{IsKind, generic_kind, is_equal_at, is_word_match_at}
@@ -44,24 +20,12 @@ equal_is_marked s t (suc k) h = or_left _ _ (eq-eqb (slice_index s (suc k)) t h)
 marked_is_full : (s : List ℕ) (t k : ℕ) → t < 128 → is_word_match_at s t k ≡ true
     → slice_index s k < 128
 marked_is_full s t zero l h = omega (arith, eqb-true (slice_index s zero) t h)
-marked_is_full s t (suc k) l h =
-    let one : bit_xor t 1 < 2 ^ 7 = xor_lt 7 t 1 l (omega arith) in
-    ⊎_elim (λ (e : eqb (slice_index s (suc k)) t ≡ true). omega (
-      arith,
-      eqb-true (slice_index s (suc k)) t e,
-    ))
-    (λ (e : (eqb (slice_index s (suc k)) (bit_xor t 1) ≡ true) × (is_word_match_at s t k ≡ true)).
-    omega (arith, eqb-true (slice_index s (suc k)) (bit_xor t 1) e.0))
-    (or_and_cases _ _ _ h)
+marked_is_full s t (suc k) l h = grind (arith, common_steps, xor_lt, or_and_cases)
 
 lowest_is_equal : (s : List ℕ) (t k : ℕ) → is_word_match_at s t k ≡ true
     → ((j : ℕ) → j < k → is_word_match_at s t j ≡ false) → slice_index s k ≡ t
 lowest_is_equal s t zero h low = eqb-true (slice_index s zero) t h
-lowest_is_equal s t (suc k) h low =
-    ⊎_elim (λ (e : eqb (slice_index s (suc k)) t ≡ true). eqb-true (slice_index s (suc k)) t e)
-    (λ (e : (eqb (slice_index s (suc k)) (bit_xor t 1) ≡ true) × (is_word_match_at s t k ≡ true)).
-    absurd (true≢false (sym e.1 ∙ low k (omega arith))))
-    (or_and_cases _ _ _ h)
+lowest_is_equal s t (suc k) h low = grind (arith, common_steps, true≢false, or_and_cases)
 
 pub word_lawful : IsKind generic_kind
 word_lawful = record {
@@ -73,9 +37,4 @@ word_lawful = record {
 
 -- a kind that marks the equal bytes alone is lawful
 pub equal_lawful : (k : ℕ) → k ≤ 4 → IsKind (record { width = 2 ^ k; marks = is_equal_at })
-equal_lawful k small = record {
-  power = (k, small, refl);
-  equal = λ s t k l h. eq-eqb (slice_index s k) t h;
-  full = λ s t k l h. omega (arith, eqb-true (slice_index s k) t h);
-  lowest = λ s t k h low. eqb-true (slice_index s k) t h;
-}
+equal_lawful k small = grind (arith, common_steps)

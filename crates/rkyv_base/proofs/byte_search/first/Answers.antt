@@ -13,14 +13,7 @@ returns-in-Some g c =
     stretch_hit g.S.ByteClass.in_class xs (take 8 (drop at xs)) at c.in-Some.len (eight_stretch xs at (omega arith)) c.loop-at.invariant.1 (c.in-Some.ensures ∙ ap (λ ys. position g.S.ByteClass.in_class (take 8 ys)) (take_rest xs at))
 
 pub loop-at-preserved : goal.loop-at-preserved
-loop-at-preserved g c =
-    let xs : List ℕ = c.args.bytes.now in
-    let at = c.loop-at.at in
-    let t = c.loop-at-test.true in
-    let i = c.loop-at.invariant.0 in
-    let e = eight xs at (omega arith) in
-    let m = stretch_miss g.S.ByteClass.in_class xs (take 8 (drop at xs)) at (eight_stretch xs at (omega arith)) c.loop-at.invariant.1 (c.in_default.ensures ∙ ap (λ ys. position g.S.ByteClass.in_class (take 8 ys)) (take_rest xs at)) in
-    (omega arith, λ k l. m k (omega arith))
+loop-at-preserved g c = grind (arith, eight, stretch_miss, eight_stretch, take_rest)
 
 pub returns : goal.returns
 returns g c =

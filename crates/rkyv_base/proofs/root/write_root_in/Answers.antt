@@ -1,13 +1,11 @@
-use Rattle.std.proofs.Common.{rules, arith}
+use Rattle.std.proofs.Common.{arith}
 use Rattle.std.proofs.lemmas.Grind.{common_steps}
 use Rattle.std.proofs.lemmas.Result.{err_from_is_err_and}
 use Rattle.rkyv_base.proofs.RootWriting.{root_align_fails, root_append_fails, root_overflow_fails, root_wrote}
 use Rattle.rkyv_base.proofs.root.write_root_in.Goals as goal
 
 pub returns-in_err-resolver : goal.returns-in_err-resolver
-returns-in_err-resolver g c =
-    let p = err_from_is_err_and c.from_residual-in_err-resolver.result c.from_residual-in_err-resolver.ensures.1 in
-    rw (p.1, p.2) (search rules)
+returns-in_err-resolver g c = grind (arith, err_from_is_err_and)
 
 pub returns-in_err-root : goal.returns-in_err-root
 returns-in_err-root g c = grind (arith, common_steps, err_from_is_err_and, root_align_fails)

@@ -7,16 +7,7 @@ use Rattle.rkyv_base.proofs.TextChecking.{is_long, no_text_fails, part_fails, te
 use Rattle.rkyv_base.proofs.text.check_out_of_line.Goals as goal
 
 pub returns-in_err-at : goal.returns-in_err-at
-returns-in_err-at g c =
-    let layout = g.met.W.Width.layout in
-    let fits : FitsSigned w128 c.out_of_line_start-begin.result = search rules in
-    let large : text_size g.W.Word.word < c.from.result = omega (arith, layout.text_is, layout.align_is) in
-    let p = err_from_is_err_and c.from_residual.result c.from_residual.ensures.1 in
-    rw (p.1, p.2, ← c.fixed_at-fixed.ensures)
-    (part_fails g.W.Word.word c.fixed_at-fixed.result.now c.args.bytes.now c.args.pos c.args.range.lo c.args.range.hi _ _
-    (ap is_out_of_line c.fixed_at-fixed.ensures ∙ c.requires.out_of_line) large
-    (to_z-of_z w128 c.out_of_line_start-begin.result fits ∙ c.out_of_line_start-begin.ensures) (c.from.ensures ∙ c.out_of_line_len-len.ensures)
-    c.in_err-at.field-0.0 c.in_err-at.ensures)
+returns-in_err-at g c = grind (arith, err_from_is_err_and, part_fails, to_z-of_z)
 
 pub returns : goal.returns
 returns g c =

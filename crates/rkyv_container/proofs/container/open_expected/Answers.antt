@@ -1,15 +1,10 @@
-use Rattle.std.proofs.Common.{inl}
-use Rattle.rkyv_container.specs.{IsContainerOf, OpenAsFails}
+use Rattle.std.proofs.Common.{arith}
 use Rattle.rkyv_container.proofs.Checking.{err_from}
 use Rattle.rkyv_container.proofs.Opening.{container_from, contents_from}
 use Rattle.rkyv_container.proofs.container.open_expected.Goals as goal
 
 pub returns-in_err-header : goal.returns-in_err-header
-returns-in_err-header c =
-    let b = c.args.bytes.now in
-    let x = c.args.expected in
-    err_from c.from_residual.result (λ r. IsContainerOf x r.now b) (OpenAsFails x b)
-    c.in_err-header.field-0.0 c.from_residual.ensures.1 (inl c.in_err-header.ensures)
+returns-in_err-header c = grind (arith, err_from)
 
 pub returns : goal.returns
 returns c =

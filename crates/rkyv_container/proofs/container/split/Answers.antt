@@ -1,4 +1,5 @@
-use Rattle.std.proofs.Common.{refl, rules}
+use Rattle.std.proofs.Common.{refl, rules, arith}
+use Rattle.std.proofs.lemmas.Grind.{common_steps}
 use Rattle.rkyv_container.proofs.HeaderBytes.{header_length}
 use Rattle.rkyv_container.proofs.container.split.Goals as goal
 
@@ -8,9 +9,7 @@ returns-in_err-header c =
     search (rules, f)
 
 pub split_at-requires : goal.split_at-requires
-split_at-requires c =
-    header_length c.in_ok-header.header c.args.bytes.now
-    ((c.in_ok-header.ensures.ok c.in_ok-header.header).0 refl)
+split_at-requires c = grind (arith, common_steps, header_length c.in_ok-header.header c.args.bytes.now ((c.in_ok-header.ensures.ok c.in_ok-header.header).0 refl))
 
 pub returns : goal.returns
 returns c =
