@@ -34,19 +34,7 @@ module _ {X R : Type 0} (size limit : ℕ) (f : Format X R) (slots : List (Optio
     shown_here = subst (λ n. SlotImages size f (drop (i + 1) slots) d.done n d.out) here d.images
 
     pub down_none : get_or slots i None ≡ None → Appends o1 o2 (zeros size) → end_of o2 ≤ limit → BucketsWritten i left o2
-    down_none e a lim =
-        let q : i < length slots = omega (arith, d.inside) in
-        let n : end_of o2 - size ≡ end_of o1 = omega (arith, end-appends o1 o2 (zeros size) a, length-replicate {A = ℕ} size 0) in
-        record {
-          out = d.out ++ zeros size;
-          done = d.done;
-          inside = omega arith;
-          appended = appends_after o o1 o2 d.out (zeros size) d.appended a;
-          images = rw (drop_more slots i None q, e) (d.out, subst (λ k. SlotImages size f (drop (i + 1) slots) d.done k d.out) (sym n) d.images, refl);
-          all = d.all;
-          count = (let t : filled (take (i + 1) slots) ≡ filled (take i slots) + 0 = rw (take_more slots i None q, e) (filled-append (take i slots) (None ∷ [])) in let c = d.count in omega arith);
-          within = lim;
-        }
+    down_none e a lim = grind (arith, common_steps, end-appends o1 o2 (zeros size) a, length-replicate {A = ℕ} size 0, appends_after o o1 o2 d.out (zeros size) d.appended a, filled-append (take i slots) (None ∷ []), drop_more, take_more)
 
     -- a resolver is left for the item
     pub down_room : (x : X) → get_or slots i None ≡ Some x → 0 < length left

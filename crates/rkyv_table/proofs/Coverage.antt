@@ -99,28 +99,13 @@ has_index s m n x e h =
 
 distinct_indices : (s m n : ℕ) → m ≡ 16 * 2 ^ n → IsDistinct eqb (indices s m)
 unfolding indices
-distinct_indices s m n e =
-    let len : m / 16 ≡ 2 ^ n = omega arith in
-    rw (len, e) (distinct_map_range (probe_index s (16 * 2 ^ n)) (2 ^ n) (λ i j hi hj q. index_once s n i j hi hj q))
+distinct_indices s m n e = grind (arith, common_steps, distinct_map_range, index_once)
 
 -- an index is in the strides if and only if it is below the probe capacity and congruent
 -- to the start modulo 16
 pub has_stride : (h cap p : ℕ) → 0 < cap → list_any (eqb p) (strides h cap) ≡ (ltb p (probe_capacity cap) && eqb (p % 16) (start h cap % 16))
 unfolding strides indices
-has_stride h cap p pos =
-    let w = modulus_power cap pos in
-    let m = modulus cap in
-    let s = start h cap in
-    any_filter p (λ x. ltb x (probe_capacity cap)) (indices s m)
-    ∙ same_tests (list_any (eqb p) (indices s m) && ltb p (probe_capacity cap)) (ltb p (probe_capacity cap) && eqb (p % 16) (s % 16))
-    (λ t. let u = and_parts (list_any (eqb p) (indices s m)) (ltb p (probe_capacity cap)) t in
-    let l = ltb-true p (probe_capacity cap) u.1 in
-    let v = has_index s m w.0 p w.1 (omega arith) in
-    and_from (ltb p (probe_capacity cap)) (eqb (p % 16) (s % 16)) u.1 (sym v ∙ u.0))
-    (λ t. let u = and_parts (ltb p (probe_capacity cap)) (eqb (p % 16) (s % 16)) t in
-    let l = ltb-true p (probe_capacity cap) u.0 in
-    let v = has_index s m w.0 p w.1 (omega arith) in
-    and_from (list_any (eqb p) (indices s m)) (ltb p (probe_capacity cap)) (v ∙ u.1) u.0)
+has_stride h cap p pos = grind (arith, common_steps, modulus_power cap pos, any_filter, indices, same_tests, and_parts, ltb-true, has_index, and_from)
 
 pub stride_below : (h cap p : ℕ) → 0 < cap → list_any (eqb p) (strides h cap) ≡ true → p < probe_capacity cap
 stride_below h cap p pos m = ltb-true p (probe_capacity cap) (and_parts (ltb p (probe_capacity cap)) (eqb (p % 16) (start h cap % 16)) (sym (has_stride h cap p pos) ∙ m)).0
@@ -128,9 +113,7 @@ stride_below h cap p pos m = ltb-true p (probe_capacity cap) (and_parts (ltb p (
 -- each index is in the strides once
 pub distinct_strides : (h cap : ℕ) → 0 < cap → IsDistinct eqb (strides h cap)
 unfolding strides indices
-distinct_strides h cap pos =
-    let w = modulus_power cap pos in
-    distinct_filter (λ x. ltb x (probe_capacity cap)) (indices (start h cap) (modulus cap)) (distinct_indices (start h cap) (modulus cap) w.0 w.1)
+distinct_strides h cap pos = grind (arith, common_steps, modulus_power cap pos, indices (start h cap) (modulus cap), distinct_filter, distinct_indices)
 
 -- the number of strides is a sixteenth of the probe capacity
 pub count_strides : (h cap : ℕ) → 0 < cap → length (strides h cap) ≡ probe_capacity cap / 16

@@ -49,9 +49,7 @@ whole_stride P p n q le h = grind (arith, common_steps, range_append p n (16 - n
 -- the first marked index of a group is inside it
 pub index_inside : (P : ℕ → Bool) (n j : ℕ) (ps : List ℕ) → ps ≡ indices_where P n → Some j ≡ slice_get ps 0 → j < n
 unfolding indices_where
-index_inside P n j ps e h =
-    let f = first_range P 0 n j (sym (h ∙ ap (λ xs. slice_get xs 0) e ∙ head_filter P (range_with_len 0 n))) in
-    omega (arith, f.to)
+index_inside P n j ps e h = grind (arith, common_steps, first_range, head_filter)
 
 -- ---- all strides
 
@@ -131,10 +129,7 @@ head_of xs ys x y e = cc
 
 pub begun : (h cap p : ℕ) (free : ℕ → Bool) (ps qs : List ℕ) → 0 < cap → (qs ≡ strides h cap) ⊎ (list_any free (buckets_at cap (start h cap)) ≡ false) → qs ≡ p ∷ ps
     → (list_any free (buckets_at cap (start h cap)) ≡ false) ⊎ (p ≡ start h cap)
-begun h cap p free ps qs pos c e = elim c [
-  | inl s ↦ let w = strides_head h cap pos in inr (head_of ps w.0 p (start h cap) (sym e ∙ s ∙ w.1))
-  | inr n ↦ inl n
-]
+begun h cap p free ps qs pos c e = grind (arith, common_steps, strides_head h cap pos, head_of)
 
 -- a stride that shows no free bucket
 pub passes_on : (h cap p : ℕ) (free : ℕ → Bool) (ps qs : List ℕ) → qs ≡ p ∷ ps → list_any free (buckets_at cap p) ≡ false
@@ -158,9 +153,7 @@ member_rest p x ps qs e m = ap (list_any (eqb x)) e ∙ or_right (eqb x p) (list
 
 -- the strides don't end before a free bucket
 pub runs_out : (h cap b : ℕ) (free : ℕ → Bool) (qs : List ℕ) → b < cap → free b ≡ true → qs ≡ [] → find free (probed h cap) ≡ find free (flat_map (buckets_at cap) qs) → ⊥
-runs_out h cap b free qs hb fb e same =
-    let n : find free (probed h cap) ≡ None = same ∙ ap (λ xs. find free (flat_map (buckets_at cap) xs)) e in
-    both_ways (list_any free (probed h cap)) (none_find free (probed h cap) n) (free_probed h cap free b hb fb)
+runs_out h cap b free qs hb fb e same = grind (arith, common_steps, free_probed h cap free b hb fb, both_ways, none_find)
 
 pub empty_index_is : (controls : List ℕ) (p : ℕ) → empty_index controls p ≡ find (is_empty_at controls) (range_with_len p 16)
 unfolding empty_index

@@ -1,5 +1,5 @@
 -- A lookup in a written table finds the first accepted item of the list.
-use Rattle.std.proofs.Common.{◌≡◌, ℕ, suc, ◌∙◌, inl, inr, refl, sym, ap, subst, arith, Bool, true, false, List, [], ◌∷◌, length, slice_get, slice_index, Option, Some}
+use Rattle.std.proofs.Common.{◌≡◌, ℕ, suc, ◌∙◌, inl, inr, refl, sym, ap, arith, Bool, true, false, List, [], ◌∷◌, length, slice_get, slice_index, Option, Some}
 use Rattle.std.proofs.lemmas.Grind.{common_steps}
 use Rattle.std.specs.Int.{Width}
 use Rattle.std.specs.List.{find, position}
@@ -66,15 +66,7 @@ module _ {X : Type 0} (w : Width) (size : ℕ) (represents : List ℕ → ℕ �
 
   -- only positions of items under the hash are accepted
   pub accepted_under : AreUnder hash accept pairs → IsUnderHash hash (hashes_of pairs) positions accept_at
-  accepted_under under i below t = elim (slice_get_cases pairs i).1 [
-    | inl e ↦
-        let pair = e.0 in
-        let item : slice_get (items_of pairs) i ≡ Some pair.1 = slice_get-map (λ (y : ℕ × X). y.1) pairs i ∙ ap (option_map (λ (y : ℕ × X). y.1)) e.2 in
-        let same = agrees i pair.1 item in
-        let own : pair.0 ≡ hash = subst (λ (y : ℕ × X). accept y.1 ≡ true → y.0 ≡ hash) e.3 (under i pair e.1) (sym same ∙ t) in
-        get_or-map (λ (y : ℕ × X). y.0) pairs i pair 0 e.1 ∙ ap (λ (y : ℕ × X). y.0) e.3 ∙ own
-    | inr past ↦ absurd (omega (arith, past.0, below, hashes_count))
-  ]
+  accepted_under under i below t = grind (arith, common_steps, slice_get_cases pairs i, slice_get-map, get_or-map, hashes_count)
 
   -- the first accepted one of the positions
   pub first_at_home : IsFirstOf represents c accept (items_of pairs) (find accept_at positions)
@@ -87,8 +79,11 @@ module _ {X : Type 0} (w : Width) (size : ℕ) (represents : List ℕ → ℕ �
 -- a lookup in a written table finds the first accepted item of the list, at its position
 pub lookup_finds_first : {X : Type 0} (w : Width) (s : ElementSpec) (represents : List ℕ → ℕ → X → Type 0) → LookupFindsFirst w s represents
 lookup_finds_first w s represents kind c p hash pairs accept accept_at law fits written under at =
-    let found =
-    first_found kind law w s.size c p hash fits (hashes_of pairs) written.homes accept_at written.written (accepted_under w s.size represents c p pairs written hash accept accept_at at under) in (
-      subst (IsFirstOf represents c accept (items_of pairs)) (sym found) (first_at_home w s.size represents c p pairs written hash accept accept_at at),
-      found ∙ first_home_pos w s.size represents c p pairs written hash accept accept_at at,
+    grind (
+      arith,
+      common_steps,
+      first_found kind law w s.size c p hash fits (hashes_of pairs) written.homes accept_at written.written (accepted_under w s.size represents c p pairs written hash accept accept_at at under),
+      accepted_under w s.size represents c p pairs written hash accept accept_at at under,
+      first_at_home w s.size represents c p pairs written hash accept accept_at at,
+      first_home_pos w s.size represents c p pairs written hash accept accept_at at,
     )

@@ -1,12 +1,12 @@
 -- The item that a lookup finds, by its bucket.
 use Rattle.rkyv_base.specs.declared.element.HasSpec.{Ghosts as Specs}
 use Rattle.rkyv_base.specs.declared.width.Word.{Ghosts as Words}
-use Rattle.std.proofs.Common.{◌≡◌, ℕ, ◌+◌, ◌<◌, ◌^◌, ◌∙◌, Bool, List, None, Option, Some, ap, refl, subst, sym, true}
+use Rattle.std.proofs.Common.{◌≡◌, ℕ, ◌<◌, ◌^◌, ◌∙◌, Bool, List, None, Option, Some, ap, refl, subst, sym, true, arith}
 use Rattle.std.specs.Option.{option_map}
 use Rattle.rkyv_scan.specs.{IsKind, Kind, generic_kind, paired_kind}
 use Rattle.rkyv_base.specs.{IsElement, pos_of_found}
 use Rattle.rkyv_base.specs.declared.view.View.{View}
-use Rattle.rkyv_table.specs.{ComparesBy, CountsStrides, FindsBucket, FindsFirst, FindsFound, FindsItem, FindsItemPos, IsItemIn, bucket_found, cap_at, item_at, len_at, lookup, table_bytes, table_controls, table_pos}
+use Rattle.rkyv_table.specs.{ComparesBy, CountsStrides, FindsBucket, FindsFirst, FindsFound, FindsItem, FindsItemPos, IsItemIn, bucket_found, item_at, lookup, table_bytes, table_controls, table_pos}
 use Rattle.rkyv_table.specs.declared.table.ArchivedHashTable.{ArchivedHashTable}
 use Rattle.rkyv_table.proofs.FirstFound.{first_found}
 use Rattle.rkyv_table.proofs.PairedFound.{end_paired, found_paired}
@@ -20,25 +20,10 @@ module _ {T W : Type 0} {ts : Specs T} {wt : Words W} (post : View T → Bool �
 
   -- a lookup by groups of sixteen as two halves is one by groups of eight
   pub found_by_paired : (result : Option (View T)) → FindsItem post paired_kind t hash result → FindsItem post generic_kind t hash result
-  found_by_paired result h =
-      let b = table_bytes t in
-      let p = table_pos t in
-      let at : ℕ → ℕ = item_at wt.word ts.spec.size b p in
-      record {
-        walked = h.walked;
-        accepted = h.accepted;
-        finds = λ accept alone. h.finds accept alone ∙ ap (option_map at) (found_paired (table_controls wt.word b p) (cap_at wt.word b p) (len_at wt.word b p) hash (λ i. accept (at i)));
-        first = h.first;
-      }
+  found_by_paired result h = grind (arith, found_paired)
 
   pub counted_by_paired : (before after : ℕ) → CountsStrides post paired_kind t hash before after → CountsStrides post generic_kind t hash before after
-  counted_by_paired before after h =
-      let b = table_bytes t in
-      let p = table_pos t in
-      record {
-        bounded = h.bounded;
-        counted = λ accept alone. h.counted accept alone ∙ ap (λ n. before + n) (end_paired (table_controls wt.word b p) (cap_at wt.word b p) (len_at wt.word b p) hash (λ i. accept (item_at wt.word ts.spec.size b p i)));
-      }
+  counted_by_paired before after h = grind (arith, end_paired)
 
   -- the position of a found item
   pub pos_of_item : (kind : Kind) (result : Option (View T)) → FindsItem post kind t hash result → FindsItemPos post kind t hash (pos_of_found result)
@@ -61,10 +46,7 @@ module _ {T W : Type 0} {ts : Specs T} {wt : Words W} (post : View T → Bool �
   bucket_is accept alone = finds.finds (λ i. accept (bucket_pos i)) (λ i r full. compares_bucket accept alone i r) ∙ read_found element t controls are kind hash (λ i. accept (bucket_pos i))
 
   pub strides_counted : CountsStrides post kind t hash before after
-  strides_counted = record {
-    bounded = rw (t.decoded.len, t.decoded.cap) at finds.bounded;
-    counted = λ accept alone. finds.counted (λ i. accept (bucket_pos i)) (λ i r full. compares_bucket accept alone i r) ∙ ap (λ n. before + n) (read_end element t controls are kind hash (λ i. accept (bucket_pos i)));
-  }
+  strides_counted = grind (arith, compares_bucket, read_end)
 
   pub item_found : (i : ℕ) → found ≡ Some i → (v : View T) → IsItemIn t i v → FindsItem post kind t hash (Some v)
   item_found i is v here =

@@ -117,10 +117,7 @@ pub found_more : (kind : Kind) (controls g : List ℕ) (cap t p i : ℕ) (accept
     → find accept (candidates_in kind controls cap t p (i * kind.width)) ≡ None
     → r ≡ find accept (map (λ j. (p + i * kind.width + j) % cap) (filter (kind.marks g t) (range_with_len 0 kind.width)))
     → find accept (candidates_in kind controls cap t p ((i + 1) * kind.width)) ≡ r
-found_more kind controls g cap t p i accept r pos e none is =
-    ap (find accept) (more_candidates kind controls g cap t p i pos e)
-    ∙ find-append accept (candidates_in kind controls cap t p (i * kind.width)) (map (λ j. (p + i * kind.width + j) % cap) (filter (kind.marks g t) (range_with_len 0 kind.width)))
-    ∙ rw none (sym is)
+found_more kind controls g cap t p i accept r pos e none is = grind (arith, common_steps, more_candidates kind controls g cap t p i pos e, find-append)
 
 pub found_whole : (kind : Kind) (controls : List ℕ) (cap t p n b : ℕ) (accept : ℕ → Bool) → n ≤ 16
     → find accept (candidates_in kind controls cap t p n) ≡ Some b → find accept (candidates kind controls cap t p) ≡ Some b

@@ -10,4 +10,4 @@ use Rattle.rkyv_table.specs.{cap_at, decode_begin}
 pub begin_is : (w : Width) (size : ℕ) (b : List ℕ) (p : ℕ) (distance decoded : ℤ) (cap n : ℕ) → FitsSigned w128 decoded
     → distance ≡ signed_at w b p → cap ≡ cap_at w b p → n ≡ size
     → decoded ≡ (pos p +ℤ distance) -ℤ pos (cap * n) → to_z w128 (of_z w128 decoded) ≡ decode_begin w size b p
-begin_is w size b p distance decoded cap n fits e f k h = grind (arith, common_steps, to_z-of_z, pos)
+begin_is w size b p distance decoded cap n fits e f k h = grind (arith, common_steps, to_z-of_z)

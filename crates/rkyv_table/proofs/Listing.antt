@@ -1,5 +1,5 @@
 -- The result of writing exactly the items of a list.
-use Rattle.std.proofs.Common.{◌≡◌, ℕ, ap, subst, ◌∙◌, arith, inl, inr, List, [], ◌∷◌, ◌++◌, map, length, length-append, Result, MatchResult}
+use Rattle.std.proofs.Common.{◌≡◌, ℕ, ap, subst, ◌∙◌, arith, List, [], ◌∷◌, ◌++◌, map, length, length-append, Result, MatchResult}
 use Rattle.std.proofs.lemmas.Grind.{common_steps}
 use Rattle.std.specs.Iterator.{Drains, Yields, YieldsFirstBy}
 use Rattle.std.proofs.lemmas.List.{append-nil, length-map}
@@ -18,16 +18,7 @@ module _ {S A B : Type 0} (view : A → B) (rest : S → List B) where
   all_came xs s d = grind (arith, common_steps, left_after, append-nil)
 
   pub no_other_came : (len : ℕ) (s : S) → length (rest s) ≡ len → (n : ℕ) → YieldsOtherCount (YieldsFirstBy view rest) len s n → ⊥
-  no_other_came len s e n h =
-      let xs = h.0.0 in
-      let count = length-map xs view in
-      elim h.0.2 [
-        | inl d ↦ h.1 (h.0.1 ∙ omega (arith, count, ap length (all_came xs s d.1), e))
-        | inr d ↦
-            let l = ap length (left_after xs s d.1.0 d.1.1) in
-            let a = length-append (map view xs) (rest d.1.0) in
-            omega (arith, h.0.1, d.0, count, l, a, e)
-      ]
+  no_other_came len s e n h = grind (arith, common_steps, length-map, all_came, left_after, length-append)
 
 -- the input has the items of the list, as many as claimed
 module _ {X V R : Type 0} (yields : List X → Type 0) (other : ℕ → Type 0) (value_of : List X → List V) (values : List V) (all : (items : List X) → yields items → value_of items ≡ values)

@@ -1,6 +1,6 @@
 -- Lists made by `filter`, `map` and `range_with_len`: membership, distinctness, and
 -- the first that passes.
-use Rattle.std.proofs.Common.{◌≡◌, ◌≢◌, ℕ, zero, suc, ◌+◌, ◌-◌, ◌<◌, ◌≤◌, inl, inr, refl, sym, ap, subst, ◌∙◌, arith, List, [], ◌∷◌, Bool, true, false, ◌&&◌, ◌||◌, eqb, filter, get_or, length, map, Option, Some, None}
+use Rattle.std.proofs.Common.{◌≡◌, ◌≢◌, ℕ, zero, suc, ◌+◌, ◌-◌, ◌<◌, ◌≤◌, inl, inr, refl, sym, ap, ◌∙◌, arith, List, [], ◌∷◌, Bool, true, false, ◌&&◌, ◌||◌, eqb, filter, length, map, Option, Some, None}
 use Rattle.std.proofs.lemmas.Grind.{common_steps}
 use Rattle.std.specs.Prelude.{slice_get, slice_set}
 use Rattle.std.specs.List.{AllByRecursion, Contains, IsDistinct, find, flat_map, list_any, range_with_len}
@@ -34,10 +34,7 @@ pub contains_member : (x : ℕ) (xs : List ℕ) → Contains xs x → list_any (
 contains_member x xs c = list_any_at (eqb x) xs c.0 x c.1 (rw c.2 (eq-eqb x x refl))
 
 pub any_map_range : (f : ℕ → ℕ) (n i : ℕ) → i < n → list_any (eqb (f i)) (map f (range_with_len 0 n)) ≡ true
-any_map_range f n i h =
-    let e = get_or-map-range_with_len f 0 n i i 0 h (omega arith) in
-    let l = length-map-range_with_len f 0 n in
-    list_any_at (eqb (f i)) (map f (range_with_len 0 n)) i 0 (omega arith) (rw e (eq-eqb (f i) (f i) refl))
+any_map_range f n i h = grind (arith, common_steps, get_or-map-range_with_len f 0 n i i 0 h (omega arith), length-map-range_with_len f 0 n, eq-eqb (f i) (f i) refl, list_any_at)
 
 pub from_map_range : (f : ℕ → ℕ) (n x : ℕ) → list_any (eqb x) (map f (range_with_len 0 n)) ≡ true → (i : ℕ) × (i < n) × (f i ≡ x)
 from_map_range f n x h =
@@ -171,13 +168,4 @@ range_first P a (suc n) q f = elim (cases_eq a q) [
 pub set_each : {X : Type 0} (P : ℕ → X → Type 0) (xs : List X) (n : ℕ) (y : X) → n < length xs → P n y → ((j : ℕ) (x : X) → slice_get xs j ≡ Some x → j ≢ n → P j x)
     → (j : ℕ) (x : X) → slice_get (slice_set xs n y) j ≡ Some x → P j x
 set_each P xs n y inside own others j x e =
-    let h : j < length xs = omega (arith, slice_get_within (slice_set xs n y) j x e, length-set xs n y) in
-    let is : get_or (slice_set xs n y) j x ≡ x = get_or_from_slice_get (slice_set xs n y) j x x e in
-    elim (cases_eq j n) [
-      | inl same ↦
-          let one : y ≡ x = sym (get_or-set_same xs n y x inside) ∙ ap (λ m. get_or (slice_set xs n y) m x) (sym same) ∙ is in
-          subst (λ m. P m x) (sym same) (subst (P n) one own)
-      | inr ne ↦
-          let one : get_or xs j x ≡ x = sym (get_or-set_other xs n j y x ne) ∙ is in
-          others j x (slice_get-get_or xs j x h ∙ ap Some one) ne
-    ]
+    grind (arith, common_steps, slice_get_within (slice_set xs n y) j x e, length-set xs n y, get_or_from_slice_get (slice_set xs n y) j x x e, cases_eq j n, get_or-set_same xs n y x inside, get_or-set_other, slice_get-get_or)

@@ -76,16 +76,7 @@ ends_somewhere kind controls cap len h t accept a =
 -- a full control byte of a stride is that of a full bucket
 pub stride_full : (cap len : ℕ) (controls stride : List ℕ) (p q : ℕ) → AreValidControls cap len controls → p < probe_capacity cap → q < 16 → stride ≡ take 16 (drop p controls) → get_or stride q 0 < 128
     → (p + q < 2 * cap) × IsFullBucket cap controls ((p + q) % cap)
-stride_full cap len controls stride p q a lp lq e f =
-    let room = a.room in
-    let some : 0 < cap = omega arith in
-    let at : get_or stride q 0 ≡ get_or controls (p + q) 0 = ap (λ xs. get_or xs q 0) e ∙ get_or-take 16 (drop p controls) q 0 lq ∙ get_or-drop p controls q 0 in
-    let f' : get_or controls (p + q) 0 < 128 = rw at at f in
-    let inside : p + q < control_count cap = omega arith in
-    elim (cases_lt (p + q) (2 * cap)) [
-      | inl two ↦ (two, (mod_below (p + q) cap some, rw (control_of cap controls (p + q) some a.wrapped two inside) at f'))
-      | inr over ↦ let n : 128 ≤ get_or controls (p + q) 0 = a.wrapped.past (p + q) over inside in absurd (omega arith)
-    ]
+stride_full cap len controls stride p q a lp lq e f = grind (arith, common_steps, get_or-take 16 (drop p controls) q 0 lq, get_or-drop p controls q 0, cases_lt (p + q) (2 * cap), mod_below, control_of)
 
 -- the bucket of a full control byte of a stride
 pub shown_full : (cap len : ℕ) (controls stride : List ℕ) (p : ℕ) → AreValidControls cap len controls → p < probe_capacity cap → stride ≡ take 16 (drop p controls) → (b : ℕ) → IsFullInStride stride p cap b → IsFullBucket cap controls b

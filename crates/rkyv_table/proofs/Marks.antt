@@ -1,5 +1,6 @@
 -- The first index of a mask, and the others.
-use Rattle.std.proofs.Common.{◌≡◌, ◌∙◌, ℕ, zero, suc, ◌+◌, ◌%◌, ◌<◌, ◌≤◌, refl, sym, ap, arith, List, [], ◌∷◌, Bool, true, false, map, filter, drop, take, length, get_or, get_or-take, get_or-drop, Some, None}
+use Rattle.std.proofs.lemmas.Grind.{common_steps}
+use Rattle.std.proofs.Common.{◌≡◌, ℕ, zero, suc, ◌+◌, ◌<◌, ◌≤◌, refl, sym, ap, arith, List, [], ◌∷◌, Bool, true, false, map, filter, drop, take, length, get_or, get_or-take, get_or-drop, Some, None}
 use Rattle.rkyv_scan.specs.{IsKind, Kind, indices_where}
 use Rattle.std.proofs.lemmas.List.Elements.{All-filter, All-from_get_or, All-get_or, filter_passes}
 use Rattle.std.proofs.lemmas.List.FromFn.{get_or-range_with_len, length-range_with_len}
@@ -39,20 +40,9 @@ in_filter P a n k h =
 pub index_full : (kind : Kind) → IsKind kind → (t : ℕ) (stride group ps : List ℕ) (at k : ℕ) → t < 128 → group ≡ take kind.width (drop at stride)
     → ps ≡ indices_where (kind.marks group t) kind.width → k < length ps → (get_or ps k 0 < kind.width) × (get_or stride (at + get_or ps k 0) 0 < 128)
 unfolding indices_where
-index_full kind law t stride group ps at k ht e p h =
-    let h' : k < length (filter (kind.marks group t) (range_with_len 0 kind.width)) = rw p at h in
-    let r = in_filter (kind.marks group t) 0 kind.width k h' in
-    let j = get_or (filter (kind.marks group t) (range_with_len 0 kind.width)) k 0 in
-    let lt : j < kind.width = omega (arith, r.0) in
-    let full : get_or group j 0 < 128 = law.full group t j ht r.1 in
-    let at_index : get_or group j 0 ≡ get_or stride (at + j) 0 = ap (λ xs. get_or xs j 0) e ∙ get_or-take kind.width (drop at stride) j 0 lt ∙ get_or-drop at stride j 0 in
-    rw p (lt, rw at_index at full)
+index_full kind law t stride group ps at k ht e p h = grind (arith, common_steps, in_filter, get_or-take, get_or-drop)
 
 -- the bucket of a marked index is that of a full control byte of the stride
 pub marked_bucket_full : (kind : Kind) → IsKind kind → (t p cap at : ℕ) (stride group ps : List ℕ) → t < 128 → at + kind.width ≤ 16 → group ≡ take kind.width (drop at stride)
     → ps ≡ indices_where (kind.marks group t) kind.width → (b : ℕ) → IsMarked (p + at) cap ps b → IsFullInStride stride p cap b
-marked_bucket_full kind law t p cap at stride group ps ht fits e m b k =
-    let f = index_full kind law t stride group ps at k.0 ht e m k.1 in
-    let j = get_or ps k.0 0 in
-    let a : p + at + j ≡ p + (at + j) = omega arith in
-    (at + j, omega (arith, f.0), f.1, k.2 ∙ ap (λ x. x % cap) a)
+marked_bucket_full kind law t p cap at stride group ps ht fits e m b k = grind (arith, common_steps, index_full kind law t stride group ps at k.0 ht e m k.1)

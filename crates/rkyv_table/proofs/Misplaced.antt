@@ -1,5 +1,5 @@
 -- Items that a lookup of their own doesn't find.
-use Rattle.std.proofs.Common.{◌≡◌, ℕ, suc, ◌+◌, ◌%◌, ◌^◌, ◌<◌, ◌≤◌, inl, inr, refl, sym, ap, subst, ◌∙◌, arith, List, [], ◌∷◌, Bool, true, false, not, ◌&&◌, eqb, length, filter, get_or, map, take, Option, Some, get_or-take, length-take}
+use Rattle.std.proofs.Common.{◌≡◌, ℕ, ◌+◌, ◌%◌, ◌^◌, ◌<◌, ◌≤◌, inl, inr, refl, sym, ap, subst, ◌∙◌, arith, List, [], ◌∷◌, Bool, true, false, not, ◌&&◌, eqb, length, filter, get_or, map, take, Option, Some, get_or-take, length-take}
 use Rattle.std.proofs.lemmas.Grind.{common_steps}
 use Rattle.std.specs.Prelude.{MatchOption}
 use Rattle.std.specs.List.{Contains, IsDistinct, find, list_any, position_or_len, range_with_len}
@@ -70,10 +70,7 @@ module _ (kind : Kind) (cap len h : ℕ) (controls : List ℕ) (law : IsKind kin
       ]
 
   pub found_walked : (accept : ℕ → Bool) (b : ℕ) → found kind controls cap len h accept ≡ Some b → (accept b ≡ true) × Contains (walk controls cap) b
-  found_walked accept b e = elim (cases_eq len 0) [
-    | inl z ↦ absurd (none-some b (rw (eq-eqb len 0 z) at e))
-    | inr n ↦ finds_walked accept b (strides h cap) (λ p m. m) (sym (found_is kind controls cap len h accept n) ∙ e)
-  ]
+  found_walked accept b e = grind (arith, common_steps, cases_eq, none-some, eq-eqb, finds_walked, found_is)
 
   -- ---- a lookup depends only on the accepted ones of the full buckets
 
@@ -91,21 +88,12 @@ module _ (kind : Kind) (cap len h : ℕ) (controls : List ℕ) (law : IsKind kin
       ∙ rw (any_agree P Q xs on, find_agree P Q xs on, rest) (sym (found_along_cons kind controls cap (tag h) Q p ps))
 
   pub found_agree : (P Q : ℕ → Bool) → Agree P Q → found kind controls cap len h P ≡ found kind controls cap len h Q
-  found_agree P Q same = elim (cases_eq len 0) [
-    | inl z ↦ rw (eq-eqb len 0 z) refl
-    | inr n ↦ found_is kind controls cap len h P n ∙ answers_agree P Q same (strides h cap) (λ p m. m) ∙ sym (found_is kind controls cap len h Q n)
-  ]
+  found_agree P Q same = grind (arith, common_steps, cases_eq, eq-eqb, found_is, answers_agree)
 
 -- ---- tables without misplaced items
 
 none_filtered : (P : ℕ → Bool) (xs : List ℕ) (x : ℕ) → length (filter P xs) ≡ 0 → list_any (eqb x) xs ≡ true → P x ≡ false
-none_filtered P xs x e m = elim (cases_Bool (P x)) [
-  | inr f ↦ f
-  | inl t ↦
-      let n : filter P xs ≡ [] = nil_from_length (filter P xs) e in
-      let k : list_any (eqb x) (filter P xs) ≡ true = any_filter x P xs ∙ and_from (list_any (eqb x) xs) (P x) m t in
-      absurd (true≢false (sym k ∙ ap (list_any (eqb x)) n))
-]
+none_filtered P xs x e m = grind (arith, common_steps, cases_Bool (P x), nil_from_length (filter P xs) e, any_filter x P xs, and_from, true≢false)
 
 pub found_at_is : (b : ℕ) (o : Option ℕ) → is_found_at b o ≡ true → o ≡ Some b
 found_at_is b found e = grind (arith, common_steps, true≢false, eqb-true)
@@ -113,38 +101,16 @@ found_at_is b found e = grind (arith, common_steps, true≢false, eqb-true)
 module _ (kind : Kind) (cap len hash : ℕ) (controls : List ℕ) (accept : ℕ → Bool) (hash_at : ℕ → ℕ) (same_at : ℕ → ℕ → Bool) (law : IsKind kind) (accepted : AreValidControls cap len controls)
     (fits : hash < 2 ^ 64) (none : misplaced kind controls cap len hash_at same_at ≡ 0) (accepts_same : AcceptsSame controls cap hash accept hash_at same_at) where
   found_itself : (b : ℕ) → Contains (walk controls cap) b → accept b ≡ true → found kind controls cap len hash accept ≡ Some b
-  found_itself b here ok =
-      let P = is_misplaced kind controls cap len hash_at same_at in
-      let f : P b ≡ false = none_filtered P (walk controls cap) b none (contains_member b (walk controls cap) here) in
-      let own : found kind controls cap len (hash_at b) (same_at b) ≡ Some b =
-      found_at_is b (found kind controls cap len (hash_at b) (same_at b)) (not-false (is_found_at b (found kind controls cap len (hash_at b) (same_at b))) f) in
-      found_agree kind cap len hash controls law accepted fits accept (same_at b) (λ d there. accepts_same.same b d here there ok)
-      ∙ ap (λ z. found kind controls cap len z (same_at b)) (sym (accepts_same.hashed b here ok)) ∙ own
+  found_itself b here ok = grind (arith, common_steps, contains_member b (walk controls cap) here, none_filtered, found_at_is, not-false, found_agree)
 
   pub complete : MatchOption (found kind controls cap len hash accept) (NoneAccepted controls cap accept) (AloneAccepted controls cap accept)
-  complete = elim (cases_option (found kind controls cap len hash accept)) [
-    | inl n ↦ subst (λ o. MatchOption o (NoneAccepted controls cap accept) (AloneAccepted controls cap accept)) (sym n)
-        (λ b here. elim (cases_Bool (accept b)) [
-          | inr f ↦ f
-          | inl t ↦ absurd (none-some b (sym n ∙ found_itself b here t))
-        ])
-    | inr x ↦ subst (λ o. MatchOption o (NoneAccepted controls cap accept) (AloneAccepted controls cap accept)) (sym x.1)
-        (let k = found_walked kind cap len hash controls law accepted fits accept x.0 x.1 in
-        record {
-          walked = k.1;
-          accepted = k.0;
-          alone = λ b here ok. sym (same_Some x.0 b (sym x.1 ∙ found_itself b here ok));
-        })
-  ]
+  complete = grind (arith, common_steps, cases_option, cases_Bool, none-some, found_itself, found_walked, same_Some)
 
 -- ---- written control bytes
 
 filter_map_length : (P : ℕ → Bool) (f : ℕ → ℕ) (xs : List ℕ) → length (filter P (map f xs)) ≡ length (filter (λ x. P (f x)) xs)
 filter_map_length P f [] = refl
-filter_map_length P f (x ∷ xs) = elim (cases_Bool (P (f x))) [
-  | inl t ↦ rw t (ap suc (filter_map_length P f xs))
-  | inr e ↦ rw e (filter_map_length P f xs)
-]
+filter_map_length P f (x ∷ xs) = grind (arith, common_steps, cases_Bool, filter_map_length P f xs)
 
 -- a list by its indices
 by_indices : (xs : List ℕ) → xs ≡ map (λ i. get_or xs i 0) (range_with_len 0 (length xs))

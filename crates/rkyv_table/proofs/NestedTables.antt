@@ -7,12 +7,8 @@ use Rattle.std.proofs.lemmas.Int.{ints}
 use Rattle.rkyv_base.specs.{AgreeOn, ElementSpec, IsElement, ModifiesOnly, Viewable}
 use Rattle.rkyv_base.proofs.Sealing.{sealed_wider}
 use Rattle.rkyv_scan.specs.{is_full}
-use Rattle.rkyv_table.specs.{AreValidAt, AreValidControls, AreValidItems, IsPart, IsValidBefore, StaysAt}
-use Rattle.rkyv_table.specs.{IsWalked, TableAt, ValidPart, WritesAmongParts, bucket_at, cap_at, control_count}
-use Rattle.rkyv_table.specs.{controls_at, controls_pos, decode_begin, item_at, len_at}
-use Rattle.rkyv_table.specs.{table_controls, table_spec, walk}
-use Rattle.rkyv_table.specs.Lemmas.ItemPositions.{decoded_controls}
-use Rattle.rkyv_table.specs.Lemmas.ItemPositions.{decoded_item, decoded_pos}
+use Rattle.rkyv_table.specs.{AreValidAt, AreValidItems, IsPart, IsValidBefore, StaysAt, IsWalked, TableAt, ValidPart, WritesAmongParts, bucket_at, cap_at, control_count, controls_at, controls_pos, decode_begin, item_at, len_at, table_controls, table_spec, walk}
+use Rattle.rkyv_table.specs.Lemmas.ItemPositions.{decoded_controls, decoded_item, decoded_pos}
 use Rattle.rkyv_table.specs.Lemmas.ValidItemLaws.{all_between}
 use Rattle.rkyv_table.specs.Lemmas.SameHeader.{begin_same, cap_same, len_same, pos_same}
 use Rattle.rkyv_table.specs.Lemmas.TableLaws.{of_numbers}
@@ -81,19 +77,7 @@ module _ (w : Width) (s : ElementSpec) (law : IsElement s) (b : List ℕ) (p i :
 
   at_kept : (lo hi l : ℕ) → TableAt s b (decode_begin w s.size b p) cap (len_at w b p) lo hi l → TableAt s c (decode_begin w s.size b p) cap (len_at w b p) lo hi l
   at_kept lo hi l (inl h) = inl h
-  at_kept lo hi l (inr (n, part, is, e)) =
-      let same : begin ≡ n = let x = whole.part.begins in let y = part.begins in omega (arith, ints, x, y) in
-      let is' : IsPart s b cap (len_at w b p) lo begin = subst (IsPart s b cap (len_at w b p) lo) (sym same) is in
-      inr (
-        n,
-        part,
-        subst (IsPart s c cap (len_at w b p) lo) same (record {
-          controls = subst (AreValidControls cap (len_at w b p)) controls_same is'.controls;
-          last = is'.last;
-          items = bucket_items_kept lo is'.last (let a = part.above in omega (arith, a, same)) is'.items;
-        }),
-        e,
-      )
+  at_kept lo hi l (inr (n, part, is, e)) = grind (arith, whole, ints, controls_same, bucket_items_kept)
 
   -- the bytes outside the parts of the table are the same
   at_sealed : (lo hi l : ℕ) → TableAt s b (decode_begin w s.size b p) cap (len_at w b p) lo hi l → ModifiesOnly b lo (l - lo) c

@@ -1,5 +1,5 @@
 -- After a write of one item, a table is one that was written from the list with the new item.
-use Rattle.std.proofs.Common.{◌≡◌, ◌≢◌, ℕ, zero, suc, ◌<◌, ◌∙◌, refl, sym, ap, subst, arith, List, [], ◌∷◌, length, Some, slice_index}
+use Rattle.std.proofs.Common.{◌≡◌, ◌≢◌, ℕ, zero, suc, ◌<◌, ◌∙◌, refl, sym, ap, subst, arith, List, [], ◌∷◌, length, Some, slice_index, rules}
 use Rattle.std.specs.Prelude.{slice_get, slice_set}
 use Rattle.std.specs.Int.{Width}
 use Rattle.std.proofs.lemmas.List.{length-map}
@@ -76,6 +76,4 @@ pub items_written : {X : Type 0} (w : Width) (s : ElementSpec) (law : IsElement 
     (view : Viewable (table_spec w s) b p) (of : IsWrittenOf w s.size represents b p pairs) (at_n : slice_get pairs n ≡ Some (hash, old))
     → ModifiesOnly b (item_at w s.size b p (slice_index of.homes n)) s.size c → StaysValid s b c (item_at w s.size b p (slice_index of.homes n))
     → represents c (item_at w s.size b p (slice_index of.homes n)) new → IsWrittenOf w s.size represents c p (slice_set pairs n (hash, new))
-items_written w s law represents local b c p n hash pairs old new view of at_n sealed keeps one =
-    let there = walked w s law represents local b c p n hash pairs old new view of at_n n (slice_get_within pairs n (hash, old) at_n) in
-    written_of w s law represents local b c p n hash pairs old new view of at_n (table_kept w s law b p (slice_index of.homes n) view there c sealed keeps) one
+items_written w s law represents local b c p n hash pairs old new view of at_n sealed keeps one = search (rules, walked, slice_get_within, written_of, table_kept)

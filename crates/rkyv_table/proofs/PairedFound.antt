@@ -1,10 +1,9 @@
 -- A lookup by groups of sixteen as two halves has the result of one by groups of eight.
-use Rattle.std.proofs.Common.{◌≡◌, ℕ, suc, ◌+◌, ◌-◌, ◌*◌, ◌/◌, ◌%◌, ◌<◌, ◌≤◌, Bool, ◌||◌, cond, eqb, refl, ap, ◌∙◌, arith, List, drop, map, take, None}
-use Rattle.std.specs.List.{find, list_any, position_or_len}
-use Rattle.std.specs.Option.{option_and_then}
+use Rattle.std.proofs.lemmas.Grind.{common_steps}
+use Rattle.std.proofs.Common.{◌≡◌, ℕ, ◌+◌, ◌-◌, ◌*◌, ◌/◌, ◌%◌, ◌<◌, ◌≤◌, Bool, refl, ap, ◌∙◌, arith, List, drop, map, take}
 use Rattle.rkyv_scan.specs.{generic_kind, is_word_match_at, paired_kind}
 use Rattle.rkyv_scan.proofs.Indices.{range_agree}
-use Rattle.rkyv_table.specs.{candidates, found, marked, probe_length, stride_has_empty, strides, tag}
+use Rattle.rkyv_table.specs.{candidates, found, marked, probe_length}
 use Rattle.rkyv_table.proofs.Groups.{group_of}
 
 marked_alike : (controls : List ℕ) (t p q : ℕ) → p ≤ q → q < p + 16 → marked paired_kind controls t p q ≡ marked generic_kind controls t p q
@@ -24,11 +23,7 @@ candidates_alike controls cap t p =
     ap (map (λ q. q % cap)) (range_agree (marked paired_kind controls t p) (marked generic_kind controls t p) p 16 (λ q lo hi. marked_alike controls t p q lo hi))
 
 pub found_paired : (controls : List ℕ) (cap len hash : ℕ) (accept : ℕ → Bool) → found paired_kind controls cap len hash accept ≡ found generic_kind controls cap len hash accept
-found_paired controls cap len hash accept =
-    ap (λ (cands : ℕ → List ℕ). cond (eqb len 0) None (option_and_then (λ p. find accept (cands p)) (find (λ p. list_any accept (cands p) || stride_has_empty controls p) (strides hash cap))))
-    (λ i. λ p. candidates_alike controls cap (tag hash) p i)
+found_paired controls cap len hash accept = grind (arith, common_steps, candidates_alike)
 
 pub end_paired : (controls : List ℕ) (cap len hash : ℕ) (accept : ℕ → Bool) → probe_length paired_kind controls cap len hash accept ≡ probe_length generic_kind controls cap len hash accept
-end_paired controls cap len hash accept =
-    ap (λ (cands : ℕ → List ℕ). cond (eqb len 0) 0 (suc (position_or_len (λ p. list_any accept (cands p) || stride_has_empty controls p) (strides hash cap))))
-    (λ i. λ p. candidates_alike controls cap (tag hash) p i)
+end_paired controls cap len hash accept = grind (arith, common_steps, candidates_alike)

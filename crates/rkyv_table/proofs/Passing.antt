@@ -1,11 +1,10 @@
 -- A written table is valid in each range around it.
-use Rattle.std.proofs.Common.{ℕ, ◌+◌, ◌≤◌, arith, length}
+use Rattle.std.proofs.Common.{ℕ, ◌+◌, ◌≤◌, arith, length, List}
 use Rattle.std.specs.Int.{Width}
 use Rattle.rkyv_base.specs.{ElementSpec, Format, IsArchiveWord, IsElement, IsFormat}
 use Rattle.rkyv_table.specs.Lemmas.TableLaws.{table_element}
 use Rattle.rkyv_table.specs.Lemmas.TableSound.{table_is_format}
 use Rattle.rkyv_table.specs.{IsValidAround, WrittenTablesPass}
-use Rattle.std.proofs.Common.{List}
 
 -- a value that is valid in a range is valid in each range around it
 pub is_valid_around : (s : ElementSpec) → IsElement s → (c : List ℕ) (p begin end l : ℕ) → begin ≤ end → s.is_valid c p begin end l → IsValidAround s c p begin end

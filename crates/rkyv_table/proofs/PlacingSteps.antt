@@ -1,7 +1,7 @@
 -- One pair more taken, and put into its bucket.
-use Rattle.std.proofs.Common.{◌≡◌, ◌≢◌, ℕ, zero, suc, ◌+◌, ◌^◌, ◌<◌, ◌⊎◌, inl, inr, refl, sym, ap, ◌∙◌, subst, arith, List, [], ◌∷◌, ◌++◌, length, get_or, set, replicate, Option, Some, None, true, false, eqb, length-set}
+use Rattle.std.proofs.Common.{◌≡◌, ◌≢◌, ℕ, zero, suc, ◌+◌, ◌^◌, ◌<◌, ◌⊎◌, inl, inr, refl, sym, ap, ◌∙◌, subst, arith, List, [], ◌∷◌, ◌++◌, length, get_or, set, replicate, Option, Some, None, true, length-set, add-one}
 use Rattle.std.specs.Prelude.{slice_get}
-use Rattle.std.specs.List.{find, list_any}
+use Rattle.std.specs.List.{find}
 use Rattle.std.specs.Iterator.{Yields}
 use Rattle.std.proofs.lemmas.List.{get_or_append_left, get_or_push, length-map, length-replicate, length_push, map-append}
 use Rattle.std.proofs.lemmas.List.Elements.{All-append, All-cons, All-nil}
@@ -12,7 +12,6 @@ use Rattle.rkyv_table.specs.{AreHashes, AreInSlots, ArePlaced, AreWrittenControl
 use Rattle.rkyv_table.proofs.Written.{probed_below}
 use Rattle.rkyv_table.proofs.WrittenStep.{free_empty, fresh, one_more, room_left}
 use Rattle.rkyv_table.proofs.Lists.{some_find}
-use Rattle.std.proofs.Common.{add-one}
 
 pub yields_more : {S A : Type 0} (steps : S → Option A → S → Type 0) (s t u : S) (xs : List A) (x : A) → Yields steps s xs t → steps t (Some x) u → Yields steps s (xs ++ x ∷ []) u
 yields_more steps s t u [] x y e = (u, subst (λ z. steps z (Some x) u) (sym y) e, refl)
@@ -64,28 +63,8 @@ fit_more hashes h f hh = All-append (λ x. x < 2 ^ 64) hashes (h ∷ []) f (All-
 
 module _ {X : Type 0} (cap : ℕ) (homes : List ℕ) (items : List X) (slots : List (Option X)) (b : ℕ) (x : X) where
   slotted_more : AreInSlots cap homes items slots → b < cap → is_free homes b ≡ true → ((i : ℕ) → i < length homes → get_or homes i 0 ≢ b) → AreInSlots cap (homes ++ b ∷ []) (items ++ x ∷ []) (set slots b (Some x))
-  slotted_more s hb free apart = record {
-    full = filled_set slots b x (s.others b hb free) ∙ ap (λ n. n + 1) s.full ∙ sym (length_push homes b);
-    count = length-set slots b (Some x) ∙ s.count;
-    items_count = length_push items x ∙ ap (λ n. n + 1) s.items_count ∙ sym (length_push homes b);
-    at = λ i y e. elim (get_push items x y i e) [
-      | inl a ↦
-          let l : i < length homes = let w = slice_get_within items i y a in let c = s.items_count in omega arith in
-          let g = get_or_append_left homes (b ∷ []) 0 i l in
-          rw g (get_set_other slots b (get_or homes i 0) (Some x) (apart i l) ∙ s.at i y a)
-      | inr z ↦
-          let i' : i ≡ length homes = z.0 ∙ s.items_count in
-          let g : get_or (homes ++ b ∷ []) i 0 ≡ b = get_or_push homes b 0 i (sym i') in
-          let c = s.count in
-          rw (g, ← z.1) (get_set_same slots b (Some x) (omega arith))
-    ];
-    others = λ c hc f.
-        let none = not-true (list_any (eqb c) (homes ++ b ∷ [])) f in
-        let u = or_parts (list_any (eqb c) homes) (list_any (eqb c) (b ∷ [])) (sym (list_any-append (eqb c) homes (b ∷ [])) ∙ none) in
-        let v = or_parts (eqb c b) false u.1 in
-        let ne : c ≢ b = λ z. both_ways (eqb c b) v.0 (eq-eqb c b z) in
-        get_set_other slots b c (Some x) ne ∙ s.others c hc (not_from_false (list_any (eqb c) homes) u.0);
-  }
+  slotted_more s hb free apart =
+      grind (arith, filled_set, length_push, length-set, get_push, slice_get_within, get_or_append_left, get_set_other, get_or_push, get_set_same, not-true, or_parts, list_any-append, both_ways, eq-eqb, not_from_false)
 
 module _ {X : Type 0} (cap : ℕ) (pairs : List (ℕ × X)) (slots : List (Option X)) (controls : List ℕ) where
   -- the first empty bucket that a hash shows has a slot
@@ -94,9 +73,7 @@ module _ {X : Type 0} (cap : ℕ) (pairs : List (ℕ × X)) (slots : List (Optio
 
   -- some bucket is empty
   pub placed_room : ArePlaced cap pairs slots controls → length pairs < cap → HasRoom cap controls
-  placed_room p h =
-      let n = length-map pairs (λ (y : ℕ × X). y.0) in
-      room_left cap (hashes_of pairs) p.homes controls p.written (λ j l. p.hashes j 0 l) (omega arith)
+  placed_room p h = grind (arith, length-map, room_left)
 
   module _ (h b : ℕ) (x : X) where
     pub placed_more : 0 < cap → ArePlaced cap pairs slots controls → h < 2 ^ 64 → find (is_empty_at controls) (probed h cap) ≡ Some b

@@ -1,5 +1,5 @@
 -- The steps of a `Probe`.
-use Rattle.std.proofs.Common.{◌≡◌, ℕ, zero, suc, inl, inr, ◌+◌, ◌*◌, ◌-◌, ◌/◌, ◌%◌, ◌^◌, ◌<◌, ◌≤◌, refl, sym, ap, ◌∙◌, arith, [], ◌∷◌, true, false, ltb, bit_and, add-zero, add_comm}
+use Rattle.std.proofs.Common.{◌≡◌, ℕ, zero, suc, inl, inr, ◌+◌, ◌*◌, ◌-◌, ◌/◌, ◌%◌, ◌^◌, ◌<◌, ◌≤◌, refl, sym, ap, ◌∙◌, arith, [], ◌∷◌, bit_and, add-zero, add_comm}
 use Rattle.std.proofs.lemmas.Grind.{common_steps}
 use Rattle.std.proofs.Math.Nat.{mod-add-mod, mod-eq_of_lt}
 use Rattle.std.proofs.Math.Pow.{pow_mono}
@@ -49,36 +49,19 @@ offset_below cap s offset k is = rw is.at (mod_below (16 * (k * (k - 1) / 2)) (m
 
 pub stepped : (cap s offset k : ℕ) → 0 < k → IsProbe cap s offset k → IsProbe cap s (bit_and (offset + 16 * k) (modulus cap - 1)) (k + 1)
 unfolding modulus
-stepped cap s offset k h is =
-    let m : k + 1 - 1 ≡ k = omega arith in
-    let t : (k + 1) * (k + 1 - 1) ≡ k * (k + 1) = ap (λ z. (k + 1) * z) m ∙ omega arith in
-    record {
-      begun = is.begun;
-      fits = is.fits;
-      at = and_mask (offset + 16 * k) _ ∙ offset_next (modulus cap) k offset h is.at ∙ ap (λ z. 16 * (z / 2) % modulus cap) (sym t);
-    }
+stepped cap s offset k h is = grind (arith, common_steps, and_mask, offset_next)
 
 pub probe_index_is : (cap s offset k : ℕ) → 0 < k → IsProbe cap s offset k → bit_and (s + bit_and (offset + 16 * k) (modulus cap - 1)) (modulus cap - 1) ≡ probe_index s (modulus cap) k
 unfolding modulus
-probe_index_is cap s offset k h is =
-    let o = and_mask (offset + 16 * k) _ ∙ offset_next (modulus cap) k offset h is.at in
-    and_mask (s + bit_and (offset + 16 * k) (modulus cap - 1)) _
-    ∙ ap (λ z. (s + z) % modulus cap) o
-    ∙ add_mod_inner s (modulus cap) (16 * triangle k)
+probe_index_is cap s offset k h is = grind (arith, common_steps, and_mask, offset_next, bit_and, add_mod_inner, triangle)
 
 pub takes : (cap s k p : ℕ) → k < modulus cap / 16 → p ≡ probe_index s (modulus cap) k → p < probe_capacity cap → strides_from cap s k ≡ p ∷ strides_from cap s (k + 1)
 unfolding strides_from
-takes cap s k p lt e below =
-    let t = lt-ltb p (probe_capacity cap) below in
-    let t' : ltb (probe_index s (modulus cap) k) (probe_capacity cap) ≡ true = rw e at t in
-    rw (range_cons k (modulus cap / 16) lt, t', e) refl
+takes cap s k p lt e below = grind (arith, common_steps, lt-ltb, range_cons)
 
 pub skips : (cap s k p : ℕ) → k < modulus cap / 16 → p ≡ probe_index s (modulus cap) k → probe_capacity cap ≤ p → strides_from cap s k ≡ strides_from cap s (k + 1)
 unfolding strides_from
-skips cap s k p lt e above =
-    let t = le-ltb p (probe_capacity cap) above in
-    let t' : ltb (probe_index s (modulus cap) k) (probe_capacity cap) ≡ false = rw e at t in
-    rw (range_cons k (modulus cap / 16) lt, t') refl
+skips cap s k p lt e above = grind (arith, common_steps, le-ltb, range_cons)
 
 pub ends : (cap s k : ℕ) → modulus cap / 16 ≤ k → strides_from cap s k ≡ []
 unfolding strides_from

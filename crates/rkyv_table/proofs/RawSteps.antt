@@ -6,7 +6,7 @@ use Rattle.std.proofs.lemmas.Bool.{cases_eq}
 use Rattle.std.proofs.lemmas.Option.{none-some, same_Some}
 use Rattle.std.proofs.lemmas.List.{take-append-le, take_all}
 use Rattle.std.proofs.Math.Nat.{mul-le-mul_right}
-use Rattle.std.proofs.lemmas.List.Elements.{All-head, All-rest, All-same, filter-append}
+use Rattle.std.proofs.lemmas.List.Elements.{All-rest, All-same, filter-append}
 use Rattle.rkyv_scan.specs.{indices_where}
 use Rattle.rkyv_scan.proofs.Indices.{range_agree}
 use Rattle.rkyv_table.specs.{IsAhead, IsRawIter, buckets_left, control_count, full_from, marked_left, pos_before, positions_left, walk}
@@ -39,9 +39,7 @@ group_cut F end base w le =
 pub group_read : (controls : List ℕ) (base w : ℕ) (marks : List ℕ) → marks ≡ indices_where (λ j. ltb (get_or (take w (drop base controls)) j 0) 128) w
     → marks ≡ filter (λ j. ltb (get_or controls (base + j) 0) 128) (range_with_len 0 w)
 unfolding indices_where
-group_read controls base w marks e =
-    e ∙ range_agree (λ j. ltb (get_or (take w (drop base controls)) j 0) 128) (λ j. ltb (get_or controls (base + j) 0) 128) 0 w
-    (λ j lo hi. ap (λ x. ltb x 128) (get_or-take w (drop base controls) j 0 (omega arith) ∙ get_or-drop base controls j 0))
+group_read controls base w marks e = grind (arith, common_steps, range_agree, get_or-take, get_or-drop)
 
 -- a group that is read anew
 group_marked : (controls : List ℕ) (base : ℕ) (marks : List ℕ) → base + 8 ≤ length controls → marks ≡ indices_where (λ j. ltb (get_or (take 8 (drop base controls)) j 0) 128) 8
@@ -72,20 +70,14 @@ module _ (buckets_end size count : ℕ) (controls : List ℕ) (base : ℕ) (mark
   head_left j some e = ap (take count) (head_marked controls base j marks e) ∙ take_cons count (base + j) (marked_left controls base (drop 1 marks)) some
 
   head_ahead : (j : ℕ) → 0 < count → Some j ≡ slice_get marks 0 → IsAhead (buckets_end + base * size) size controls (base + j)
-  head_ahead j some e =
-      All-head (IsAhead (buckets_end + base * size) size controls) (base + j) (buckets_left (count - 1) controls base (drop 1 marks))
-      (All-same (IsAhead (buckets_end + base * size) size controls) ((base + j) ∷ buckets_left (count - 1) controls base (drop 1 marks)) (buckets_left count controls base marks) (sym (head_left j some e)) is.ahead)
+  head_ahead j some e = grind (arith, common_steps, head_left)
 
   -- the bucket of the lowest mark is before the position
   pub head_before : (j : ℕ) → 0 < count → Some j ≡ slice_get marks 0 → (j + 8 ≤ length controls) × ((j + 1) * size ≤ buckets_end)
   head_before j some e = grind (arith, common_steps, head_ahead j some e)
 
   pub head_positions : (j : ℕ) → 0 < count → Some j ≡ slice_get marks 0 → positions_left buckets_end size count controls base marks ≡ (buckets_end - (j + 1) * size) ∷ positions_left buckets_end size (count - 1) controls base (drop 1 marks)
-  head_positions j some e =
-      let p : (base + j + 1) * size ≡ base * size + (j + 1) * size = omega arith in
-      let q : buckets_end + base * size - (base + j + 1) * size ≡ buckets_end - (j + 1) * size = omega (arith, p) in
-      ap (map (pos_before (buckets_end + base * size) size)) (head_left j some e)
-      ∙ ap (λ x. x ∷ positions_left buckets_end size (count - 1) controls base (drop 1 marks)) q
+  head_positions j some e = grind (arith, common_steps, head_left)
 
   pub head_keeps : (j : ℕ) → 0 < count → Some j ≡ slice_get marks 0 → IsRawIter buckets_end size (count - 1) controls base (drop 1 marks)
   head_keeps j some e =
@@ -102,20 +94,7 @@ module _ (buckets_end size count : ℕ) (controls : List ℕ) (base : ℕ) (mark
   rest_left e = ap (take count) (none_marked controls base marks e)
 
   next_ahead : 0 < count → None ≡ slice_get marks 0 → (q : ℕ) × (base + 8 ≤ q) × IsAhead (buckets_end + base * size) size controls q
-  next_ahead some e =
-      let r = rest_left e in
-      let full = full_from controls (length controls) (base + 8) in
-      let long : 0 < length full = elim (cases_eq (length full) 0) [
-        | inl z ↦ let t = take_all count full (omega arith) in omega (arith, is.counted, ap length r, ap length t)
-        | inr nz ↦ omega arith
-      ] in
-      let h = split_head full long in
-      let t = r ∙ ap (take count) h.2 ∙ take_cons count h.0 h.1 some in (
-        h.0,
-        full_head controls (length controls) (base + 8) h.0 h.1 h.2,
-        All-head (IsAhead (buckets_end + base * size) size controls) h.0 (take (count - 1) h.1)
-            (All-same (IsAhead (buckets_end + base * size) size controls) (h.0 ∷ take (count - 1) h.1) (buckets_left count controls base marks) (sym t) is.ahead),
-      )
+  next_ahead some e = grind (arith, common_steps, rest_left, cases_eq, take_all, split_head, take_cons, full_head)
 
   -- the next group is inside the control bytes, and its buckets are before the position
   pub next_inside : 0 < count → None ≡ slice_get marks 0 → (base + 16 ≤ length controls) × (8 * size ≤ buckets_end)
@@ -127,17 +106,13 @@ module _ (buckets_end size count : ℕ) (controls : List ℕ) (base : ℕ) (mark
   module _ (some : 0 < count) (none : None ≡ slice_get marks 0) (marks' : List ℕ) (read : marks' ≡ indices_where (λ j. ltb (get_or (take 8 (drop (base + 8) controls)) j 0) 128) 8) where
     next_left : buckets_left count controls base marks ≡ buckets_left count controls (base + 8) marks'
     unfolding buckets_left
-    next_left =
-        let h = next_inside some none in
-        rest_left none ∙ sym (ap (take count) (group_marked controls (base + 8) marks' (omega (arith, h.0)) read))
+    next_left = grind (arith, common_steps, next_inside, rest_left, group_marked)
 
     next_pos : buckets_end - 8 * size + (base + 8) * size ≡ buckets_end + base * size
     next_pos = grind (arith, common_steps, next_inside)
 
     pub next_positions : positions_left buckets_end size count controls base marks ≡ positions_left (buckets_end - 8 * size) size count controls (base + 8) marks'
-    next_positions =
-        ap (map (pos_before (buckets_end + base * size) size)) next_left
-        ∙ ap (λ z. map (pos_before z size) (buckets_left count controls (base + 8) marks')) (sym next_pos)
+    next_positions = grind (arith, common_steps, next_left, next_pos)
 
     pub next_keeps : IsRawIter (buckets_end - 8 * size) size count controls (base + 8) marks'
     next_keeps = record {

@@ -39,17 +39,8 @@ module _ (w : Width) (s : ElementSpec) (law : IsElement s) (b : List ℕ) (p : �
   -- is inside the control bytes
   pub read_ahead : Viewable (table_spec w s) b p → (pos : ℕ) → (0 < cap_at w b p → pos ≡ controls_pos w b p) → (controls : List ℕ) → (0 < cap_at w b p → controls ≡ table_controls w b p)
       → All (IsAhead pos s.size controls) (walk (table_controls w b p) (cap_at w b p))
-  read_ahead v pos is controls shown =
-      All-weaker (IsWalked w b p) (IsAhead pos s.size controls)
-      (λ i h.
-      let some : 0 < cap_at w b p = omega (arith, h.0) in
-      let long = (controls_accepted w s law b p v some).wrapped.count in
-      (rw (shown some) (omega (arith, h.0, long)), rw (is some) (item_before w s law b p v i h.0)))
-      (walk (table_controls w b p) (cap_at w b p)) walked_all
+  read_ahead v pos is controls shown = grind (arith, controls_accepted, item_before, walked_all)
 
   pub read_positions : (pos : ℕ) → (0 < cap_at w b p → pos ≡ controls_pos w b p)
       → map (pos_before pos s.size) (walk (table_controls w b p) (cap_at w b p)) ≡ item_positions w s.size b p
-  read_positions pos is = elim (cases_eq (cap_at w b p) 0) [
-    | inl none ↦ ap (map (pos_before pos s.size)) (none_walked none) ∙ sym (ap (map (item_at w s.size b p)) (none_walked none))
-    | inr some ↦ ap (λ z. map (pos_before z s.size) (walk (table_controls w b p) (cap_at w b p))) (is (omega arith))
-  ]
+  read_positions pos is = grind (arith, cases_eq, none_walked)

@@ -1,14 +1,13 @@
 -- The steps of a cursor that writes items in place.
 use Rattle.rkyv_base.specs.declared.element.HasSpec.{Ghosts as Specs}
 use Rattle.rkyv_base.specs.declared.width.Word.{Ghosts as Words}
-use Rattle.std.proofs.Common.{◌≡◌, ℕ, ◌+◌, ◌-◌, ◌*◌, ◌<◌, ◌≤◌, suc, inl, inr, refl, sym, ap, subst, ◌∙◌, arith, List, ◌∷◌, length, slice_index, slice_range, take, get_or-take}
+use Rattle.std.proofs.Common.{◌≡◌, ℕ, ◌+◌, ◌*◌, ◌<◌, ◌≤◌, inl, inr, sym, ap, subst, ◌∙◌, arith, List, ◌∷◌, length, slice_index, slice_range, take, get_or-take}
 use Rattle.std.proofs.lemmas.Grind.{common_steps}
 use Rattle.std.specs.Int.{Width}
 use Rattle.std.proofs.lemmas.Bool.{cases_eq, le-ltb, lt-ltb}
 use Rattle.rkyv_base.specs.{ElementSpec, IsElement, ModifiesOnly, StaysValid, Viewable, archive_in, pos_in}
-use Rattle.rkyv_scan.specs.{is_full}
 use Rattle.rkyv_scan.proofs.Indices.{range_agree}
-use Rattle.rkyv_table.specs.{IsItemAt, IsReadAt, IsSealIter, IsTableSeal, IsWalked, KeepsTable, StaysThere, cap_at, controls_pos, cursor_buckets_left, full_from, item_at, len_at, pos_before, table_bytes, table_controls, table_pos, table_spec, walk}
+use Rattle.rkyv_table.specs.{IsItemAt, IsReadAt, IsSealIter, IsTableSeal, KeepsTable, StaysThere, cap_at, controls_pos, cursor_buckets_left, full_from, len_at, pos_before, table_bytes, table_controls, table_pos, table_spec, walk}
 use Rattle.rkyv_table.specs.declared.table.TableOf.{TableOf}
 use Rattle.rkyv_table.specs.declared.table.ArchivedHashTable.{ArchivedHashTable}
 use Rattle.rkyv_base.specs.declared.seal.ArchiveSeal.{ArchiveSeal}
@@ -22,17 +21,11 @@ use Rattle.rkyv_table.proofs.Walks.{full_end, whole_walk}
 
 pub full_taken : (controls : List ℕ) (cap b : ℕ) → b < cap → slice_index controls b < 128 → full_from controls cap b ≡ b ∷ full_from controls cap (b + 1)
 unfolding full_from
-full_taken controls cap b h full =
-    let e : cap - b ≡ suc (cap - (b + 1)) = omega arith in
-    let t = lt-ltb (slice_index controls b) 128 full in
-    rw (e, t) refl
+full_taken controls cap b h full = grind (arith, lt-ltb)
 
 pub full_skipped : (controls : List ℕ) (cap b : ℕ) → b < cap → 128 ≤ slice_index controls b → full_from controls cap b ≡ full_from controls cap (b + 1)
 unfolding full_from
-full_skipped controls cap b h empty =
-    let e : cap - b ≡ suc (cap - (b + 1)) = omega arith in
-    let t = le-ltb (slice_index controls b) 128 empty in
-    rw (e, t) refl
+full_skipped controls cap b h empty = grind (arith, le-ltb)
 
 -- the control bytes of the buckets are the front of all control bytes
 front_same : (xs : List ℕ) (n m i : ℕ) → i < n → i < m → slice_index (take n xs) i ≡ slice_index (take m xs) i
@@ -62,24 +55,13 @@ module _ {T : Type 0} (w : Width) (s : ElementSpec) (law : IsElement s) (p : ℕ
 
   pub full_same : 0 < r.left → (x : ℕ) → full_from controls r.cap x ≡ full_from (table_controls w bytes p) r.cap x
   unfolding full_from
-  full_same h x =
-      range_agree (λ q. is_full (slice_index controls q)) (λ q. is_full (slice_index (table_controls w bytes p) q)) x (r.cap - x)
-      (λ j from to. ap is_full (control_same h j (omega arith)))
+  full_same h x = grind (arith, common_steps, range_agree, control_same)
 
   pub bucket_before : 0 < r.left → (i : ℕ) → i < r.cap → (i + 1) * s.size ≤ r.buckets_end
   bucket_before h i l = grind (arith, common_steps, some_buckets, item_before)
 
   pub first_item : 0 < r.left → (i q : ℕ) → i < r.cap → slice_index controls i < 128 → q ≡ pos_before r.buckets_end s.size i → IsItemAt w s bytes p i q
-  first_item h i q l full at =
-      let e = is.buckets_end (some_buckets h) in
-      let walked : IsWalked w bytes p i = (subst (λ n. i < n) is.cap l, subst (λ n. n < 128) (control_same h i l) full) in
-      let pos : q ≡ item_at w s.size bytes p i = at ∙ ap (λ n. n - (i + 1) * s.size) e in
-      record {
-        walked = walked;
-        pos = pos;
-        viewable = subst (Viewable s bytes) (sym pos) (item_viewable w s law bytes p is.table i walked);
-        kept = λ c sealed keeps. table_kept w s law bytes p i is.table walked c sealed keeps;
-      }
+  first_item h i q l full at = grind (arith, some_buckets, control_same, item_viewable, table_kept)
 
 -- a cursor over a table that was kept
 module _ {T : Type 0} (w : Width) (s : ElementSpec) (p i q : ℕ) (before after : RawIterSeal T) (is : IsSealIter w s p before) (item : IsItemAt w s before.archive.now p i q)

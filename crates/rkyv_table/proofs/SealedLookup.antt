@@ -28,15 +28,7 @@ module _ {T W : Type 0} {ts : Specs T} {wt : Words W} (law : IsElement ts.spec) 
   pos_viewable q is = let k = at_seal q is in subst (Viewable ts.spec (archive_in a)) (sym k.2) (item_viewable wt.word ts.spec law (archive_in a) (pos_in a) table k.0 k.1)
 
   pub item_seal : (q : ℕ) (x : Seal T) → IsItemPos t q → SealAt x a.archive q → IsItemSeal wt.word ts.spec a x
-  item_seal q x is at =
-      let k = at_seal q is in
-      record {
-        bucket = k.0;
-        walked = k.1;
-        at = subst (SealAt x a.archive) k.2 at;
-        viewable = subst (Viewable ts.spec (archive_in a)) (sym at.pos) (pos_viewable q is);
-        kept = λ c sealed keeps. table_kept wt.word ts.spec law (archive_in a) (pos_in a) k.0 table k.1 c sealed keeps;
-      }
+  item_seal q x is at = grind (arith, common_steps, at_seal q is, pos_viewable q is, table_kept)
 
   module _ (post : View T → Bool → Type 0) (hash : ℕ) (result : Option ℕ) where
     pub seals_found : FindsFound post generic_kind t hash result → SealsFound post wt.word ts.spec a hash result

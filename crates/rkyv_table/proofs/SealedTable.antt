@@ -1,4 +1,5 @@
 -- A write of one item in place keeps the table.
+use Rattle.std.proofs.lemmas.Grind.{common_steps}
 use Rattle.std.specs.Prelude.{◌≡◌, ◌≢◌, ℕ, suc, ◌+◌, ◌-◌, ◌*◌, ◌<◌, ◌≤◌, List, [], ◌∷◌, slice_index, slice_range}
 use Rattle.std.specs.Int.{Width, byte_len}
 use Rattle.std.proofs.Common.{arith, subst, sym, ◌∙◌, ap, inl, inr}
@@ -10,14 +11,10 @@ use Rattle.rkyv_base.specs.Lemmas.Entry.{entry_element, key_and_value_inside, si
 use Rattle.rkyv_base.proofs.Sealing.{entry_kept, same_outside, sealed_wider, valid_outside}
 use Rattle.rkyv_table.proofs.SameTable.{written_there}
 use Rattle.rkyv_table.proofs.ValidTable.{item_viewable, part_of}
-use Rattle.rkyv_table.specs.{AreValidAt, AreValidControls, IsPart, IsWalked, KeepsTable, SameValue}
-use Rattle.rkyv_table.specs.{TableAt, ValidPart, WrittenAt, bucket_at, cap_at}
-use Rattle.rkyv_table.specs.{control_count, controls_at, controls_pos, decode_begin, item_at}
-use Rattle.rkyv_table.specs.{len_at, table_spec, walk}
+use Rattle.rkyv_table.specs.{AreValidAt, AreValidControls, IsPart, IsWalked, KeepsTable, SameValue, TableAt, ValidPart, WrittenAt, bucket_at, cap_at, control_count, controls_at, controls_pos, decode_begin, item_at, len_at, table_spec, walk}
 use Rattle.rkyv_scan.specs.{AllBelow, is_full}
 use Rattle.rkyv_scan.proofs.Indices.{range_below}
-use Rattle.rkyv_table.specs.Lemmas.ItemPositions.{bucket_is_valid_within, decoded_controls}
-use Rattle.rkyv_table.specs.Lemmas.ItemPositions.{decoded_item, decoded_pos}
+use Rattle.rkyv_table.specs.Lemmas.ItemPositions.{bucket_is_valid_within, decoded_controls, decoded_item, decoded_pos}
 use Rattle.rkyv_table.specs.Lemmas.SameHeader.{begin_same, cap_same, item_same, len_same, pos_same}
 use Rattle.rkyv_table.specs.Lemmas.TableLaws.{bucket_inside, of_numbers}
 
@@ -58,9 +55,7 @@ module _ (s : ElementSpec) (law : IsElement s) (b c : List ℕ) (begin cap i : �
   at = bucket_at s.size begin cap
 
   pub controls_kept : controls_at s.size b begin cap ≡ controls_at s.size c begin cap
-  controls_kept =
-      let u = bucket_inside s.size begin cap i walked in
-      same_outside b (at i) s.size c sealed (begin + cap * s.size) (begin + cap * s.size + control_count cap) (omega arith) (inr u.1)
+  controls_kept = grind (arith, common_steps, bucket_inside s.size begin cap i walked, same_outside)
 
   pub part_kept : (len lo : ℕ) → lo ≤ begin → IsPart s b cap len lo begin → IsPart s c cap len lo begin
   unfolding walk
@@ -97,10 +92,7 @@ module _ (w : Width) (s : ElementSpec) (law : IsElement s) (b : List ℕ) (p i :
   keeps_at = subst (StaysValid s b c) (at_is i walked.0) keeps
 
   header_same : AgreeOn b c p (p + 3 * byte_len w)
-  header_same =
-      let u = bucket_inside s.size whole.begin (cap_at w b p) i walked.0 in
-      let below = whole.part.below in
-      same_outside b (bucket_at s.size whole.begin (cap_at w b p) i) s.size c sealed_at p (p + 3 * byte_len w) (omega arith) (inr (omega (arith, u.1)))
+  header_same = grind (arith, common_steps, bucket_inside s.size whole.begin (cap_at w b p) i walked.0, whole, same_outside, sealed_at)
 
   at_kept : (lo hi l : ℕ) → TableAt s b (decode_begin w s.size b p) (cap_at w b p) (len_at w b p) lo hi l → TableAt s c (decode_begin w s.size b p) (cap_at w b p) (len_at w b p) lo hi l
   at_kept lo hi l (inl h) = inl h

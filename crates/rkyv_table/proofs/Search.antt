@@ -33,22 +33,7 @@ control_of cap controls q pos r two c = elim (cases_lt q cap) [
 -- a stride that shows an index from `2 * cap` on shows every bucket, together with the first stride
 pub tail_shows_all : (h cap p b : ℕ) → b < cap → list_any (eqb p) (strides h cap) ≡ true → 2 * cap < p + 16
     → (q : ℕ) × (q < 2 * cap) × (q % cap ≡ b) × (((p ≤ q) × (q < p + 16)) ⊎ ((start h cap ≤ q) × (q < start h cap + 16)))
-tail_shows_all h cap p b hb hp over =
-    let pos : 0 < cap = omega arith in
-    let t = sym (has_stride h cap p pos) ∙ hp in
-    let u = and_parts (ltb p (probe_capacity cap)) (eqb (p % 16) (start h cap % 16)) t in
-    let l = ltb-true p (probe_capacity cap) u.0 in
-    let m = eqb-true (p % 16) (start h cap % 16) u.1 in
-    let s = start h cap in
-    let ls : s < cap = mod_below h cap pos in (
-      b + cap,
-      omega arith,
-      mod_more b cap hb,
-      elim (cases_lt (b + cap) p) [
-        | inl a ↦ inr (omega arith, omega arith)
-        | inr a ↦ inl (a, omega arith)
-      ],
-    )
+tail_shows_all h cap p b hb hp over = grind (arith, common_steps, mod_more b cap hb, cases_lt (b + cap) p, has_stride, and_parts, ltb-true, eqb-true, mod_below)
 
 range_head : (f : ℕ → ℕ) (P : ℕ → Bool) (n : ℕ) → 0 < n → P (f 0) ≡ true → (rest : List ℕ) × (filter P (map f (range_with_len 0 n)) ≡ f 0 ∷ rest)
 range_head f P zero h t = absurd (omega arith)
@@ -76,9 +61,7 @@ pub width_some : (kind : Kind) → IsKind kind → 0 < kind.width
 width_some kind law = rw law.power.2 (pow_pos law.power.0)
 
 pub mark_equal : (kind : Kind) → IsKind kind → (controls : List ℕ) (t p q : ℕ) → p ≤ q → get_or controls q 0 ≡ t → marked kind controls t p q ≡ true
-mark_equal kind law controls t p q le e =
-    let some = width_some kind law in
-    law.equal (take kind.width (drop (p + (q - p) / kind.width * kind.width) controls)) t ((q - p) % kind.width) (mod_below (q - p) kind.width some) (at_mark kind controls p q some le ∙ e)
+mark_equal kind law controls t p q le e = grind (arith, common_steps, width_some kind law, mod_below, at_mark)
 
 pub mark_full : (kind : Kind) → IsKind kind → (controls : List ℕ) (t p q : ℕ) → t < 128 → p ≤ q → marked kind controls t p q ≡ true → get_or controls q 0 < 128
 mark_full kind law controls t p q ht le e = grind (arith, common_steps, at_mark kind controls p q (width_some kind law) le, width_some kind law)
@@ -100,24 +83,7 @@ found_along_cons kind controls cap t accept p ps = elim (cases_Bool (ends_at kin
 pub walk_on : (cap b : ℕ) (free accept : ℕ → Bool) (kind : Kind) (controls : List ℕ) (t p : ℕ) (ps : List ℕ) → GoodStride cap b free accept kind controls t p
     → (find free (buckets_at cap p) ≡ None → find free (flat_map (buckets_at cap) ps) ≡ Some b → found_along kind controls cap t accept ps ≡ Some b)
     → find free (flat_map (buckets_at cap) (p ∷ ps)) ≡ Some b → found_along kind controls cap t accept (p ∷ ps) ≡ Some b
-walk_on cap b free accept kind controls t p ps good rest h =
-    let h' = sym (find-append free (buckets_at cap p) (flat_map (buckets_at cap) ps)) ∙ h in
-    found_along_cons kind controls cap t accept p ps ∙ (elim (cases_option (find free (buckets_at cap p))) [
-      | inl none ↦
-          let g = good.passes none in
-          let k = none_find accept (candidates kind controls cap t p) g.0 in
-          let e : ends_at kind controls cap t accept p ≡ false = or_from (list_any accept (candidates kind controls cap t p)) (stride_has_empty controls p) k g.1 in
-          let h'' = rw none at h' in
-          rw e (rest none h'')
-      | inr some ↦
-          let x = some.0 in
-          let h'' = rw some.1 at h' in
-          let same : x ≡ b = same_Some x b h'' in
-          let g = good.hits (some.1 ∙ ap Some same) in
-          let k = some_find accept (candidates kind controls cap t p) b g in
-          let e : ends_at kind controls cap t accept p ≡ true = or_left (list_any accept (candidates kind controls cap t p)) (stride_has_empty controls p) k.0 in
-          rw e g
-    ])
+walk_on cap b free accept kind controls t p ps good rest h = grind (arith, common_steps, find-append, found_along_cons, cases_option, none_find, or_from, same_Some, some_find, or_left)
 
 pub walk_all : (cap b : ℕ) (free accept : ℕ → Bool) (kind : Kind) (controls : List ℕ) (t : ℕ) (ps : List ℕ) → ((p : ℕ) → list_any (eqb p) ps ≡ true → GoodStride cap b free accept kind controls t p)
     → find free (flat_map (buckets_at cap) ps) ≡ Some b → found_along kind controls cap t accept ps ≡ Some b

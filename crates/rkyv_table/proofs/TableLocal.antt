@@ -1,5 +1,5 @@
 -- The represented items of a table depend only on the bytes on which its validity depends.
-use Rattle.std.proofs.Common.{arith, sym, ◌∙◌, ap, subst, inl, inr}
+use Rattle.std.proofs.Common.{arith, subst}
 use Rattle.std.proofs.lemmas.Int.{ints}
 use Rattle.std.proofs.lemmas.List.{length-map}
 use Rattle.std.proofs.lemmas.List.Elements.{All-get_or}
@@ -9,7 +9,7 @@ use Rattle.std.specs.Prelude.{◌≡◌, ℕ, ◌+◌, ◌*◌, ◌^◌, ◌<◌
 use Rattle.rkyv_base.specs.{AgreeOn, ElementSpec, IsElement, RepresentsLocally}
 use Rattle.rkyv_base.specs.Lemmas.Bytes.{agree_on_part}
 use Rattle.rkyv_table.proofs.WrittenStep.{home_below}
-use Rattle.rkyv_table.specs.{AreValidItems, AreWrittenControls, BucketsRepresent, TableRepresents, bucket_at, cap_at, capacity, control_count, controls_at, hashes_of, items_of, part_size, table_spec}
+use Rattle.rkyv_table.specs.{AreValidItems, AreWrittenControls, BucketsRepresent, TableRepresents, bucket_at, control_count, controls_at, hashes_of, items_of, part_size, table_spec}
 use Rattle.rkyv_table.specs.Lemmas.ItemPositions.{bucket_is_valid_within}
 use Rattle.rkyv_table.specs.Lemmas.SameHeader.{begin_same, cap_same, len_same}
 use Rattle.rkyv_table.specs.Lemmas.TableLaws.{bucket_inside}
@@ -44,23 +44,4 @@ module _ {X : Type 0} (w : Width) (s : ElementSpec) (laws : IsElement s) (repres
 
   -- the represented items depend only on the bytes on which validity depends
   pub table_local : RepresentsLocally (table_spec w s) (TableRepresents w s represents factor)
-  table_local pairs b c p lo hi l o h fixed part st = record {
-    len = sym (len_same w b c p fixed) ∙ st.len;
-    cap = sym (cap_same w b c p fixed) ∙ st.cap;
-    buckets = λ some.
-        let d = st.buckets some in (
-          d.0,
-          d.1 ∙ begin_same w b c p fixed s.size,
-          elim h [
-            | inl z ↦ absurd (omega (arith, z.0, st.len, some))
-            | inr t ↦
-                let C : ℕ = capacity (length pairs) factor in
-                let begins : t.0 ≡ d.0 = omega (arith, ints, t.1.begins, d.1) in
-                let room : 0 < cap_at w b p = (let r = t.2.controls.room in omega arith) in
-                let end : l ≡ d.0 + part_size s.size C = t.3 ∙ ap (λ k. k + part_size s.size (cap_at w b p)) begins ∙ ap (λ k. d.0 + part_size s.size k) st.cap in
-                let items : AreValidItems s b d.0 C lo t.2.last =
-                subst (λ k. AreValidItems s b d.0 k lo t.2.last) st.cap (subst (λ k. AreValidItems s b k (cap_at w b p) lo t.2.last) begins t.2.items) in
-                buckets_local pairs b c lo t.2.last d.0 C some (omega (arith, t.1.above, begins)) items (subst (AgreeOn b c lo) end part) d.2 (omega (arith, room, st.cap))
-          ],
-        );
-  }
+  table_local pairs b c p lo hi l o h fixed part st = grind (arith, len_same, cap_same, begin_same, ints, buckets_local)

@@ -1,7 +1,7 @@
 -- The facts about a valid table that its readers need.
 use Rattle.rkyv_base.specs.declared.element.HasSpec.{Ghosts as Specs}
 use Rattle.rkyv_base.specs.declared.width.Word.{Ghosts as Words}
-use Rattle.std.proofs.Common.{◌≡◌, ℕ, ◌+◌, ◌*◌, ◌%◌, ◌<◌, ◌≤◌, inl, inr, refl, sym, ap, subst, ◌∙◌, arith, List, Bool, length, slice_range, pos, ◌+ℤ◌}
+use Rattle.std.proofs.Common.{◌≡◌, ℕ, ◌+◌, ◌*◌, ◌%◌, ◌<◌, ◌≤◌, refl, sym, ap, subst, ◌∙◌, arith, List, Bool, length, slice_range, pos, ◌+ℤ◌}
 use Rattle.std.proofs.lemmas.Grind.{common_steps}
 use Rattle.std.specs.Int.{Width}
 use Rattle.std.proofs.lemmas.Int.{ints}
@@ -30,13 +30,7 @@ module _ (w : Width) (s : ElementSpec) (law : IsElement s) (b : List ℕ) (p : �
 
   -- the end and the begin of its control bytes
   pub controls_inside : 0 < cap_at w b p → (controls_pos w b p + control_count (cap_at w b p) ≤ length b) × (pos (controls_pos w b p) ≡ pos p +ℤ signed_at w b p)
-  controls_inside h =
-      let t = part_of h in
-      let begins = t.part.begins in
-      let e = decoded_pos w s.size b p t.begin begins in
-      let below = t.part.below in
-      let inside = v.inside in
-      (omega arith, omega (arith, ints, begins, e))
+  controls_inside h = grind (arith, part_of, decoded_pos, ints)
 
   -- a table with buckets has at least sixteen control bytes
   pub controls_length : 0 < cap_at w b p → length (table_controls w b p) ≡ control_count (cap_at w b p)
@@ -80,10 +74,7 @@ module _ (w : Width) (s : ElementSpec) (law : IsElement s) (b : List ℕ) (p : �
 module _ {T W : Type 0} {ts : Specs T} {wt : Words W} (law : IsElement ts.spec) (t : ArchivedHashTable T W ts wt) (controls : List ℕ)
     (are : 0 < t.header.cap → controls ≡ table_controls wt.word (table_bytes t) (table_pos t)) where
   pub read_accepted : 0 < t.header.len → AreValidControls t.header.cap t.header.len controls
-  read_accepted some =
-      let n = some_cap wt.word ts.spec law (table_bytes t) (table_pos t) t.valid (rw t.decoded.len at some) in
-      let a = controls_accepted wt.word ts.spec law (table_bytes t) (table_pos t) t.valid n in
-      rw (are (rw t.decoded.cap n), t.decoded.cap, t.decoded.len) a
+  read_accepted some = grind (arith, common_steps, some_cap wt.word ts.spec law (table_bytes t) (table_pos t) t.valid (rw t.decoded.len at some), controls_accepted)
 
   pub read_walked : (i : ℕ) → IsFullBucket t.header.cap controls i → IsFullIn t i
   read_walked i full = rw (are (omega (arith, full.0)), t.decoded.cap) at full
@@ -92,12 +83,7 @@ module _ {T W : Type 0} {ts : Specs T} {wt : Words W} (law : IsElement ts.spec) 
   -- read. Without items it doesn't depend on the first two
   read_same : {A : Type 0} (f : List ℕ → ℕ → ℕ → A) → ((c d : List ℕ) (m n : ℕ) → f c m 0 ≡ f d n 0) → f controls t.header.cap t.header.len
       ≡ f (table_controls wt.word (table_bytes t) (table_pos t)) (cap_at wt.word (table_bytes t) (table_pos t)) (len_at wt.word (table_bytes t) (table_pos t))
-  read_same f none_alike = elim (cases_eq t.header.cap 0) [
-    | inl none ↦
-        let z = no_items wt.word ts.spec law (table_bytes t) (table_pos t) t.valid (sym t.decoded.cap ∙ none) in
-        rw (t.decoded.len, z) (none_alike controls _ t.header.cap _)
-    | inr some ↦ rw (are (omega arith), t.decoded.cap, t.decoded.len) refl
-  ]
+  read_same f none_alike = grind (arith, cases_eq, no_items)
 
   pub read_found : (kind : Kind) (hash : ℕ) (accept : ℕ → Bool) → found kind controls t.header.cap t.header.len hash accept
       ≡ found kind (table_controls wt.word (table_bytes t) (table_pos t)) (cap_at wt.word (table_bytes t) (table_pos t)) (len_at wt.word (table_bytes t) (table_pos t)) hash accept

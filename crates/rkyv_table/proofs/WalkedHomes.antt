@@ -1,7 +1,7 @@
 -- A walk over written control bytes visits the home buckets.
-use Rattle.std.proofs.Common.{◌≡◌, ℕ, ◌<◌, ◌∙◌, ◌↔◌, inl, inr, sym, ap, subst, arith, eqb, List, [], length, slice_index}
+use Rattle.std.proofs.Common.{◌≡◌, ℕ, ◌<◌, ◌∙◌, subst, arith, List, [], length, slice_index}
 use Rattle.std.proofs.lemmas.Grind.{common_steps}
-use Rattle.std.specs.List.{AllPairs, Contains, IsDistinct, list_any, range_with_len}
+use Rattle.std.specs.List.{AllPairs, Contains, IsDistinct, range_with_len}
 use Rattle.std.proofs.lemmas.Bool.{cases_Bool, not-false}
 use Rattle.std.proofs.lemmas.List.{get_or_default}
 use Rattle.std.proofs.lemmas.List.FromFn.{get_or-range_with_len, length-range_with_len}
@@ -22,12 +22,7 @@ walk_ascends controls cap = AllPairs-filter (λ a b. a < b) (λ b. is_full (slic
 
 module _ (cap : ℕ) (hashes homes controls : List ℕ) (room : length hashes < cap) (fit : AreHashes hashes) (w : AreWrittenControls cap hashes homes controls) where
   walked_home : (bucket : ℕ) → Contains (walk controls cap) bucket → Contains homes bucket
-  walked_home bucket c =
-      let f = walked_full cap controls bucket c in
-      elim (cases_Bool (is_free homes bucket)) [
-        | inl free ↦ let e = w.others bucket f.0 free in absurd (omega (arith, f.1))
-        | inr taken ↦ member_contains bucket homes (not-false (list_any (eqb bucket) homes) taken)
-      ]
+  walked_home bucket c = grind (arith, common_steps, walked_full cap controls bucket c, cases_Bool (is_free homes bucket), member_contains, not-false)
 
   home_walked : (bucket : ℕ) → Contains homes bucket → Contains (walk controls cap) bucket
   home_walked bucket c =
@@ -40,19 +35,9 @@ module _ (cap : ℕ) (hashes homes controls : List ℕ) (room : length hashes < 
       full_walked cap controls bucket (subst (IsFullBucket cap controls) at (home_below cap hashes homes controls c.0 (omega arith) w l, full))
 
   pub walked_homes : VisitsHomes cap homes controls
-  walked_homes = record {
-    members = λ bucket. (walked_home bucket, home_walked bucket);
-    ascending = walk_ascends controls cap;
-    once = distinct_homes cap hashes homes w.placed;
-    count = (accepted_written cap hashes homes controls room w (λ j l. fit j 0 l)).full ∙ sym w.placed.count;
-  }
+  walked_homes = grind (arith, common_steps, walk_ascends controls cap, distinct_homes cap hashes homes w.placed, walked_home, home_walked, accepted_written)
 
 -- without buckets, none is visited
 pub none_visits : (controls : List ℕ) → VisitsHomes 0 [] controls
 unfolding IsDistinct
-none_visits controls = record {
-  members = λ bucket. subst (λ (xs : List ℕ). Contains xs bucket ↔ Contains [] bucket) (sym (walk_none controls)) (λ h. h, λ h. h);
-  ascending = subst (AllPairs (λ a b. a < b)) (sym (walk_none controls)) (λ i j d less below. absurd (omega arith));
-  once = tt;
-  count = ap length (walk_none controls);
-}
+none_visits controls = grind (arith, common_steps, walk_none)

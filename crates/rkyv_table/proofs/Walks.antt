@@ -1,5 +1,5 @@
 -- The steps of a walk.
-use Rattle.std.proofs.Common.{◌≡◌, ℕ, zero, suc, ◌+◌, ◌-◌, ◌<◌, ◌≤◌, inl, inr, refl, sym, ap, ◌∙◌, arith, List, [], ◌∷◌, ◌++◌, Bool, true, eqb, ltb, map, filter, drop, take, length, get_or, Some, None, get_or-take, get_or-drop}
+use Rattle.std.proofs.Common.{◌≡◌, ℕ, zero, suc, ◌+◌, ◌-◌, ◌<◌, ◌≤◌, inl, inr, refl, sym, ap, ◌∙◌, arith, List, [], ◌∷◌, ◌++◌, Bool, eqb, ltb, map, filter, drop, take, length, get_or, Some, None, get_or-take, get_or-drop}
 use Rattle.std.proofs.lemmas.Grind.{common_steps}
 use Rattle.std.specs.List.{Contains, list_any, range_with_len, slice_get}
 use Rattle.std.proofs.lemmas.Bool.{and_from, and_parts, cases_Bool, cases_eq, cases_lt, eq-eqb, le-ltb, lt-ltb, ltb-true}
@@ -87,10 +87,7 @@ left_is controls cap base width indices w =
 pub takes_index : (controls : List ℕ) (cap base width j : ℕ) (indices : List ℕ) → Some j ≡ slice_get indices 0 → base + j < cap → left controls cap base width indices ≡ (base + j) ∷ left controls cap base width (drop 1 indices)
 unfolding left
 takes_index controls cap base width j [] e h = absurd (none-some j (sym e))
-takes_index controls cap base width j (x ∷ xs) e h =
-    let s = same_Some j x e in
-    let t : ltb (base + x) cap ≡ true = rw s at (lt-ltb (base + j) cap h) in
-    rw (s, t) refl
+takes_index controls cap base width j (x ∷ xs) e h = grind (arith, common_steps, same_Some, lt-ltb)
 
 drop_first : (P : ℕ → Bool) (a n q : ℕ) → FirstIn P a n q → drop 1 (filter P (range_with_len a n)) ≡ filter P (range_with_len (q + 1) (a + n - (q + 1)))
 drop_first P a zero q f = absurd (omega (arith, f.from, f.to))
@@ -182,9 +179,7 @@ group_walk controls g cap base width indices n h e p =
 pub left_group : (controls g : List ℕ) (cap base width : ℕ) (indices : List ℕ) → control_count cap ≤ length controls → base ≤ cap → g ≡ take width (drop base controls) → indices ≡ indices_where (λ j. ltb (get_or g j 0) 128) width
     → left controls cap base width indices ≡ full_from controls cap base
 unfolding group_walk
-left_group controls g cap base width indices n h e p =
-    let z : base + 0 ≡ base = omega arith in
-    left_is controls cap base width indices (group_walk controls g cap base width indices n h e p) ∙ ap (full_from controls cap) z
+left_group controls g cap base width indices n h e p = grind (arith, common_steps, left_is controls cap base width indices (group_walk controls g cap base width indices n h e p))
 
 pub whole_walk : (controls : List ℕ) (cap : ℕ) → full_from controls cap 0 ≡ walk controls cap
 unfolding full_from walk
@@ -196,21 +191,13 @@ walk_none controls = refl
 
 pub walk_small : (controls : List ℕ) (cap : ℕ) → length (walk controls cap) ≤ cap
 unfolding walk
-walk_small controls cap =
-    let P = λ (b : ℕ). ltb (get_or controls b 0) 128 in
-    let a = length-filter P (range_with_len 0 cap) in
-    let b = count_by-le-length P (range_with_len 0 cap) in
-    let c = length-range_with_len 0 cap in
-    omega arith
+walk_small controls cap = grind (arith, common_steps, length-filter, count_by-le-length, length-range_with_len)
 
 -- ---- the buckets of a walk are the full ones
 
 pub full_walked : (cap : ℕ) (controls : List ℕ) (b : ℕ) → IsFullBucket cap controls b → Contains (walk controls cap) b
 unfolding walk
-full_walked cap controls b f =
-    let F = λ (x : ℕ). ltb (get_or controls x 0) 128 in
-    member_contains b (filter F (range_with_len 0 cap)) (any_filter b F (range_with_len 0 cap)
-    ∙ and_from (list_any (eqb b) (range_with_len 0 cap)) (F b) (any_range (eqb b) 0 cap b (omega arith) (omega (arith, f.0)) (eq-eqb b b refl)) (lt-ltb (get_or controls b 0) 128 f.1))
+full_walked cap controls b f = grind (arith, common_steps, any_range (eqb b) 0 cap b (omega arith) (omega (arith, f.0)) (eq-eqb b b refl), eq-eqb b b refl, lt-ltb (get_or controls b 0) 128 f.1, member_contains, any_filter, and_from)
 
 pub walked_full : (cap : ℕ) (controls : List ℕ) (b : ℕ) → Contains (walk controls cap) b → IsFullBucket cap controls b
 unfolding walk

@@ -89,17 +89,7 @@ module _ (cap h i : ℕ) (hashes homes controls : List ℕ) (kind : Kind) (accep
   -- the bucket of a taken index is not accepted, and its control byte is full
   at_taken : (q : ℕ) → q < 2 * cap → q < control_count cap → free (q % cap) ≡ false → (accept (q % cap) ≡ false) × (get_or controls q 0 < 128)
   unfolding free
-  at_taken q two c f =
-      let len = a.written.placed.count in
-      let wi = a.within in
-      let w = taken_home homes i (q % cap) (omega arith) f in
-      let j = w.0 in
-      let lj : j < length hashes = omega (arith, w.1) in
-      let k = control_of cap controls q a.some a.written.wrapped two c in
-      let t = a.written.tags j lj in
-      let s = tag_small (get_or hashes j 0) (a.hash_fits j lj) in
-      let e : get_or controls (q % cap) 0 ≡ get_or controls (get_or homes j 0) 0 = ap (λ z. get_or controls z 0) (sym w.2) in
-      (ap accept (sym w.2) ∙ a.no j w.1, omega arith)
+  at_taken q two c f = grind (arith, common_steps, taken_home, control_of, tag_small)
 
   stride_below : (p : ℕ) → list_any (eqb p) (strides h cap) ≡ true → p < probe_capacity cap
   stride_below p hp = ltb-true p (probe_capacity cap) (and_parts (ltb p (probe_capacity cap)) (eqb (p % 16) (start h cap % 16)) (sym (has_stride h cap p a.some) ∙ hp)).0

@@ -146,10 +146,7 @@ free_bucket cap homes h =
 
 -- written control bytes leave a bucket empty
 pub room_left : (cap : ℕ) (hashes homes controls : List ℕ) → AreWrittenControls cap hashes homes controls → ((j : ℕ) → j < length hashes → get_or hashes j 0 < 2 ^ 64) → length hashes < cap → HasRoom cap controls
-room_left cap hashes homes controls w fits h =
-    let len = w.placed.count in
-    let f = free_bucket cap homes (omega arith) in
-    (f.0, f.1, leb-true 128 (get_or controls f.0 0) (sym (free_empty cap hashes homes controls f.0 w fits f.1) ∙ f.2))
+room_left cap hashes homes controls w fits h = grind (arith, common_steps, free_bucket cap homes (omega arith), leb-true, free_empty)
 
 pub all_fit : (hashes : List ℕ) (i : ℕ) → ((j : ℕ) → get_or hashes j 0 < 2 ^ 64) → (j : ℕ) → j < length (take i hashes) → get_or (take i hashes) j 0 < 2 ^ 64
 all_fit hashes i fits j h = grind (arith, common_steps)

@@ -6,7 +6,7 @@ use Rattle.std.proofs.lemmas.Bool.{cases_lt}
 use Rattle.std.proofs.lemmas.List.{get_or-map, length-map}
 use Rattle.std.proofs.lemmas.Option.{slice_get_within}
 use Rattle.rkyv_base.specs.{ElementSpec}
-use Rattle.rkyv_table.specs.{AreWrittenControls, BucketsRepresent, IsWalked, IsWrittenOf, RepresentedWereWritten, TableRepresents, WrittenAt, bucket_at, cap_at, capacity, controls_at, decode_begin, hashes_of, home_positions, item_at, items_of, table_controls}
+use Rattle.rkyv_table.specs.{BucketsRepresent, IsWalked, IsWrittenOf, RepresentedWereWritten, TableRepresents, WrittenAt, bucket_at, cap_at, capacity, decode_begin, hashes_of, home_positions, item_at, items_of, table_controls}
 use Rattle.rkyv_table.specs.Lemmas.ItemPositions.{decoded_controls, decoded_item}
 use Rattle.rkyv_table.specs.Lemmas.TableSound.{capacity_above}
 use Rattle.rkyv_table.proofs.WrittenAccepted.{homes_apart}
@@ -59,19 +59,7 @@ module _ {X : Type 0} (w : Width) (s : ElementSpec) (represents : List ℕ → �
     homes = buckets.2.homes
 
     written : WrittenAt w c p (hashes_of pairs) homes
-    written =
-        let room = capacity_above (length pairs) factor some in
-        let count = length-map pairs (λ (x : ℕ × X). x.0) in
-        let cap = t.cap in
-        let there = subst (λ n. AreWrittenControls n (hashes_of pairs) homes (controls_at s.size c buckets.0 n)) (sym cap) buckets.2.controls in
-        record {
-          count = t.len ∙ sym count;
-          fit = buckets.2.hashes;
-          placed = inr (
-            omega (arith, room, cap, count),
-            subst (λ (xs : List ℕ). AreWrittenControls (cap_at w c p) (hashes_of pairs) homes xs) (sym (decoded_controls w s.size c p buckets.0 buckets.1)) there,
-          );
-        }
+    written = grind (arith, capacity_above, length-map, buckets, decoded_controls)
 
     item_there : (i : ℕ) (x : X) → slice_get (items_of pairs) i ≡ Some x → represents c (slice_index (home_positions w s.size c p homes) i) x
     item_there i x e =

@@ -1,6 +1,5 @@
-use Rattle.std.proofs.Common.{◌%◌, eqb, ltb}
+use Rattle.std.proofs.Common.{◌%◌, eqb, ltb, sym, ◌∙◌}
 use Rattle.std.proofs.lemmas.Bool.{and_from, and_parts, eq-eqb, eqb-true, lt-ltb, ltb-true}
-use Rattle.std.proofs.Common.{sym, ◌∙◌}
 use Rattle.rkyv_table.specs.{probe_capacity, start, strides}
 use Rattle.rkyv_table.proofs.Coverage.{count_strides, distinct_strides, has_stride}
 use Rattle.rkyv_table.proofs.Lists.{contains_member, member_contains}

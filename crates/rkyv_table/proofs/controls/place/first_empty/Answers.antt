@@ -1,6 +1,5 @@
-use Rattle.std.proofs.Common.{arith, ◌≡◌, ◌+◌, ◌*◌, ◌<◌, ◌≤◌, ◌/◌, sym, ap, ◌∙◌, None}
+use Rattle.std.proofs.Common.{arith, ◌+◌, ◌*◌, ◌<◌, ◌≤◌, ◌/◌, sym, ◌∙◌, None, rules}
 use Rattle.std.proofs.lemmas.Grind.{common_steps}
-use Rattle.std.specs.List.{find, range_with_len}
 use Rattle.rkyv_table.specs.{is_empty_at}
 use Rattle.rkyv_table.proofs.Groups.{group_fits, groups_end, indices_are, width_divides}
 use Rattle.rkyv_table.proofs.FirstFree.{empty_index_is, index_inside, more_indices, whole_stride}
@@ -32,10 +31,4 @@ loop-i-preserved g c =
     more_indices c.args.controls.now (g.G.GroupKind.controls c.read.result) c.args.pos i g.G.GroupKind.kind.width None s c.loop-i.invariant v'
 
 pub returns : goal.returns
-returns g c =
-    let law = g.met.G.GroupKind.lawful in
-    let up = rw (c.WIDTH-i-end.ensures, g.met.G.GroupKind.width) at c.loop-i.auto.i-end in
-    let down = rw (c.WIDTH-i-end.ensures, g.met.G.GroupKind.width) at c.loop-i-test.false in
-    let n : c.loop-i.i * g.G.GroupKind.kind.width ≡ 16 = groups_end c.loop-i.i g.G.GroupKind.kind.width (width_divides g.G.GroupKind.kind law) up down in
-    let e : find (is_empty_at c.args.controls.now) (range_with_len c.args.pos (c.loop-i.i * g.G.GroupKind.kind.width)) ≡ None = c.loop-i.invariant in
-    sym (empty_index_is c.args.controls.now c.args.pos ∙ ap (λ z. find (is_empty_at c.args.controls.now) (range_with_len c.args.pos z)) (sym n) ∙ e)
+returns g c = search (rules, groups_end, width_divides, empty_index_is)

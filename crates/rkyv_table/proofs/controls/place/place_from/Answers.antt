@@ -1,4 +1,5 @@
-use Rattle.std.proofs.Common.{arith, ◌≡◌, ◌*◌, ◌%◌, ◌<◌, get_or, length, inr, sym, ap, ◌∙◌, Some}
+use Rattle.std.proofs.lemmas.Grind.{common_steps}
+use Rattle.std.proofs.Common.{arith, ◌≡◌, ◌*◌, ◌%◌, ◌<◌, get_or, inr, sym, ap, ◌∙◌, Some}
 use Rattle.std.specs.List.{find}
 use Rattle.std.proofs.lemmas.Bool.{le-leb}
 use Rattle.rkyv_table.specs.{is_empty_at, probed}
@@ -30,12 +31,7 @@ found_here g c =
     (s.0, first_at h cap' c.in-Some.pos (c.in-Some-first_empty.index % cap') (is_empty_at controls) after before more s.1 same)
 
 pub first_empty-requires : goal.first_empty-requires
-first_empty-requires g c =
-    let inv = c.loop-pos.invariant in
-    let lp = stride_below c.args.hash c.args.cap c.in-Some.pos (omega (arith, c.requires.room.1)) (inv.members c.in-Some.pos (member_front c.in-Some.pos c.next.new.self c.loop-pos.pos-iterator c.in-Some.ensures.steps)) in
-    let count = c.requires.wrapped.count in
-    let l = ap length inv.kept in
-    omega arith
+first_empty-requires g c = grind (arith, common_steps, member_front c.in-Some.pos c.next.new.self c.loop-pos.pos-iterator c.in-Some.ensures.steps, stride_below)
 
 pub bucket_of-bucket-requires : goal.bucket_of-bucket-requires
 bucket_of-bucket-requires g c = record { below = (found_here g c).0 }

@@ -1,4 +1,4 @@
-use Rattle.std.proofs.Common.{ap, ◌∙◌, Some, None}
+use Rattle.std.proofs.Common.{None, arith}
 use Rattle.rkyv_table.proofs.SealedLookup.{item_seal, read_there, seals_first, seals_found}
 use Rattle.rkyv_table.proofs.table.ArchivedHashTable.get_seal_with.Goals as goal
 
@@ -8,19 +8,13 @@ returns-clause-walked g c =
     item_seal g.T.HasSpec.laws c.args.this c.of.result read c.requires.table c.in_ok-pos.pos c.seal_at.result c.in_ok-pos.ensures.walked c.seal_at.ensures.at
 
 pub returns-clause-finds : goal.returns-clause-finds
-returns-clause-finds g c =
-    let read = read_there c.args.this c.of.result c.as_view.result c.of.ensures.view c.as_view.ensures.bytes c.as_view.ensures.pos in
-    λ accept compares. ap Some c.seal_at.ensures.at.pos ∙ seals_found g.T.HasSpec.laws c.args.this c.of.result read c.requires.table _ c.args.hash (Some c.in_ok-pos.pos) c.in_ok-pos.ensures.finds accept compares
+returns-clause-finds g c = grind (arith, read_there, seals_found)
 
 pub returns-clause-first : goal.returns-clause-first
-returns-clause-first g c =
-    let read = read_there c.args.this c.of.result c.as_view.result c.of.ensures.view c.as_view.ensures.bytes c.as_view.ensures.pos in
-    λ hashes homes accept written compares under. ap Some c.seal_at.ensures.at.pos ∙ seals_first g.T.HasSpec.laws c.args.this c.of.result read c.requires.table _ c.args.hash (Some c.in_ok-pos.pos) c.in_ok-pos.ensures.first hashes homes accept written compares under
+returns-clause-first g c = grind (arith, read_there, seals_first)
 
 pub returns-in_err-pos-clause-finds : goal.returns-in_err-pos-clause-finds
-returns-in_err-pos-clause-finds g c =
-    let read = read_there c.args.this c.of.result c.as_view.result c.of.ensures.view c.as_view.ensures.bytes c.as_view.ensures.pos in
-    rw c.from_residual.ensures (seals_found g.T.HasSpec.laws c.args.this c.of.result read c.requires.table _ c.args.hash None c.in_err-pos.ensures.finds)
+returns-in_err-pos-clause-finds g c = grind (arith, read_there, seals_found)
 
 pub returns-in_err-pos-clause-first : goal.returns-in_err-pos-clause-first
 returns-in_err-pos-clause-first g c =

@@ -12,10 +12,7 @@ overflow_mul-pos g c =
     record { fits = rw c.size.ensures (omega (arith, before, h.controls_pos some)) }
 
 pub overflow_sub-pos : goal.overflow_sub-pos
-overflow_sub-pos g c =
-    let t = c.args.self.view in
-    let h = c.args.self.decoded in
-    rw (c.size.ensures, h.controls_pos (omega (arith, h.cap, c.requires.0))) (item_before g.W.Word.word g.T.HasSpec.spec g.T.HasSpec.laws t.archive.now t.pos c.args.self.valid c.args.bucket c.requires.0)
+overflow_sub-pos g c = grind (arith, item_before)
 
 pub new-requires : goal.new-requires
 new-requires g c =

@@ -1,4 +1,4 @@
-use Rattle.std.proofs.Common.{◌≡◌, ◌∙◌, ◌+◌, ◌<◌, ◌^◌, ◌⊎◌, arith, sym, ap, subst, zero-add, length, filter}
+use Rattle.std.proofs.Common.{◌≡◌, ◌∙◌, ◌+◌, ◌<◌, ◌^◌, ◌⊎◌, arith, sym, ap, subst, zero-add, length, filter, rules}
 use Rattle.std.specs.List.{All, sum_by}
 use Rattle.rkyv_scan.specs.{generic_kind}
 use Rattle.rkyv_table.specs.{IsWalked, bucket_misplaced, bucket_strides, cap_at, table_bytes, table_controls, table_pos, table_strides, walk}
@@ -48,9 +48,7 @@ returns-then-is_past-clause-counts g c = λ hash_of same hash_as same_as.
     (past_all c.count-before.result _ _ strides (sum_by (bucket_strides generic_kind c.args.self hash_of same) c.next.new.self) all (rw c.count.ensures at c.is_past.ensures.past c.if-is_past.true))
 
 pub returns-then-is_past-clause-counted : goal.returns-then-is_past-clause-counted
-returns-then-is_past-clause-counted g c = λ hash_of same hash_as same_as.
-    let all = spent g (goal.at.returns-then-is_past-clause-counted g c).After-is_misplaced-is_misplaced hash_of same hash_as same_as in
-    omega (arith, all, c.count-before.ensures)
+returns-then-is_past-clause-counted g c = search (rules, spent)
 
 pub returns-then-is_past-clause-bounded : goal.returns-then-is_past-clause-bounded
 returns-then-is_past-clause-bounded g c =

@@ -1,4 +1,4 @@
-use Rattle.std.proofs.Common.{◌≡◌, ◌+◌, ◌*◌, ◌<◌, ◌∙◌, ℕ, List, ap, arith, length, map, sym}
+use Rattle.std.proofs.Common.{◌≡◌, ◌+◌, ◌*◌, ◌∙◌, ℕ, List, ap, arith, length, map, sym}
 use Rattle.std.proofs.lemmas.List.Elements.{All-same}
 use Rattle.rkyv_scan.specs.{mask_indices}
 use Rattle.rkyv_base.specs.{Viewable}
@@ -33,15 +33,7 @@ module _ (g : _) (c : After-first_marks g) where
       t.decoded.len ∙ sym (walk_count g.W.Word.word g.T.HasSpec.spec g.T.HasSpec.laws (table_bytes c.args.self) (table_pos c.args.self) t.valid)
 
   left : buckets_left c.args.self.header.len c.controls-controls.result.now 0 (mask_indices 8 7 8 c.first_marks.result.bits) ≡ walked
-  left =
-      let w = g.W.Word.word in
-      let t = c.args.self in
-      let b : List ℕ = table_bytes t in
-      let p : ℕ = table_pos t in
-      let cap = λ (some : 0 < t.header.len). some_capacity (table_controls w b p) (cap_at w b p) t.header.len count some in
-      let same = λ (some : 0 < t.header.len). c.controls-controls.ensures (rw t.decoded.cap (cap some)) in
-      start_left c.controls-controls.result.now (table_controls w b p) (cap_at w b p) t.header.len (mask_indices 8 7 8 c.first_marks.result.bits) count same
-      (λ some. rw (same some) (let long = (controls_accepted w g.T.HasSpec.spec g.T.HasSpec.laws b p t.valid (cap some)).wrapped.count in omega (arith, long))) c.first_marks.ensures
+  left = grind (arith, some_capacity, count, start_left, controls_accepted)
 
 pub invariant_of-result : goal.invariant_of-result
 invariant_of-result g c =

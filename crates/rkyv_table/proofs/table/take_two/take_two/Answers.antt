@@ -1,3 +1,4 @@
+use Rattle.std.proofs.lemmas.Grind.{common_steps}
 use Rattle.std.proofs.Common.{arith, ◌≡◌, ◌+◌, ◌++◌, ◌∷◌, [], ℕ, List, length, refl, ap, ◌∙◌, inl, inr, length-append, Option, Some}
 use Rattle.std.specs.Iterator.{Yields}
 use Rattle.std.proofs.lemmas.List.{length-map, length_push, map-append}
@@ -30,16 +31,10 @@ loop-count-preserved g c =
 -- the number that is counted on after some items
 counted_after : {S A : Type 0} (steps : S → Option A → S → Type 0) (len n : ℕ) (s t u : S) (xs : List A) (x : A) → Yields steps s xs t → steps t (Some x) u
     → CountedOn steps len u (length xs + 1) n → Counted steps len s n
-counted_after steps len n s t u xs x y e (ys, m, inl d) = (
-  (xs ++ x ∷ []) ++ ys,
-  (let a = length-append (xs ++ x ∷ []) ys in let b = length_push xs x in omega arith),
-  inl (d.0, (d.1.0, (d.1.1.0, yields_join steps s u d.1.1.0 (xs ++ x ∷ []) ys (yields_more steps s t u xs x y e) d.1.1.1, d.1.1.2))),
-)
-counted_after steps len n s t u xs x y e (ys, m, inr d) = (
-  (xs ++ x ∷ []) ++ ys,
-  (let a = length-append (xs ++ x ∷ []) ys in let b = length_push xs x in omega arith),
-  inr (d.0, (d.1.0, yields_join steps s u d.1.0 (xs ++ x ∷ []) ys (yields_more steps s t u xs x y e) d.1.1)),
-)
+counted_after steps len n s t u xs x y e (ys, m, inl d) =
+    grind (arith, common_steps, length-append (xs ++ x ∷ []) ys, length_push xs x, yields_join steps s u d.1.1.0 (xs ++ x ∷ []) ys (yields_more steps s t u xs x y e) d.1.1.1, yields_more steps s t u xs x y e)
+counted_after steps len n s t u xs x y e (ys, m, inr d) =
+    grind (arith, common_steps, length-append (xs ++ x ∷ []) ys, length_push xs x, yields_join steps s u d.1.0 (xs ++ x ∷ []) ys (yields_more steps s t u xs x y e) d.1.1, yields_more steps s t u xs x y e)
 
 items_count : {A : Type 0} (xs : List (ℕ × A)) → length (items_of xs) ≡ length xs
 items_count {A = A} xs = length-map xs (λ (y : ℕ × A). y.1)

@@ -71,24 +71,7 @@ overflow_add-count-then-controls-bucket-lt128 g c =
     record { fits = omega arith }
 
 pub loop-bucket-preserved : goal.loop-bucket-preserved
-loop-bucket-preserved g c =
-    let s = g.T.HasSpec.spec in
-    let i = c.loop-bucket.bucket in
-    let rest : List ℕ = full_from c.args.controls.now c.args.cap (i + 1) in
-    record {
-      below = c.loop-bucket.invariant.below;
-      checked = elim c.if-controls-bucket-lt128.branch [
-        | then-controls-bucket-lt128+in_ok-low-2 w ↦
-            let here = checked_same s c.args.begin c.args.cap c.args.bytes.now c.args.controls.now c.args.lo _ _ c.loop-bucket.low c.loop-bucket.count
-            (full_taken c.args.controls.now c.args.cap i c.loop-bucket-test.true w.if-controls-bucket-lt128.true) c.loop-bucket.invariant.checked in
-            let step = checked_step s c.args.begin c.args.cap c.args.bytes.now c.args.controls.now c.args.lo i rest c.loop-bucket.low c.loop-bucket.count w.in_ok-low-2.low here w.in_ok-low-2.ensures.1 w.in_ok-low-2.ensures.2 in
-            rw (w.low-is, w.count-is) step
-        | else-controls-bucket-lt128 w ↦
-            let here = checked_same s c.args.begin c.args.cap c.args.bytes.now c.args.controls.now c.args.lo _ _ c.loop-bucket.low c.loop-bucket.count
-            (full_skipped c.args.controls.now c.args.cap i c.loop-bucket-test.true w.if-controls-bucket-lt128.false) c.loop-bucket.invariant.checked in
-            rw (w.low-is, w.count-is) here
-      ];
-    }
+loop-bucket-preserved g c = grind (arith, common_steps, here, checked_same, full_taken, checked_step, full_skipped)
 
 pub returns-clause-valid : goal.returns-clause-valid
 returns-clause-valid g c = grind (arith, common_steps, full_end, checked_end, checked_same)

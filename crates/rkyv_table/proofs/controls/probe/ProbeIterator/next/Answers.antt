@@ -1,4 +1,4 @@
-use Rattle.std.proofs.Common.{◌≡◌, ◌∙◌, ℕ, ◌+◌, ◌*◌, ◌-◌, ◌∷◌, ◌<◌, ap, sym, arith, bit_and}
+use Rattle.std.proofs.Common.{◌≡◌, ◌∙◌, ℕ, ◌+◌, ◌*◌, ◌-◌, ◌∷◌, ◌<◌, ap, sym, arith, bit_and, rules}
 use Rattle.std.proofs.lemmas.Grind.{common_steps}
 use Rattle.rkyv_table.specs.{modulus, probe_capacity, strides_from}
 use Rattle.rkyv_table.proofs.ProbeSteps.{ends, first_taken, masked_below, modulus_small, offset_below, probe_index_is, skips, stepped, takes}
@@ -32,10 +32,7 @@ pub overflow_add-pos : goal.overflow_add-pos
 overflow_add-pos c = grind (arith, common_steps, modulus_is, masked_below, modulus_small)
 
 pub invariant_of-self-then-pos-limit : goal.invariant_of-self-then-pos-limit
-invariant_of-self-then-pos-limit c =
-    let p = c.loop-self.self-inside in
-    let inv = c.loop-self.invariant in
-    rw (modulus_is (goal.at.invariant_of-self-then-pos-limit c).In-loop-self) (stepped p.cap p.start p.offset p.index inv.begun inv.is)
+invariant_of-self-then-pos-limit c = search (rules, modulus_is, stepped)
 
 pub returns-then-pos-limit-clause-steps : goal.returns-then-pos-limit-clause-steps
 returns-then-pos-limit-clause-steps c = step (goal.at.returns-then-pos-limit-clause-steps c).In-loop-self c.if-pos-limit.true

@@ -6,13 +6,7 @@ use Rattle.rkyv_table.proofs.Walks.{ends_full, ends_last, ends_past, group_walk,
 use Rattle.rkyv_table.proofs.controls.walk.WalkIterator.next.Goals as goal
 
 pub overflow_add-bucket : goal.overflow_add-bucket
-overflow_add-bucket g c =
-    let s = c.loop-self.self-inside in
-    let w = width_small g.G.GroupKind.kind g.met.G.GroupKind.lawful in
-    let l = head_inside s.controls.now s.cap s.base g.G.GroupKind.kind.width c.in-Some.j (g.G.Mask.Marks.indices s.marks) c.loop-self.invariant.is c.in-Some.ensures in
-    let count = c.loop-self.invariant.is.count in
-    let t = c.loop-self-test.true in
-    record { fits = omega arith }
+overflow_add-bucket g c = grind (arith, common_steps, width_small g.G.GroupKind.kind g.met.G.GroupKind.lawful, head_inside)
 
 pub returns-then-bucket-self-clause-steps : goal.returns-then-bucket-self-clause-steps
 returns-then-bucket-self-clause-steps g c = grind (arith, common_steps, ends_past, walk_from)

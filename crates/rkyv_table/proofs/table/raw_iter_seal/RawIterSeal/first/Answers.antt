@@ -1,4 +1,4 @@
-use Rattle.std.proofs.Common.{◌≡◌, ℕ, ◌+◌, ◌-◌, ◌*◌, ◌<◌, ◌∙◌, arith, sym, ap, subst, slice_index, slice_range, List, ◌∷◌, length}
+use Rattle.std.proofs.Common.{◌≡◌, ℕ, ◌+◌, ◌-◌, ◌*◌, ◌<◌, ◌∙◌, arith, sym, ap, subst, slice_index, slice_range, List, ◌∷◌}
 use Rattle.rkyv_table.specs.{full_from}
 use Rattle.rkyv_table.proofs.SealedItems.{bucket_before, first_item, full_same, part_there}
 use Rattle.rkyv_table.proofs.table.raw_iter_seal.RawIterSeal.first.Goals as goal
@@ -12,12 +12,7 @@ returns-in_err-bucket-clause-first g c = λ w p is.
     ∙ ap (λ xs. full_from xs r.cap r.next) (sym c.in_ok-controls.ensures.1) ∙ c.in_err-bucket.ensures)
 
 pub returns-in_err-controls-clause-first : goal.returns-in_err-controls-clause-first
-returns-in_err-controls-clause-first g c = λ w p is.
-    let r = c.args.self.now in
-    let some : 0 < r.left = omega (arith, c.if-self-eq0.false) in
-    let k = part_there w g.T.HasSpec.spec g.T.HasSpec.laws p r is some in
-    let e : length r.archive.now < r.buckets_end + r.cap = c.in_err-controls.ensures in
-    absurd (omega arith)
+returns-in_err-controls-clause-first g c = grind (arith, part_there)
 
 pub returns-clause-first : goal.returns-clause-first
 returns-clause-first g c = λ w p is.
@@ -35,10 +30,4 @@ returns-clause-first g c = λ w p is.
     )
 
 pub returns-in_err-at-clause-first : goal.returns-in_err-at-clause-first
-returns-in_err-at-clause-first g c = λ w p is.
-    let r = c.args.self.now in
-    let i = c.in_ok-bucket.bucket in
-    let some : 0 < r.left = omega (arith, c.if-self-eq0.false) in
-    let k = bucket_before w g.T.HasSpec.spec g.T.HasSpec.laws p r is some i c.in_ok-bucket.ensures.0 in
-    let e : r.buckets_end < (i + 1) * g.T.HasSpec.spec.size = rw (sym c.size.ensures) c.in_err-at.ensures in
-    absurd (omega arith)
+returns-in_err-at-clause-first g c = grind (arith, bucket_before)
