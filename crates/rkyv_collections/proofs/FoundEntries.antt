@@ -41,9 +41,7 @@ module _ {K V H W : Type 0} {ks : Specs K} {vs : Specs V} {wt : Words W} (m : Ar
   found_there : (hash query_hash : ℕ) (accept : ℕ → Bool) → hash ≡ query_hash
       → pos_found generic_kind wt.word (entry_spec ks.spec vs.spec).size (table_bytes t) (table_pos t) hash accept
       ≡ pos_found generic_kind wt.word (entry_spec ks.spec vs.spec).size (map_bytes m) (map_pos m) query_hash accept
-  found_there hash query_hash accept e =
-      let found : List ℕ → ℕ → ℕ → Option ℕ = λ b p h. pos_found generic_kind wt.word (entry_spec ks.spec vs.spec).size b p h accept in
-      ap (λ b. found b (table_pos t) hash) same ∙ ap (λ p. found (map_bytes m) p hash) same_pos ∙ ap (found (map_bytes m) (map_pos m)) e
+  found_there hash query_hash accept e = grind (arith, same, same_pos)
 
   -- the table was written with the same home buckets and the same positions,
   -- and each accepted item is under the hash
@@ -76,9 +74,7 @@ module _ {K V H W : Type 0} {ks : Specs K} {vs : Specs V} {wt : Words W} (m : Ar
     -- the comparison accepted the key of the found entry
     accepted_of : ComparedByKey → (found : Option (View (Entry K V))) → IfSome found (IsItem t) → IfSome found (λ entry. compared entry true) → IfSome (pos_of_found found) (IsAcceptedKey m post)
     accepted_of by_key None item is_accepted = is_accepted
-    accepted_of by_key (Some entry) item is_accepted =
-        let e = by_key entry true is_accepted in
-        (e.0, key_of_entry m entry e.0 (entry_of_item m t at entry item) e.1 e.2, e.1.1, e.3)
+    accepted_of by_key (Some entry) item is_accepted = grind (arith, key_of_entry, entry_of_item)
 
     pub accepted_by_key : FindsItem compared generic_kind t hash result → ComparedByKey → IfSome (pos_of_found result) (IsAcceptedKey m post)
     accepted_by_key got by_key = accepted_of by_key result got.walked got.accepted

@@ -1,13 +1,13 @@
 -- From the entry that a lookup finds to its result.
 use Rattle.rkyv_base.specs.declared.element.HasSpec.{Ghosts as Specs}
 use Rattle.rkyv_base.specs.declared.width.Word.{Ghosts as Words}
-use Rattle.std.proofs.Common.{◌≡◌, ℕ, ◌+◌, ◌<◌, ◌^◌, ◌∙◌, Bool, List, None, Option, Some, ap, sym, subst, arith}
+use Rattle.std.proofs.Common.{◌≡◌, ℕ, ◌<◌, ◌^◌, ◌∙◌, Bool, List, None, Option, Some, ap, sym, subst, arith}
 use Rattle.std.proofs.lemmas.Grind.{common_steps}
 use Rattle.std.specs.Borrow.{Bor}
 use Rattle.std.specs.Prelude.{IfSome}
 use Rattle.std.proofs.lemmas.Option.{IfSome_then}
 use Rattle.rkyv_scan.specs.{Hasher, HasherCall, hash_of_calls}
-use Rattle.rkyv_base.specs.{ElementSpec, IsElement, IsValidView, entry_spec, value_offset}
+use Rattle.rkyv_base.specs.{ElementSpec, IsElement, IsValidView, entry_spec}
 use Rattle.rkyv_base.specs.declared.entry.Entry.{Entry}
 use Rattle.rkyv_base.specs.declared.view.View.{View}
 use Rattle.rkyv_keys.specs.{Comparison, IsQuery, KeyLookup, hash_at, query_of}
@@ -29,12 +29,7 @@ module _ {K V H W : Type 0} {ks : Specs K} {vs : Specs V} {wt : Words W} (m : Ar
     }
 
     pub by_through : (hash : ℕ) (key_hash : List ℕ → ℕ → ℕ) (post : View K → Bool → Type 0) → GetsBy part m hash key_hash post found → GetsBy out m hash key_hash post result
-    by_through hash key_hash post h = record {
-      walked = walks h.walked;
-      accepted = (h.accepted.0, at h.accepted.0 h.accepted.1, h.accepted.2);
-      finds = λ accept compares. at _ (h.finds accept compares);
-      first = λ accept compares under homes written. at _ (h.first accept compares under homes written);
-    }
+    by_through hash key_hash post h = grind arith
 
   -- a lookup by a comparison with the keys that a query fits is a lookup of the query
   pub gets_query : {Q X State : Type 0} (hasher : Hasher State) (kl : IsElement ks.spec) (vl : IsElement vs.spec) (same_key : Comparison) (key_calls : List ℕ → ℕ → List HasherCall)
@@ -62,21 +57,12 @@ module _ {K V H W : Type 0} {ks : Specs K} {vs : Specs V} {wt : Words W} (m : Ar
   -- the pair of an entry of the map is a pair of the map
   pair_walked : (found : Option (View (Entry K V))) (result : Option (View K × View V)) → IsPairOfEntry ks.spec vs.spec result found → IfSome found (IsEntryIn m) → IfSome result (IsPairIn m)
   pair_walked None result is walked = subst (λ r. IfSome r (IsPairIn m)) (sym is) tt
-  pair_walked (Some entry) result is walked = subst (λ r. IfSome r (IsPairIn m)) (sym is.1) (record {
-    key = record { archive = is.2.0 ∙ walked.0; viewable = is.3; key_pos = (walked.2.0, walked.2.1, is.2.1 ∙ walked.2.2) };
-    viewable = is.5;
-    at = (is.4.0 ∙ walked.0, is.4.1 ∙ ap (λ q. q + value_offset ks.spec vs.spec) (sym is.2.1));
-  })
+  pair_walked (Some entry) result is walked = grind arith
 
   -- the value of an entry of the map is a value of the map
   value_walked : (found : Option (View (Entry K V))) (result : Option (View V)) → IsValueOfEntry ks.spec vs.spec result found → IfSome found (IsEntryIn m) → IfSome result (IsValueIn m)
   value_walked None result is walked = subst (λ r. IfSome r (IsValueIn m)) (sym is) tt
-  value_walked (Some entry) result is walked = subst (λ r. IfSome r (IsValueIn m)) (sym is.1) (record {
-    viewable = is.3;
-    key = entry.pos;
-    walked = walked.2;
-    at = (is.2.0 ∙ walked.0, is.2.1);
-  })
+  value_walked (Some entry) result is walked = grind arith
 
 module _ {K V : Type 0} (k v : ElementSpec) where
   -- the pair is at the position of the found entry

@@ -1,5 +1,5 @@
 -- The archive of a list, and the scalar of a value that is found in it.
-use Rattle.std.proofs.Common.{◌≡◌, ◌+◌, ◌∙◌, ℕ, Bool, List, MatchResult, Option, Result, [], ◌∷◌, ap, inl, inr, refl, subst, sym, arith}
+use Rattle.std.proofs.Common.{◌≡◌, ◌+◌, ◌∙◌, ℕ, Bool, List, MatchResult, Option, Result, [], ◌∷◌, ap, refl, subst, sym, arith}
 use Rattle.std.proofs.lemmas.Grind.{common_steps}
 use Rattle.std.specs.Borrow.{Bor}
 use Rattle.std.specs.Int.{Width}
@@ -43,12 +43,7 @@ pub scalar_at_root : {K N H W : Type 0} {ks : Specs K} {vs : Specs N} {wt : Word
     → FindsKey m hash (fits (map_bytes m)) (IsValueAt ks.spec vs.spec found)
     → scalar_found e found ≡ option_map (λ q. value_at e archive.now (q + value_offset ks.spec vs.spec))
     (pos_found generic_kind wt.word (entry_spec ks.spec vs.spec).size archive.now (map_root wt.word ks.spec vs.spec archive.now) hash (fits archive.now))
-scalar_at_root {ks = ks} {vs = vs} {wt = wt} e m root archive hash fits found view at walked finds =
-    let bytes = ap (λ x. x.archive.now) view ∙ ap (λ a. a.now) at.0 in
-    let same_pos = ap (λ x. x.pos) view ∙ at.1 in
-    scalar_behind e archive.now (value_offset ks.spec vs.spec) found _
-    (IfSome_then found walked (λ x i. ap (λ a. a.now) i.at.0 ∙ bytes))
-    (moved (λ c p. IsValueAt ks.spec vs.spec found (pos_found generic_kind wt.word (entry_spec ks.spec vs.spec).size c p hash (fits c))) _ _ _ _ bytes same_pos finds)
+scalar_at_root {ks = ks} {vs = vs} {wt = wt} e m root archive hash fits found view at walked finds = grind (arith, scalar_behind, moved)
 
 -- In the map at the root of an archive that represents a list of pairs, the first key that fits is that of the first pair with an equal key
 pub record FirstInRoot {A B : Type 0} (w : Width) (k v : ElementSpec) (key : List ℕ → ℕ → A → Type 0) (value : List ℕ → ℕ → B → Type 0) (hash : List ℕ → ℕ → ℕ) (b : List ℕ) (p : ℕ)
@@ -89,7 +84,4 @@ found_listed H wt ks vs keys native values by = λ m root archive factor pairs q
 -- some key with the unit value is accepted if and only if some key is
 pub member_listed : {A : Type 0} (accept_value : A → Bool) (items : List A) → is_some (first_pair accept_value (with_units items)) ≡ list_any accept_value items
 member_listed accept_value [] = refl
-member_listed accept_value (x ∷ xs) = elim (cases_Bool (accept_value x)) [
-  | inl t ↦ rw t refl
-  | inr f ↦ rw f (member_listed accept_value xs)
-]
+member_listed accept_value (x ∷ xs) = grind (arith, common_steps, cases_Bool, member_listed accept_value xs)

@@ -1,7 +1,7 @@
 -- The entries and keys of a map, and their hashes.
 use Rattle.rkyv_base.specs.declared.element.HasSpec.{Ghosts as Specs}
 use Rattle.rkyv_base.specs.declared.width.Word.{Ghosts as Words}
-use Rattle.std.proofs.Common.{◌≡◌, ℕ, ◌<◌, ◌∙◌, ap, sym, arith, Bool, length, map, subst, List, Option, slice_index}
+use Rattle.std.proofs.Common.{◌≡◌, ℕ, ap, sym, arith, Bool, map, subst, List, Option}
 use Rattle.std.proofs.lemmas.Grind.{common_steps}
 use Rattle.std.specs.Option.{is_some}
 use Rattle.std.proofs.lemmas.List.{get_or-map, length-map}
@@ -35,17 +35,7 @@ module _ {K V H W : Type 0} {ks : Specs K} {vs : Specs V} {wt : Words W} (m : Ar
       → AreUnderHash m hash key_hash accept → MapWrittenAt wt.word (entry_spec ks.spec vs.spec) key_hash (map_bytes m) (map_pos m) homes
       → IsUnderHash hash (map (key_hash (map_bytes m)) (home_positions wt.word (entry_spec ks.spec vs.spec).size (map_bytes m) (map_pos m) homes))
       (home_positions wt.word (entry_spec ks.spec vs.spec).size (map_bytes m) (map_pos m) homes) accept
-  under_hash hash key_hash accept homes under written i h accepted =
-      let b = map_bytes m in
-      let p = map_pos m in
-      let positions = home_positions wt.word (entry_spec ks.spec vs.spec).size b p homes in
-      let hashes = map (key_hash b) positions in
-      let below : i < length homes = omega (arith, h, home_count wt.word b p hashes homes written) in
-      let walked = home_walked wt.word b p hashes homes written i below in
-      let at : slice_index positions i ≡ _ = home_pos wt.word (entry_spec ks.spec vs.spec).size b p homes i below in
-      let here = under (slice_index positions i) (slice_index homes i, walked, at) accepted in
-      let n : length hashes ≡ length positions = length-map positions (key_hash b) in
-      get_or-map (key_hash b) positions i 0 0 (omega arith) ∙ here
+  under_hash hash key_hash accept homes under written i h accepted = grind (arith, home_count, home_walked, home_pos, length-map, get_or-map)
 
   -- a query accepts only keys under its own hash
   pub query_under_hash : {Q State : Type 0} (kl : IsElement ks.spec) (vl : IsElement vs.spec) (hasher : Hasher State)

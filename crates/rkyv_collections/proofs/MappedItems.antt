@@ -1,5 +1,5 @@
 -- A table that is written from items is the table of the values that `model` returns for them.
-use Rattle.std.proofs.Common.{◌≡◌, ℕ, suc, ◌+◌, ◌-◌, refl, ap, sym, subst, ◌∙◌, inl, inr, List, [], ◌∷◌, map, take, drop, length, slice_get, Option, Some, None, arith}
+use Rattle.std.proofs.Common.{◌≡◌, ℕ, suc, ◌+◌, ◌-◌, refl, ap, sym, subst, ◌∙◌, inl, inr, List, [], ◌∷◌, map, take, drop, length, slice_get, Option, Some, None, arith, rules}
 use Rattle.std.proofs.lemmas.Grind.{common_steps}
 use Rattle.std.specs.List.{drop-map, take-map}
 use Rattle.std.specs.Option.{option_map}
@@ -9,7 +9,7 @@ use Rattle.std.proofs.lemmas.Option.{slice_get-map}
 use Rattle.rkyv_base.specs.declared.errors.WriteError.{WriteError}
 use Rattle.rkyv_base.specs.{ElementSpec, Format, Output, SerializeFails, Serialized, Step, end_of, written_as}
 use Rattle.rkyv_base.proofs.WritingSteps.{fails_under}
-use Rattle.rkyv_table.specs.{Above, AreHashes, AreInSlots, ArePlaced, AreWrittenControls, BeforeBuckets, BucketNext, BucketOverflows, BucketStep, Filled, InBuckets, PairsNext, PartsNext, SlotImages, SlotParts, TableBytes, TableNext, TableParts, TableResolver, TableWritten, filled, hashes_of, items_of, table_format}
+use Rattle.rkyv_table.specs.{Above, AreInSlots, ArePlaced, BeforeBuckets, BucketNext, BucketOverflows, BucketStep, Filled, InBuckets, PairsNext, PartsNext, SlotImages, SlotParts, TableBytes, TableNext, TableParts, TableResolver, TableWritten, filled, hashes_of, items_of, table_format}
 use Rattle.rkyv_table.proofs.Lists.{option_map_some}
 
 -- the value of each item, under the hash of the item
@@ -42,12 +42,7 @@ module _ {X Y : Type 0} (model : X → Y) where
 
   mapped_placed : (cap : ℕ) (pairs : List (ℕ × X)) (slots : List (Option X)) (controls : List ℕ) → ArePlaced cap pairs slots controls
       → ArePlaced cap (mapped_pairs model pairs) (mapped_slots model slots) controls
-  mapped_placed cap pairs slots controls h = record {
-    homes = h.homes;
-    hashes = subst AreHashes (sym (mapped_hashes pairs)) h.hashes;
-    written = subst (λ (hashes : List ℕ). AreWrittenControls cap hashes h.homes controls) (sym (mapped_hashes pairs)) h.written;
-    slotted = subst (λ (items : List Y). AreInSlots cap h.homes items (mapped_slots model slots)) (sym (mapped_items pairs)) (mapped_slotted cap h.homes (items_of pairs) slots h.slotted);
-  }
+  mapped_placed cap pairs slots controls h = grind (arith, common_steps, mapped_hashes pairs, mapped_items pairs, mapped_slotted cap h.homes (items_of pairs) slots h.slotted)
 
   mapped_inside : (factor : ℕ × ℕ) (pairs : List (ℕ × X)) (slots : List (Option X)) (controls : List ℕ) → InBuckets factor pairs slots controls
       → InBuckets factor (mapped_pairs model pairs) (mapped_slots model slots) controls
@@ -123,12 +118,7 @@ module _ {X Y R : Type 0} (model : X → Y) (f : Format Y R) where
     mapped_written z part (inr h) = inr (mapped_slots model h.0, h.1, mapped_inside model factor pairs h.0 h.1 h.2, mapped_bytes s h.0 h.1 p z part h.3)
 
     pub mapped_table : (part : List ℕ) (r : TableResolver) → TableParts w s (written_as model f) factor pairs p part r → TableParts w s f factor (mapped_pairs model pairs) p part r
-    mapped_table part r h = record {
-      len = h.len ∙ sym (length-map pairs (λ (pair : ℕ × X). (pair.0, model pair.1)));
-      factor = h.factor;
-      fits = h.fits;
-      written = mapped_written r.pos part h.written;
-    }
+    mapped_table part r h = grind (arith, common_steps, mapped_written r.pos part h.written, length-map)
 
     pub mapped_pairs_next : (front : List ℕ) (step : Step) → PairsNext w s (written_as model f) factor pairs p front step → PairsNext w s f factor (mapped_pairs model pairs) p front step
     mapped_pairs_next front step h = (mapped_slots model h.0, h.1, mapped_inside model factor pairs h.0 h.1 h.2, mapped_next s h.0 h.1 p front step h.3)
@@ -140,6 +130,4 @@ module _ {X Y R : Type 0} (model : X → Y) (f : Format Y R) where
 
     pub mapped_fails : {F : Type 0} (e : WriteError F) → SerializeFails limit (table_format w s (written_as model f) factor) pairs o o' e
         → SerializeFails limit (table_format w s f factor) (mapped_pairs model pairs) o o' e
-    mapped_fails e h =
-        fails_under limit (PairsNext w s f factor (mapped_pairs model pairs) (end_of o)) (PairsNext w s (written_as model f) factor pairs (end_of o)) o o' e
-        (λ front step n. mapped_pairs_next w s factor pairs (end_of o) front step n) h
+    mapped_fails e h = search (rules, fails_under, mapped_pairs_next)

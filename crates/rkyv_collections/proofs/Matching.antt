@@ -1,5 +1,6 @@
 -- Rows that are matched with columns, no two with the same one.
-use Rattle.std.proofs.Common.{◌≡◌, ℕ, ◌+◌, ◌<◌, ◌≤◌, ◌∙◌, inl, inr, refl, sym, ap, arith, Bool, true, false, cond, ltb, map}
+use Rattle.std.proofs.lemmas.Grind.{common_steps}
+use Rattle.std.proofs.Common.{◌≡◌, ℕ, ◌+◌, ◌<◌, ◌≤◌, ◌∙◌, inl, inr, refl, sym, ap, arith, Bool, true, false, cond, ltb}
 use Rattle.std.specs.List.{list_any, position_or_len, range_with_len}
 use Rattle.std.proofs.lemmas.Bool.{both_ways, cases_Bool, cases_lt, le-ltb, lt-ltb}
 use Rattle.std.proofs.lemmas.List.FromFn.{get_or-range_with_len, length-map-range_with_len, length-range_with_len}
@@ -15,11 +16,7 @@ pub record IsMatching (rows columns : ℕ) (same : ℕ → ℕ → Bool) : Type 
 
 -- distinct numbers below a bound are at most as many as the bound
 few_below : (f : ℕ → ℕ) (n bound : ℕ) → ((i j : ℕ) → i < n → j < n → f i ≡ f j → i ≡ j) → ((i : ℕ) → i < n → f i < bound) → n ≤ bound
-few_below f n bound differ below =
-    let l = length-map-range_with_len f 0 n in
-    let few = length-le_from_distinct_below (map f (range_with_len 0 n)) bound (distinct_map_range f n differ)
-    (λ q h. let t = from_map_range f n q h in let b = below t.0 t.1 in omega (arith, t.2)) in
-    omega arith
+few_below f n bound differ below = grind (arith, common_steps, length-map-range_with_len f 0 n, distinct_map_range f n differ, length-le_from_distinct_below, from_map_range)
 
 module _ (rows columns : ℕ) (same : ℕ → ℕ → Bool) (matching : IsMatching rows columns same) where
   -- the first column that is the same as the row
@@ -40,10 +37,7 @@ module _ (rows columns : ℕ) (same : ℕ → ℕ → Bool) (matching : IsMatchi
       (below, ap (same i) (sym (at ∙ first)) ∙ passes_at_first (same i) xs 0 inside)
 
   columns_differ : (i j : ℕ) → i < rows → j < rows → column i ≡ column j → i ≡ j
-  columns_differ i j hi hj e =
-      let x = column_same i hi in
-      let y = column_same j hj in
-      matching.apart i j (column i) hi hj x.0 x.1 (ap (same j) e ∙ y.1)
+  columns_differ i j hi hj e = grind (arith, common_steps, column_same, column)
 
   -- there are at least as many columns as rows
   pub rows_within : rows ≤ columns

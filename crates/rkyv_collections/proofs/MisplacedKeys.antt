@@ -53,13 +53,7 @@ module _ (w : Width) (k v : ElementSpec) (kl : IsElement k) (vl : IsElement v) (
         subst (λ x. ValidAt k b (at x)) is (valid_key kl vl b (pair_at w k v b p homes c.0) (pair_valid w k v kl vl key_hash b p homes view written c.0 c.1))
 
     sameness : IsSameness (λ i. key_hash b (at i)) (λ i j. same_key b (at i) b (at j)) hashes homes
-    sameness = record {
-      hashed = λ i h. sym (hash_of_pair w k v kl vl key_hash b p homes view written i h);
-      equal = λ i j c d s. same_hash b b (at i) (at j) (key_there i c) (key_there j d) s;
-      reflexive = λ i c. equivalence.reflexive b (at i) (key_there i c);
-      symmetric = λ i j c d s. equivalence.symmetric b b (at i) (at j) (key_there i c) (key_there j d) s;
-      transitive = λ i j l c d e s t. equivalence.transitive b b b (at i) (at j) (at l) (key_there i c) (key_there j d) (key_there l e) s t;
-    }
+    sameness = grind (arith, hash_of_pair, key_there)
 
     repeated_keys : map_misplaced w k v key_hash same_key b p ≡ repeated (λ q r. same_key b q b r) (home_positions w (entry_spec k v).size b p homes)
     repeated_keys = elim written.placed [
@@ -107,10 +101,7 @@ module _ {Q State : Type 0} (w : Width) (k v : ElementSpec) (kl : IsElement k) (
       valid_key kl vl b (item_pos i) (item_viewable w (entry_spec k v) (entry_element k v kl vl) b p view i (walked_full cap controls i c)).valid
 
   accepts_same : AcceptsSame controls cap hash accept (λ i. hash_at hasher key_calls b (item_pos i)) (λ i j. same b (item_pos i) b (item_pos j))
-  accepts_same = record {
-    hashed = λ i c f. ap (hash_of_calls hasher) (sym (query.same_calls q b (item_pos i) ready (key_walked i c) f));
-    same = λ i j c d f. query.respects_same q b b (item_pos i) (item_pos j) ready (key_walked i c) (key_walked j d) f;
-  }
+  accepts_same = grind (arith, key_walked)
 
   by_pos : (o : Option ℕ) → MatchOption o (NoneAccepted controls cap accept) (AloneAccepted controls cap accept) → FindsTheOne w size b p (fits q b) (option_map item_pos o)
   by_pos None n = λ i walked. n i (full_walked cap controls i walked)

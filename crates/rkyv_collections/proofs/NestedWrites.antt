@@ -8,8 +8,7 @@ use Rattle.std.specs.Option.{option_map}
 use Rattle.std.proofs.lemmas.Bool.{cases_eq}
 use Rattle.std.proofs.lemmas.Option.{same_Some}
 use Rattle.rkyv_base.specs.{ElementSpec, IsElement, ModifiesOnly, RepresentsLocally, StaysValid, Viewable, entry_spec, value_pos, whole_size}
-use Rattle.rkyv_base.specs.Lemmas.Entry.{entry_element, key_and_value_inside}
-use Rattle.rkyv_base.specs.Lemmas.Entry.{size_of_small}
+use Rattle.rkyv_base.specs.Lemmas.Entry.{entry_element, key_and_value_inside, size_of_small}
 use Rattle.rkyv_base.proofs.Sealing.{sealed_wider, viewable_kept}
 use Rattle.rkyv_table.specs.{IsWalked, StaysAt, WritesAmongParts, WritesValue, home_positions, item_at}
 use Rattle.rkyv_table.specs.Lemmas.ItemPositions.{item_is_valid, valid_part}
@@ -129,6 +128,4 @@ value_nested w k v kl vl b c p i view walked writes =
 -- the same for a key at `q` and its value at `pos`
 pub value_nested_at : (w : Width) (k v : ElementSpec) (kl : IsElement k) (vl : IsElement v) (b c : List ℕ) (p q pos : ℕ) → Viewable (map_spec w k v) b p
     → IsKeyPosAt w k v b p q → pos ≡ value_pos k v q → ModifiesOnly b pos v.size c → StaysValid v b c pos → WritesAmongParts (map_spec w k v) b c p
-value_nested_at w k v kl vl b c p q pos view at is sealed keeps =
-    let there : pos ≡ value_pos k v (item_at w (entry_spec k v).size b p at.0) = is ∙ ap (value_pos k v) at.2 in
-    value_nested w k v kl vl b c p at.0 view at.1 (record { sealed = subst (λ n. ModifiesOnly b n v.size c) there sealed; keeps = subst (StaysValid v b c) there keeps })
+value_nested_at w k v kl vl b c p q pos view at is sealed keeps = grind (arith, value_nested)

@@ -1,7 +1,7 @@
 -- From a lookup in the map that is read to one in the map at the seal.
 use Rattle.rkyv_base.specs.declared.element.HasSpec.{Ghosts as Specs}
 use Rattle.rkyv_base.specs.declared.width.Word.{Ghosts as Words}
-use Rattle.std.proofs.Common.{arith, ◌≡◌, ℕ, ◌+◌, ◌≤◌, sym, subst, Bool, List, None, Option, Some, length}
+use Rattle.std.proofs.Common.{arith, ◌≡◌, ℕ, sym, subst, Bool, List, None, Option, Some}
 use Rattle.std.proofs.lemmas.Grind.{common_steps}
 use Rattle.std.proofs.lemmas.Option.{IfSome_then}
 use Rattle.std.specs.Int.{Width}
@@ -43,11 +43,7 @@ module _ (w : Width) (k v : ElementSpec) (kl : IsElement k) (vl : IsElement v) (
   pub found_entry : (found : Option ℕ) (q : ℕ) → found ≡ Some q → IfSome found (IsKeyPosAt w k v b p) → Viewable (entry_spec k v) b q
   found_entry found q is walked = entry_viewable q (subst (λ (o : Option ℕ). IfSome o (IsKeyPosAt w k v b p)) is walked)
 
-  -- a value behind a key ends inside the bytes
-  pub value_inside : (pos : Option ℕ) → IfSome pos (λ q. (key : ℕ) × IsKeyPosAt w k v b p key × (q ≡ value_pos k v key)) → IfSome pos (λ q. q + v.size ≤ length b)
-  value_inside None h = tt
-  value_inside (Some q) h = subst (λ n. n + v.size ≤ length b) (sym h.2) (pair_pos h.0 h.1).value.inside
-
+  -- a value behind a key is valid
   pub value_viewable : (pos : Option ℕ) → IfSome pos (λ q. (key : ℕ) × IsKeyPosAt w k v b p key × (q ≡ value_pos k v key)) → IfSome pos (λ q. Viewable v b q)
   value_viewable None h = tt
   value_viewable (Some q) h = subst (λ n. Viewable v b n) (sym h.2) (pair_pos h.0 h.1).value

@@ -1,5 +1,6 @@
 -- The steps of a cursor over the pairs of a map that writes values.
-use Rattle.std.proofs.Common.{◌≡◌, ℕ, zero, suc, ◌+◌, ◌<◌, ◌≤◌, ◌∙◌, inl, inr, sym, ap, subst, arith, List, [], ◌∷◌, Option, Some, None, slice_index, take, drop}
+use Rattle.std.proofs.lemmas.Grind.{common_steps}
+use Rattle.std.proofs.Common.{◌≡◌, ℕ, zero, suc, ◌+◌, ◌<◌, ◌≤◌, ◌∙◌, sym, ap, subst, arith, List, [], ◌∷◌, Option, Some, None, slice_index, take, drop}
 use Rattle.std.specs.Prelude.{IfSome, IsSome, MatchOption}
 use Rattle.std.specs.Int.{Width}
 use Rattle.std.proofs.lemmas.Bool.{cases_lt, true≢false}
@@ -22,13 +23,7 @@ use Rattle.rkyv_collections.proofs.SealedMap.{pair_pos}
 -- if no control byte is full, no bucket remains
 none_full : (controls : List ℕ) (cap : ℕ) → ((i : ℕ) → i < cap → slice_index controls i < 128 → ⊥) → (n from : ℕ) → cap ≤ from + n → full_from controls cap from ≡ []
 none_full controls cap none_at zero from h = full_end controls cap from (omega arith)
-none_full controls cap none_at (suc n) from h = elim (cases_lt from cap) [
-  | inr past ↦ full_end controls cap from past
-  | inl below ↦ elim (cases_lt (slice_index controls from) 128) [
-    | inl full ↦ absurd (none_at from below full)
-    | inr empty ↦ full_skipped controls cap from below empty ∙ none_full controls cap none_at n (from + 1) (omega arith)
-  ]
-]
+none_full controls cap none_at (suc n) from h = grind (arith, common_steps, cases_lt, full_end, full_skipped, none_full controls cap none_at n (from + 1) (omega arith))
 
 module _ {K V : Type 0} (k v : ElementSpec) (kl : IsElement k) (vl : IsElement v) where
   -- a map of entries that are too large has no entries
@@ -63,12 +58,8 @@ module _ {K V : Type 0} (k v : ElementSpec) (kl : IsElement k) (vl : IsElement v
       → MatchOption result (cursor_buckets_left w p before ≡ [])
       (λ (pair : View K × Seal V). (i : ℕ) × (rest : List ℕ) × (cursor_buckets_left w p before ≡ i ∷ rest) × LendsPair k v (cursor_bytes before) (IsPairPos w k v (cursor_bytes before) p i) pair)
   lends_first w p q before after archive same t None view key value found = absurd (true≢false (sym (found (subst (λ b. Viewable k b q) (sym same) t.pair.key))))
-  lends_first w p q before after archive same t (Some pair) view key value found = (
-    t.bucket,
-    cursor_buckets_left w p after,
-    t.first,
-    pair_lent k v before.archive.now (IsPairPos w k v before.archive.now p t.bucket) q pair t.pair key.0 view (key.1 ∙ ap (take (value_pos k v q)) same) (value.1 ∙ ap (drop (value_pos k v q)) same) value.0,
-  )
+  lends_first w p q before after archive same t (Some pair) view key value found =
+      grind (arith, common_steps, pair_lent k v before.archive.now (IsPairPos w k v before.archive.now p t.bucket) q pair t.pair key.0 view (key.1 ∙ ap (take (value_pos k v q)) same) (value.1 ∙ ap (drop (value_pos k v q)) same) value.0)
 
   -- a write of one value keeps the map and the cursor
   pub pairs_kept : (before after : RawIterSeal (Entry K V)) (q : ℕ) → StaysThere before after → ModifiesOnly (cursor_bytes before) (value_pos k v q) v.size (cursor_bytes after)

@@ -1,5 +1,5 @@
 -- Lookups in an archive of a map of std.
-use Rattle.std.proofs.Common.{arith, ◌≡◌, ℕ, ◌+◌, refl, sym, ap, subst, ◌∙◌, cond, inl, inr, ◌↔◌, Bool, true, List, [], ◌∷◌, None, Option, Some}
+use Rattle.std.proofs.Common.{arith, ◌≡◌, ℕ, ◌+◌, refl, sym, ap, subst, ◌∙◌, cond, ◌↔◌, Bool, true, List, [], ◌∷◌, None, Option, Some}
 use Rattle.std.proofs.lemmas.Grind.{common_steps}
 use Rattle.std.specs.Int.{Width}
 use Rattle.std.specs.List.{find, list_any}
@@ -24,10 +24,7 @@ use Rattle.rkyv_collections.proofs.WrittenPairs.{first_accepted, pair_valid}
 -- the value of the first accepted pair
 first_looked_up : {A B : Type 0} (accept_value : A → Bool) (entries : List (A × B)) → option_map (λ pair. pair.1) (first_pair accept_value entries) ≡ lookup accept_value entries
 first_looked_up accept_value [] = refl
-first_looked_up accept_value (e ∷ es) = elim (cases_Bool (accept_value e.0)) [
-  | inl here ↦ rw here refl
-  | inr other ↦ rw other (first_looked_up accept_value es)
-]
+first_looked_up accept_value (e ∷ es) = grind (arith, common_steps, cases_Bool, first_looked_up accept_value es)
 
 -- the result of a lookup with a value, if an equal value is found
 as_value : {B : Type 0} (value : List ℕ → ℕ → B → Type 0) (b : List ℕ) (offset : ℕ) (key_pos : Option ℕ) (o : Option B) (x : B) (r : Bool) → Some x ≡ o

@@ -68,7 +68,7 @@ module _ {X : Type 0} (R : ℕ → X → Type 0) where
   zip_swap : (positions : List ℕ) (xs : List X) (i j : ℕ) → i < length positions → j < length positions → AllZip R positions xs → AllZip R (swap positions i j) (swap xs i j)
   zip_swap [] xs i j hi hj h = absurd (omega (arith, hi))
   zip_swap (q ∷ positions) [] i j hi hj h = absurd h
-  zip_swap (q ∷ positions) (x ∷ xs) i j hi hj h = grind (arith, common_steps, positions, zip_set, zip_at)
+  zip_swap (q ∷ positions) (x ∷ xs) i j hi hj h = grind (arith, common_steps, zip_set, zip_at)
 
   -- the items at some positions are at the same positions in another order
   pub permuted_has_each : (positions others : List ℕ) (xs : List X) → IsPermutation positions others → AllZip R positions xs → HasEachOnce R others xs

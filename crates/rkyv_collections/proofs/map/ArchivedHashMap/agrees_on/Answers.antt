@@ -1,4 +1,4 @@
-use Rattle.std.proofs.Common.{refl}
+use Rattle.std.proofs.Common.{arith}
 use Rattle.rkyv_keys.specs.{hash_of}
 use Rattle.rkyv_collections.specs.{map_bytes, map_pos}
 use Rattle.rkyv_collections.proofs.StdFinding.{accepted_none, accepted_some}
@@ -10,6 +10,4 @@ returns-in-Some g c =
     c.args.key.now (g.A.PartialEq.eq c.args.key.now) c.args.other.now.entries c.in-Some.value.now c.finds_equal.result c.in-Some.ensures.value c.finds_equal.ensures
 
 pub returns-in-None : goal.returns-in-None
-returns-in-None g c =
-    accepted_none g.W.Word.word g.K.HasSpec.spec g.V.HasSpec.spec (hash_of g.H.KeyHasher.hasher g.A.KeyHash.calls) g.A.Query.fits g.V.MatchesNative.equals (map_bytes c.args.self) (map_pos c.args.self)
-    c.args.key.now (g.A.PartialEq.eq c.args.key.now) c.args.other.now.entries c.contains_key.result _ c.in-None.ensures.value c.contains_key.ensures.finds refl
+returns-in-None g c = grind (arith, accepted_none)

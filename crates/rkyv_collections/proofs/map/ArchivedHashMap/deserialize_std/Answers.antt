@@ -1,7 +1,6 @@
-use Rattle.std.proofs.Common.{ap, inl, inr, refl, subst, ◌∙◌, ℕ, List}
+use Rattle.std.proofs.Common.{inl, inr, subst, ◌∙◌, ℕ, List, arith}
 use Rattle.std.specs.Borrow.{Bor}
 use Rattle.std.specs.HashMap.{get, keys}
-use Rattle.std.specs.Map.{keys_of, lookup}
 use Rattle.std.proofs.lemmas.Result.{err_from_is_err_and}
 use Rattle.rkyv_base.specs.{PairRepresents}
 use Rattle.rkyv_keys.specs.{DeserializeMembers, entry_deserialize_fails}
@@ -10,15 +9,7 @@ use Rattle.rkyv_collections.proofs.StdReading.{none_left, walks_fail, walks_firs
 use Rattle.rkyv_collections.proofs.map.ArchivedHashMap.deserialize_std.Goals as goal
 
 pub loop-key-init : goal.loop-key-init
-loop-key-init g c =
-    let walk = c.iter-key-items.ensures in
-    let empty = none_left c.reserve.new.self.entries (c.reserve.ensures.entries.1 ∙ c.with_hasher-map.ensures.len) in (
-      walks_first g.W.Word.word g.K.HasSpec.spec g.V.HasSpec.spec g.K.Represents.represents g.V.Represents.represents g.A.PartialEq.eq (map_archive c.args.self) (map_pos c.args.self)
-          c.into_iter-key-iterator.result c.iter-key-items.result c.into_iter-key-iterator.ensures.into_iter_gives walk.archive walk.positions
-          (get g.A.PartialEq.eq c.reserve.new.self) (keys c.reserve.new.self) (λ q. ap (lookup (g.A.PartialEq.eq q)) empty) (ap keys_of empty),
-      c.reserve.ensures.unique,
-      refl,
-    )
+loop-key-init g c = grind (arith, none_left, walks_first)
 
 pub loop-key-preserved : goal.loop-key-preserved
 loop-key-preserved g c =

@@ -1,4 +1,4 @@
-use Rattle.std.proofs.Common.{ℕ, ◌-◌, ◌∙◌, subst, sym, length, List}
+use Rattle.std.proofs.Common.{ℕ, ◌-◌, subst, sym, length, List, rules}
 use Rattle.rkyv_base.proofs.AtViews.{back_at}
 use Rattle.rkyv_collections.proofs.WrittenRoots.{root_keeps}
 use Rattle.rkyv_collections.proofs.std_maps.round_trip.round_trips_equal.Goals as goal
@@ -15,10 +15,4 @@ returns-then-not-eq_native g c =
     cc (true_there, c.if-not-eq_native.true)
 
 pub returns-clause-same : goal.returns-clause-same
-returns-clause-same g c =
-    let value = c.args.value.now in
-    let size = g.M.Archived.HasSpec.spec.size in
-    let represents = g.M.Archived.Represents.represents in
-    let here = subst (λ (xs : List ℕ). represents xs (length xs - size) value) (sym c.as_slice.ensures.value) c.in_ok-bytes.ensures.1 in
-    let at_root = back_at c.in-Ok.root c.as_slice.result _ c.in-Ok.ensures.root.1 (λ d p. represents d p value) here in
-    c.eq.ensures ∙ g.met.M.Archived.RepresentsUniquely.once c.in_ok-back.back value _ _ c.in-Ok.ensures.viewable.valid c.in_ok-back.ensures at_root
+returns-clause-same g c = search (rules, back_at)
