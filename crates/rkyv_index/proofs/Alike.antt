@@ -1,5 +1,5 @@
 -- Index maps whose keys feed no `usize` and no `isize`, under hashers that differ in these alone.
-use Rattle.std.proofs.Common.{◌≡◌, ℕ, ◌<◌, ◌∙◌, sym, ap, Bool, List, refl}
+use Rattle.std.proofs.Common.{◌≡◌, ℕ, ◌<◌, ◌∙◌, sym, ap, Bool, List, rules}
 use Rattle.std.specs.Int.{Width}
 use Rattle.std.specs.List.{find}
 use Rattle.rkyv_scan.specs.{HasherCall, SizeWords, fx_hash}
@@ -22,9 +22,7 @@ module _ (w : Width) (kind : IsArchiveWord w) (k v : ElementSpec) (kl : IsElemen
   key_there b p view i below = valid_key kl vl b (pair_at w k v b p i) (entry_viewable w kind (entry_spec k v) (entry_element k v kl vl) b p view i below).valid
 
   pub written_alike : WrittenAlike w k v key_calls
-  written_alike one other b p homes view =
-      written_again w (entry_spec k v).size (fx_hash_at one key_calls) (fx_hash_at other key_calls) b b p refl (λ some. refl) (λ i there. refl)
-      (λ i below. fixed_alike one other (key_calls b (pair_at w k v b p i)) (fixed b (pair_at w k v b p i) (key_there b p view i below))) homes
+  written_alike one other b p homes view = search (rules, written_again, fixed_alike, key_there)
 
   -- under either hasher, a query finds the first index whose key it fits
   pub queried_alike : {Q : Type 0} (same : Comparison) (queries : KeyHashes Q) (fits : Q → List ℕ → ℕ → Bool) → IsQuery k same key_calls queries.can_read queries.calls fits

@@ -1,5 +1,5 @@
 -- Steps of the validation of an index map.
-use Rattle.std.proofs.Common.{◌≡◌, ℕ, inl, inr, ◌+◌, ◌-◌, ◌*◌, ◌%◌, ◌<◌, ◌≤◌, refl, sym, ap, subst, ◌∙◌, arith, List, [], Bool, true, false, filter, length, ℤ, FitsSigned, to_z, of_z}
+use Rattle.std.proofs.Common.{◌≡◌, ℕ, ◌+◌, ◌-◌, ◌*◌, ◌%◌, ◌<◌, ◌≤◌, refl, sym, ap, subst, ◌∙◌, arith, List, [], Bool, true, false, filter, length, ℤ, FitsSigned, to_z, of_z}
 use Rattle.std.proofs.lemmas.Grind.{common_steps}
 use Rattle.std.specs.Borrow.{Bor}
 use Rattle.std.specs.Int.{Width, byte_len, w128}
@@ -50,11 +50,15 @@ view_at v archive p at read = ap (λ (x : Bor (List ℕ)). read x.now v.pos) at.
 -- the table of a valid index map is valid for a view
 pub table_viewable : {V : Type 0} (w : Width) → IsArchiveWord w → (s : ElementSpec) (e : Encoding V) → IsScalar s e → IsIndexEncoding w e → (b : List ℕ) (p lo hi m : ℕ)
     → p + 4 * byte_len w ≤ length b → p % byte_len w ≡ 0 → lo ≤ hi → hi ≤ p → IsValidTable w s b p lo hi m → Viewable (table_spec w (stored_index_spec w)) b p
-table_viewable w kind s e laws is b p lo hi m inside aligned o o' h = record {
-  inside = omega arith;
-  aligned = aligned;
-  valid = valid_at (table_spec w (stored_index_spec w)) (table_element w kind (stored_index_spec w) (stored_index_element w kind)) b p lo hi m o o' (index_table_is_valid w s e laws is b p lo hi m h);
-}
+table_viewable w kind s e laws is b p lo hi m inside aligned o o' h =
+    grind (
+      arith,
+      common_steps,
+      valid_at (table_spec w (stored_index_spec w)) (table_element w kind (stored_index_spec w) (stored_index_element w kind)) b p lo hi m o o' (index_table_is_valid w s e laws is b p lo hi m h),
+      table_element w kind (stored_index_spec w) (stored_index_element w kind),
+      stored_index_element w kind,
+      index_table_is_valid w s e laws is b p lo hi m h,
+    )
 
 -- one more index of a range, which passes the test `P` or fails it
 module _ (P : ℕ → Bool) (i n : ℕ) (below : i < n) where
@@ -107,29 +111,12 @@ moved_from_view view new a p same at P = grind (arith, common_steps, moved)
 module _ (w : Width) (kind : IsArchiveWord w) (b : List ℕ) (p : ℕ) (v : Viewable (table_spec w (stored_index_spec w)) b p) (header : Decoded) (is : IsDecoded w b p header) where
   -- they are before the control bytes
   pub decoded_before : 0 < header.cap → header.cap * byte_len w ≤ header.controls_pos
-  decoded_before some =
-      let cap = is.cap in
-      let whole : cap_at w b p - 1 + 1 ≡ header.cap = omega (arith, cap) in
-      let last = item_before w (stored_index_spec w) (stored_index_element w kind) b p v (cap_at w b p - 1) (omega (arith, cap)) in
-      subst (λ c. header.cap * byte_len w ≤ c) (sym (is.controls_pos some)) (subst (λ m. m * byte_len w ≤ controls_pos w b p) whole last)
+  decoded_before some = grind (arith, item_before, stored_index_element)
 
   module _ (begin : ℕ) (none_at : header.cap ≡ 0 → begin ≡ 0) (some_at : 0 < header.cap → begin ≡ header.controls_pos - header.cap * byte_len w) where
     -- they are inside the bytes
     pub decoded_inside : begin + header.cap * byte_len w ≤ length b
-    decoded_inside = elim (cases_eq header.cap 0) [
-      | inl none ↦
-          let zero : header.cap * byte_len w ≡ 0 * byte_len w = ap (λ m. m * byte_len w) none in
-          let at = none_at none in
-          omega arith
-      | inr other ↦
-          let some : 0 < header.cap = omega arith in
-          let at = some_at some in
-          let before = decoded_before some in
-          let cap = is.cap in
-          let controls = is.controls_pos some in
-          let inside = (controls_inside w (stored_index_spec w) (stored_index_element w kind) b p v (omega (arith, cap))).0 in
-          omega arith
-    ]
+    decoded_inside = grind (arith, cases_eq, decoded_before, controls_inside, stored_index_element)
 
     -- they begin at the last one
     pub decoded_begin : 0 < cap_at w b p → begin ≡ controls_pos w b p - cap_at w b p * byte_len w

@@ -111,10 +111,7 @@ module _ {K Q : Type 0} (m : Index K) (kind : IsArchiveWord m.word) (kl : IsElem
       ap of lookup ∙ ap (λ h. index_found w b p h (λ j. same b (at i) b (at j))) same_hash ∙ own_result
 
   by_found : (o : Option ℕ) → index_found w b p (hash_of_calls hasher (calls q)) accept ≡ o → FindsTheOne len accept o
-  by_found None e = λ i below. elim (cases_Bool (accept i)) [
-    | inr f ↦ f
-    | inl t ↦ absurd (none-some i (sym e ∙ found_itself i below t))
-  ]
+  by_found None e = grind (arith, cases_Bool, none-some, found_itself)
   by_found (Some i) e =
       let f = found_fits i e in
       record { below = f.0; fitting = f.1; alone = λ j below t. same_Some j i (sym (found_itself j below t) ∙ e) }

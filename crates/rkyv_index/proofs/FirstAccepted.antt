@@ -1,5 +1,5 @@
 -- The first accepted index below `n`, where one index is known to be accepted.
-use Rattle.std.proofs.Common.{◌≡◌, ℕ, zero, suc, ◌+◌, ◌-◌, ◌<◌, ◌∙◌, refl, ap, arith, cond, Bool, true, not, List, [], ◌∷◌, ◌++◌, Option, Some, None}
+use Rattle.std.proofs.Common.{◌≡◌, ℕ, zero, suc, ◌+◌, ◌-◌, ◌<◌, refl, arith, cond, Bool, true, not, List, [], ◌∷◌, ◌++◌, Option, Some, None}
 use Rattle.std.proofs.lemmas.Grind.{common_steps}
 use Rattle.std.specs.List.{find, range_with_len}
 use Rattle.std.specs.Option.{is_some}
@@ -38,10 +38,7 @@ module _ (P : ℕ → Bool) where
     rest = range_with_len (i + 1) (n - (i + 1))
 
     split : indices_of n ≡ indices_of i ++ i ∷ rest
-    split =
-        let e : n ≡ i + suc (n - (i + 1)) = omega arith in
-        let z : 0 + i ≡ i = omega arith in
-        ap (range_with_len 0) e ∙ range_append 0 i (suc (n - (i + 1))) ∙ ap (λ k. indices_of i ++ range_with_len k (suc (n - (i + 1)))) z
+    split = grind (arith, common_steps, range_append 0 i (suc (n - (i + 1))))
 
     by_front : (o : Option ℕ) → find P (indices_of i) ≡ o → not (is_found_at i (find P (indices_of n))) ≡ is_some o
     by_front found e = grind (arith, common_steps, split, find-behind, eq-eqb, find-front, found_below, ne_eqb)

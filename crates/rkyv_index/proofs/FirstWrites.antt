@@ -1,4 +1,5 @@
 -- Writes of the value of the first pair of a list with an accepted key.
+use Rattle.std.proofs.lemmas.Grind.{common_steps}
 use Rattle.std.proofs.Common.{◌≡◌, ℕ, suc, zero, ◌∙◌, ap, arith, Bool, false, List, [], ◌∷◌, None, Option, Some, refl, subst, sym, true}
 use Rattle.std.specs.Int.{Width}
 use Rattle.std.specs.List.{find, range_with_len, slice_get}
@@ -55,13 +56,9 @@ module _ (w : Width) (kind : IsArchiveWord w) (k v : ElementSpec) (kl : IsElemen
 
   -- if no key fits, the list has no accepted pair, and the index map represents the changed list
   pub none_listed : None ≡ first_fitting → (false ≡ is_some (first_pair accept pairs)) × IndexRepresents w k v key value key_hash factor b p (with_first_changed accept change pairs)
-  none_listed is =
-      let none = changed_at accept change pairs None (is_first None is) in
-      (ap is_some (sym none.0), subst (λ (l : List (A × B)). IndexRepresents w k v key value key_hash factor b p l) (sym none.1) st)
+  none_listed is = grind (arith, common_steps, changed_at accept change pairs None (is_first None is), is_first None is)
 
   -- a property of the list with the changed value at the found index is one of the changed list
   pub some_listed : (i : ℕ) → Some i ≡ first_fitting → (P : List (A × B) → Type 0) → ((pair : A × B) → slice_get pairs i ≡ Some pair → P (slice_set pairs i (pair.0, change pair.1)))
       → (true ≡ is_some (first_pair accept pairs)) × P (with_first_changed accept change pairs)
-  some_listed i is P at_index =
-      let some = changed_at accept change pairs (Some i) (is_first (Some i) is) in
-      (ap is_some (sym some.2), subst P (sym some.3) (at_index some.0 some.1))
+  some_listed i is P at_index = grind (arith, common_steps, changed_at accept change pairs (Some i) (is_first (Some i) is), is_first (Some i) is)

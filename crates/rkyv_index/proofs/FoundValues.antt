@@ -1,12 +1,12 @@
 -- From the value that a lookup finds in the index map that is read to its position in the archive.
 use Rattle.rkyv_base.specs.declared.element.HasSpec.{Ghosts as Specs}
 use Rattle.rkyv_base.specs.declared.width.Word.{Ghosts as Words}
-use Rattle.std.proofs.Common.{◌≡◌, ℕ, ◌+◌, ◌<◌, ◌≤◌, ◌∙◌, Bool, None, Some, List, Option, ap, length, subst, sym, arith}
+use Rattle.std.proofs.Common.{◌≡◌, ℕ, ◌<◌, ◌∙◌, Bool, None, Some, List, Option, ap, subst, sym, arith}
 use Rattle.std.proofs.lemmas.Grind.{common_steps}
 use Rattle.std.specs.Borrow.{Bor}
 use Rattle.std.specs.Option.{option_map}
 use Rattle.std.specs.Prelude.{IfSome}
-use Rattle.rkyv_base.specs.{Viewable, pos_of, pos_of_found}
+use Rattle.rkyv_base.specs.{Viewable, pos_of_found}
 use Rattle.rkyv_base.specs.declared.view.View.{View}
 use Rattle.rkyv_keys.specs.{KeyLookup}
 use Rattle.rkyv_table.specs.{len_at}
@@ -17,11 +17,7 @@ use Rattle.rkyv_index.proofs.SealedIndex.{as_read, found_key_read}
 module _ {K : Type 0} {m : Index K} where
   -- a property that follows from another of each index
   pub found_implied : {a : KeyLookup} {Fact Implied : Option ℕ → Type 0} → ((index : Option ℕ) → Fact index → Implied index) → FoundKeyHas m a Fact → FoundKeyHas m a Implied
-  found_implied implies t = record {
-    finds = implies _ t.finds;
-    first = λ homes written. implies _ (t.first homes written);
-    complete = λ none. let one = t.complete none in (one.0, one.1, implies one.0 one.2);
-  }
+  found_implied implies t = grind arith
 
   module _ {P : Option ℕ → Type 0} {found : Option ℕ} (at : P found) where
     -- a property of the index that a lookup returns is one of the index that it finds
@@ -29,11 +25,7 @@ module _ {K : Type 0} {m : Index K} where
     found_at t = found_implied (λ index is. subst P is at) t
 
     pub found_by_at : {hash : ℕ} {key_hash : List ℕ → ℕ → ℕ} {post : View K → Bool → Type 0} → FoundByHas m hash key_hash post (IsIndex found) → FoundByHas m hash key_hash post P
-    found_by_at t = record {
-      accepted = (t.accepted.0, subst P t.accepted.1 at, t.accepted.2);
-      finds = λ accept compares. subst P (t.finds accept compares) at;
-      first = λ accept compares under homes written. subst P (t.first accept compares under homes written) at;
-    }
+    found_by_at t = grind arith
 
 -- the bytes of a view are those of the reference that it was made from
 pub bytes_read : {X : Type 0} {v w : View X} {a : Bor (List ℕ)} → v ≡ w → w.archive ≡ a → v.archive.now ≡ a.now
@@ -54,15 +46,7 @@ module _ {K V H W : Type 0} {ks : Specs K} {vs : Specs V} {wt : Words W} (m : Ar
   index_below None walked = tt
   index_below (Some i) walked = as_read m b p bytes pos (λ d q. i < len_at wt.word d q) walked.1
 
-  -- a found value is inside the archive
-  pub value_inside : (r : Option (View V)) (found : Option ℕ) → found ≡ pos_of_found r → IfSome r (λ x. (i : ℕ) × IsStored m i × IsValueOf m i x) → IfSome found (λ q. q + vs.spec.size ≤ length b)
-  value_inside None found e walked = subst (λ o. IfSome o (λ q. q + vs.spec.size ≤ length b)) (sym e) tt
-  value_inside (Some x) found e walked = grind (arith, common_steps)
-
   -- a found value is valid
   pub value_viewable : (r : Option (View V)) (found : Option ℕ) → found ≡ pos_of_found r → IfSome r (λ x. (i : ℕ) × IsStored m i × IsValueOf m i x) → IfSome found (λ q. Viewable vs.spec b q)
   value_viewable None found e walked = subst (λ o. IfSome o (λ q. Viewable vs.spec b q)) (sym e) tt
-  value_viewable (Some x) found e walked =
-      let is = walked.2 in
-      let same : x.archive.now ≡ b = ap (λ (a : Bor (List ℕ)). a.now) is.at.0 ∙ bytes in
-      subst (λ o. IfSome o (λ q. Viewable vs.spec b q)) (sym e) (subst (λ d. Viewable vs.spec d (pos_of x)) same is.viewable)
+  value_viewable (Some x) found e walked = grind arith

@@ -18,12 +18,7 @@ module _ {K V H W : Type 0} {ks : Specs K} {vs : Specs V} {wt : Words W} where
   -- the clauses on a found index are clauses on another result at it
   module _ {X : Type 0} (part : Part (ArchivedIndexMap K V H W ks vs wt) X) {m : ArchivedIndexMap K V H W ks vs wt} {found : Option ℕ} {result : Option X} where
     pub key_as : {a : KeyLookup} → GetsKey index_part m a found → IfSome result (part.In m) → part.At m result found → GetsKey part m a result
-    key_as got walked at = record {
-      walked = walked;
-      finds = subst (part.At m result) got.finds at;
-      first = λ homes written. subst (part.At m result) (got.first homes written) at;
-      complete = λ none. let one = got.complete none in (one.0, one.1, subst (part.At m result) one.2 at);
-    }
+    key_as got walked at = grind arith
 
     pub by_as : {hash : ℕ} {key_hash : List ℕ → ℕ → ℕ} {post : View K → Bool → Type 0} → GetsBy index_part m hash key_hash post found → IfSome result (part.In m) → part.At m result found → GetsBy part m hash key_hash post result
     by_as got walked at = record {
@@ -58,8 +53,4 @@ module _ {K V H W : Type 0} {ks : Specs K} {vs : Specs V} {wt : Words W} where
 
   -- the clauses on a found index are clauses on `is_found`
   pub contains_as_found : {m : ArchivedIndexMap K V H W ks vs wt} {a : KeyLookup} {found : Option ℕ} {is_found : Bool} → GetsKey index_part m a found → is_found ≡ is_some found → FoundKeyHas (index_of m) a (IsFoundAt is_found)
-  contains_as_found {found = found} {is_found = is_found} got is = record {
-    finds = some_at found _ is_found is got.finds;
-    first = λ homes written. some_at found _ is_found is (got.first homes written);
-    complete = λ none. let one = got.complete none in (one.0, one.1, some_at found _ is_found is one.2);
-  }
+  contains_as_found {found = found} {is_found = is_found} got is = grind (arith, some_at)

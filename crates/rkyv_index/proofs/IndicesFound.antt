@@ -1,11 +1,10 @@
 -- A found item of a table of indices, and the index in it.
 use Rattle.rkyv_base.specs.declared.element.HasSpec.{Ghosts as Specs}
 use Rattle.rkyv_base.specs.declared.width.Word.{Ghosts as Words}
-use Rattle.std.proofs.Common.{◌≡◌, ℕ, ◌+◌, ◌≤◌, ◌∙◌, ap, refl, subst, sym, true, Bool, List, None, Option, Some, length}
+use Rattle.std.proofs.Common.{◌≡◌, ℕ, ◌+◌, ◌≤◌, ◌∙◌, ap, refl, subst, sym, true, Bool, List, None, Option, Some, length, arith}
 use Rattle.std.specs.Int.{Width, byte_len}
 use Rattle.std.specs.Option.{option_map}
 use Rattle.std.specs.Prelude.{IfSome}
-use Rattle.std.proofs.lemmas.Option.{IfSome_then}
 use Rattle.rkyv_scan.specs.{generic_kind}
 use Rattle.rkyv_base.specs.{Encoding, IsAt, IsIndexEncoding, IsScalar, bytes_of, number_at, pos_of, pos_of_found}
 use Rattle.rkyv_base.specs.declared.view.View.{View}
@@ -18,12 +17,7 @@ use Rattle.rkyv_index.proofs.Lookups.{finds_first_index, finds_index, item_index
 -- a lookup by a comparison is one by each weaker condition on its results
 pub finds_as : {P W : Type 0} {ts : Specs P} {wt : Words W} (A B : View P → Bool → Type 0) → ((h : View P) (r : Bool) → A h r → B h r) → (t : ArchivedHashTable P W ts wt) (hash : ℕ) (found : Option (View P))
     → FindsItem A generic_kind t hash found → FindsItem B generic_kind t hash found
-finds_as A B weaker t hash found got = record {
-  walked = got.walked;
-  accepted = IfSome_then found got.accepted (λ h a. weaker h true a);
-  finds = λ accept compares. got.finds accept (λ h r item a. compares h r item (weaker h r a));
-  first = λ hashes homes accept written compares under. got.first hashes homes accept written (λ h r item a. compares h r item (weaker h r a)) under;
-}
+finds_as A B weaker t hash found got = grind arith
 
 -- it reads as many strides
 pub counts_as : {P W : Type 0} {ts : Specs P} {wt : Words W} (A B : View P → Bool → Type 0) → ((h : View P) (r : Bool) → A h r → B h r) → (t : ArchivedHashTable P W ts wt) (hash before after : ℕ)

@@ -1,5 +1,5 @@
 -- Writing an index map of owned or borrowed items is writing that of the values.
-use Rattle.std.proofs.Common.{◌≡◌, ℕ, ◌+◌, refl, ap, sym, subst, ◌∙◌, inl, inr, List, [], ◌∷◌, map, take, length, Some, Result, Ok, Err, MatchResult, arith}
+use Rattle.std.proofs.Common.{◌≡◌, ℕ, ◌+◌, refl, ap, sym, subst, ◌∙◌, inl, inr, List, [], ◌∷◌, map, take, length, Some, Result, Ok, Err, MatchResult, arith, rules}
 use Rattle.std.proofs.lemmas.Grind.{common_steps}
 use Rattle.std.specs.Int.{Width}
 use Rattle.std.specs.List.{take-map}
@@ -62,13 +62,7 @@ module _ {X Y R : Type 0} (value_of : X → Y) (f : Format Y R) where
       mapped_table part t h = subst (λ (l : List (ℕ × P)). TableParts w ps (scalar_format e) factor l p part t) (mapped_indices 0 xs) h
 
       mapped_zeros : (front : List ℕ) (t : TableResolver) (rs : List R) → BeforeZeros w ps e s F own factor xs p front t rs → BeforeZeros w ps e s f hash factor (map value_of xs) p front t rs
-      mapped_zeros front t rs h = record {
-        table = h.table;
-        part_bytes = h.part_bytes;
-        serialized = mapped_table h.table t h.serialized;
-        parts = mapped_parts xs (p + length h.table) h.part_bytes rs h.parts;
-        is = h.is;
-      }
+      mapped_zeros front t rs h = grind (arith, common_steps, mapped_table h.table t h.serialized, mapped_parts xs (p + length h.table) h.part_bytes rs h.parts)
 
       mapped_front : (front : List ℕ) (t : TableResolver) (rs : List R) → BeforeRow w ps e s F own factor xs p front t rs → BeforeRow w ps e s f hash factor (map value_of xs) p front t rs
       mapped_front front t rs h = record { head = h.head; serialized = mapped_zeros h.head t rs h.serialized; is = h.is }
@@ -87,9 +81,7 @@ module _ {X Y R : Type 0} (value_of : X → Y) (f : Format Y R) where
       mapped_serialized r h = (h.0, h.1, mapped_whole xs (end_of o) h.0 r h.2, h.3)
 
       pub mapped_fails : {G : Type 0} (err : WriteError G) → SerializeFails limit (row_format w ps e s F own factor) xs o o' err → SerializeFails limit (row_format w ps e s f hash factor) (map value_of xs) o o' err
-      mapped_fails err h =
-          fails_under limit (IndexNext w ps e s f hash factor (map value_of xs) (end_of o)) (IndexNext w ps e s F own factor xs (end_of o)) o o' err
-          (λ front step n. mapped_next xs (end_of o) front step n) h
+      mapped_fails err h = search (rules, fails_under, mapped_next)
 
 -- the entries of borrowed pairs have the values of these pairs
 pairs_lent : {BK BV A B : Type 0} (key : BK → A) (value : BV → B) (xs : List (EntryAdapter BK BV A B)) → map (pair_of key value) xs ≡ pair_values key value (pairs_of xs)

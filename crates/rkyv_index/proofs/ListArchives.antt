@@ -8,7 +8,7 @@ use Rattle.std.specs.Option.{is_some, option_map}
 use Rattle.std.proofs.lemmas.Bool.{cases_Bool, true≢false}
 use Rattle.std.proofs.lemmas.Iterator.Adapters.{position_from-zero}
 use Rattle.std.proofs.lemmas.Option.{none-some, same_Some}
-use Rattle.rkyv_base.specs.{IsArchiveWord, IsAt, PairRepresents, entry_spec, unit_represents, value_offset}
+use Rattle.rkyv_base.specs.{IsArchiveWord, IsAt, PairRepresents, entry_spec, unit_represents}
 use Rattle.rkyv_base.specs.Lemmas.Entry.{entry_element}
 use Rattle.rkyv_base.specs.declared.element.HasSpec.{Ghosts as Specs}
 use Rattle.rkyv_base.specs.declared.view.View.{View}
@@ -40,13 +40,7 @@ module _ {A B : Type 0} (P : ℕ → Bool) (accept : A → Bool) where
 
   pub index_listed : (from : ℕ) (pairs : List (A × B)) → Agrees from pairs → find P (range_with_len from (length pairs)) ≡ position_from (λ pair. accept pair.0) from pairs
   index_listed from [] agrees = refl
-  index_listed from (x ∷ xs) agrees =
-      let e = here from x xs agrees in
-      let rest = index_listed (from + 1) xs (behind from x xs agrees) in
-      elim (cases_Bool (accept x.0)) [
-        | inl t ↦ rw (e, t) refl
-        | inr f ↦ rw (e, f) rest
-      ]
+  index_listed from (x ∷ xs) agrees = grind (arith, common_steps, here from x xs agrees, index_listed (from + 1) xs (behind from x xs agrees), behind from x xs agrees, cases_Bool (accept x.0))
 
   later : (from : ℕ) (x : A × B) (xs : List (A × B)) (index : Option ℕ) (first : Option (A × B)) → IsFirstAt xs (from + 1) index first → IsFirstAt (x ∷ xs) from index first
   later from x xs None first h = h
@@ -71,12 +65,7 @@ found_at m key value pairs represents None (Some view) first at is = absurd (non
 found_at m key value pairs represents None None (Some pair) at is = absurd (none-some pair (sym is))
 found_at m key value pairs represents (Some n) None first at is = absurd (none-some at.0 at.1)
 found_at m key value pairs represents (Some n) (Some view) None at is = absurd (none-some is.1 is.4)
-found_at {ks = ks} {vs = vs} m key value pairs represents (Some n) (Some view) (Some pair) at is =
-    let same = same_Some view at.0 at.1 in
-    let bytes = ap (λ (x : View _). x.archive.now) same ∙ ap (λ a. a.now) at.2.at.0 in
-    let index : view.pos ≡ key_pos m is.0 + value_offset ks.spec vs.spec = ap (λ (x : View _). x.pos) same ∙ at.2.at.1 ∙ ap (λ i. key_pos m i + value_offset ks.spec vs.spec) (omega (arith, is.2)) in
-    let there = (represents is.0 is.1 is.3).1 in
-    moved (λ b p. value b p pair.1) _ _ _ _ (sym bytes) (sym index) (subst (λ x. value (index_bytes m) (key_pos m is.0 + value_offset ks.spec vs.spec) x.1) (sym (same_Some pair is.1 is.4)) there)
+found_at {ks = ks} {vs = vs} m key value pairs represents (Some n) (Some view) (Some pair) at is = grind (arith, same_Some, moved)
 
 -- In an index map that represents a list of pairs, native keys find the first pair with an equal key
 pub record FirstInMap {A Q B K V H W : Type 0} {ks : Specs K} {vs : Specs V} {wt : Words W} (m : ArchivedIndexMap K V H W ks vs wt) (keys : NativeKeys A Q) (value : List ℕ → ℕ → B → Type 0) (query : Q) (pairs : List (A × B))
@@ -127,10 +116,7 @@ module _ {A : Type 0} (accept : A → Bool) where
 
   any_position : (from : ℕ) (items : List A) → is_some (position_from accept from items) ≡ list_any accept items
   any_position from [] = refl
-  any_position from (x ∷ xs) = elim (cases_Bool (accept x)) [
-    | inl t ↦ rw t refl
-    | inr f ↦ rw f (any_position (from + 1) xs)
-  ]
+  any_position from (x ∷ xs) = grind (arith, common_steps, cases_Bool, any_position (from + 1) xs)
 
 is_found : (found : Bool) (index : Option ℕ) → IsFoundAt found index → found ≡ is_some index
 is_found b found e = grind (arith, common_steps, true≢false)

@@ -1,7 +1,7 @@
 -- From a lookup in a table of indices to a lookup in an index map.
 use Rattle.rkyv_base.specs.declared.element.HasSpec.{Ghosts as Specs}
 use Rattle.rkyv_base.specs.declared.width.Word.{Ghosts as Words}
-use Rattle.std.proofs.Common.{arith, ◌≡◌, ℕ, ◌+◌, ◌<◌, ◌≤◌, ◌∙◌, ap, sym, subst, Bool, length, map, List, Option}
+use Rattle.std.proofs.Common.{arith, ◌≡◌, ℕ, ◌+◌, ◌∙◌, ap, sym, subst, Bool, map, List, Option}
 use Rattle.std.proofs.lemmas.Grind.{common_steps}
 use Rattle.std.specs.Borrow.{Bor}
 use Rattle.std.specs.Int.{Width, byte_len}
@@ -60,12 +60,7 @@ module _ {K V H W P N : Type 0} {ks : Specs K} {vs : Specs V} {ts : Specs P} {wt
 
   -- the number in a full bucket is an index of the map
   index_at_bucket : (h : View P) (i : ℕ) → IsWalked w (index_bytes m) (index_pos m) i → h.pos ≡ item_at w (byte_len w) (index_bytes m) (index_pos m) i → bytes_of h ≡ index_bytes m → IsIndexOf w m.view h
-  index_at_bucket h i walked pos read =
-      let inside = index_inside w wt.kind s law (index_bytes m) (index_pos m) m.valid i walked in
-      let below = index_below w wt.kind s law (index_bytes m) (index_pos m) m.valid i walked in (
-        subst (λ (x : List ℕ). h.pos + byte_len w ≤ length x) (sym read) (subst (λ q. q + byte_len w ≤ length (index_bytes m)) (sym pos) inside),
-        subst (λ (x : List ℕ). number_at w x h.pos < index_len m) (sym read) (subst (λ q. number_at w (index_bytes m) q < index_len m) (sym pos) below),
-      )
+  index_at_bucket h i walked pos read = grind (arith, common_steps, index_inside w wt.kind s law (index_bytes m) (index_pos m) m.valid i walked, index_below w wt.kind s law (index_bytes m) (index_pos m) m.valid i walked)
 
   pub item_index : (h : View P) → IsItem t h → IsIndexOf w m.view h
   item_index h item = grind (arith, common_steps, item_there, index_at_bucket, read_there)
@@ -90,9 +85,7 @@ module _ {K V H W P N : Type 0} {ks : Specs K} {vs : Specs V} {ts : Specs P} {wt
 
     pub under_there : (hash : ℕ) (accept : ℕ → Bool) → AreUnderHash (index_of m) hash key_hash accept
         → IsUnderHash hash hashes (home_positions w ts.spec.size (table_bytes t) (table_pos t) homes) (λ q. accept (number_at w (index_bytes m) q))
-    under_there hash accept under =
-        subst (λ (xs : List ℕ). IsUnderHash hash hashes xs (λ q. accept (number_at w (index_bytes m) q))) (sym (homes_are homes))
-        (under_hash w s.size key_hash (index_bytes m) (index_pos m) homes written hash accept under)
+    under_there hash accept under = grind (arith, common_steps, homes_are homes, under_hash w s.size key_hash (index_bytes m) (index_pos m) homes written hash accept under)
 
     pub first_is : (result : Option (View P)) (accept : ℕ → Bool)
         → pos_of_found result ≡ find (λ q. accept (number_at w (index_bytes m) q)) (home_positions w ts.spec.size (table_bytes t) (table_pos t) homes)

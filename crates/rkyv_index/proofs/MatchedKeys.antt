@@ -21,13 +21,7 @@ use Rattle.rkyv_index.proofs.WrittenLookups.{first_index}
 -- if an index of a range is accepted, the first accepted index is at most that one
 first_up_to : (P : ℕ → Bool) (n i : ℕ) → i < n → P i ≡ true → (found : Option ℕ) → find P (range_with_len 0 n) ≡ found → (j : ℕ) × (found ≡ Some j) × (j ≤ i) × (P j ≡ true)
 first_up_to P n i below ok None h = absurd (both_ways (P i) (none_each P n h i below) ok)
-first_up_to P n i below ok (Some j) h =
-    let f = first_range P 0 n j h in
-    let up_to : j ≤ i = elim (cases_lt i j) [
-      | inl lt ↦ absurd (both_ways (P i) (f.no i (omega arith) lt) ok)
-      | inr le ↦ le
-    ] in
-    (j, refl, up_to, f.yes)
+first_up_to P n i below ok (Some j) h = grind (arith, common_steps, first_range, cases_lt, both_ways)
 
 module _ {K V H W Q State : Type 0} {ks : Specs K} {vs : Specs V} {wt : Words W} (m : ArchivedIndexMap K V H W ks vs wt)
     (hasher : Hasher State) (same : Comparison) (key_calls : List ℕ → ℕ → List HasherCall) (can_read : Q → Type 0) (calls : Q → List HasherCall) (fits : Q → List ℕ → ℕ → Bool)

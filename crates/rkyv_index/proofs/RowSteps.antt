@@ -1,5 +1,5 @@
 -- One more value of a row.
-use Rattle.std.proofs.Common.{◌≡◌, ℕ, suc, ◌+◌, ◌-◌, ◌≤◌, refl, sym, ap, ◌∙◌, subst, arith, List, [], ◌∷◌, ◌++◌, length, get_or, take, drop, Some, append-nil, append_assoc, length-append}
+use Rattle.std.proofs.Common.{◌≡◌, ℕ, suc, ◌+◌, ◌≤◌, refl, sym, ap, ◌∙◌, subst, arith, List, [], ◌∷◌, ◌++◌, length, take, drop, Some, append-nil, append_assoc, length-append}
 use Rattle.std.proofs.lemmas.Grind.{common_steps}
 use Rattle.std.specs.Prelude.{slice_get}
 use Rattle.std.proofs.lemmas.List.{drop-drop, get_or-drop, length-drop, take_more}
@@ -20,10 +20,7 @@ take_one xs i x e = take_more xs i x (slice_get_within xs i x e) ∙ ap (λ y. t
 
 -- the first value that remains is the one at index `i`
 head_dropped : {A : Type 0} (xs : List A) (i : ℕ) (x : A) (rest : List A) → drop i xs ≡ x ∷ rest → slice_get xs i ≡ Some x
-head_dropped {A = A} xs i x rest e =
-    let n : length xs - i ≡ suc (length rest) = sym (length-drop i xs) ∙ ap length e in
-    let z : i + 0 ≡ i = omega arith in
-    slice_get_read xs (length xs) i x refl (omega (arith, n)) (sym (ap (λ (l : List A). get_or l 0 x) e) ∙ get_or-drop i xs 0 x ∙ ap (λ k. get_or xs k x) z)
+head_dropped {A = A} xs i x rest e = grind (arith, common_steps, length-drop i xs, get_or-drop i xs 0 x, slice_get_read)
 
 tail_dropped : {A : Type 0} (xs : List A) (i : ℕ) (x : A) (rest : List A) → drop i xs ≡ x ∷ rest → rest ≡ drop (i + 1) xs
 tail_dropped xs i x rest e = sym (ap (λ l. drop 1 l) e) ∙ drop-drop 1 i xs ∙ ap (λ n. drop n xs) (omega arith)
@@ -56,9 +53,7 @@ module _ {X R : Type 0} (f : Format X R) where
 
   pub images_more : (xs : List X) (rs : List R) (p : ℕ) (out : List ℕ) (x : X) (r : R) (one : List ℕ)
       → RowImages f xs rs p out → f.image x r (p + length out) one → RowImages f (xs ++ x ∷ []) (rs ++ r ∷ []) p (out ++ one)
-  images_more [] rs p out x r one h g =
-      let z : p + length out ≡ p = ap (λ (l : List ℕ). p + length l) h.1 ∙ plus_zero p in
-      (r, [], one, [], ap (λ l. l ++ r ∷ []) h.0, subst (λ n. f.image x r n one) z g, (refl, refl), ap (λ l. l ++ one) h.1 ∙ sym (append-nil one))
+  images_more [] rs p out x r one h g = grind (arith, common_steps, plus_zero p, append-nil one)
   images_more (y ∷ ys) rs p out x r one h g =
       let n : p + length out ≡ p + length h.2 + length h.3 = ap (λ (l : List ℕ). p + length l) h.7 ∙ omega (arith, length-append h.2 h.3) in (
         h.0,

@@ -51,10 +51,7 @@ module _ (w : Width) (kind : IsArchiveWord w) (k v : ElementSpec) (kl : IsElemen
 
   -- an entry is before the header
   pub entry_before : (i : ℕ) → i < len_at w b p → at i + S.size ≤ p
-  entry_before i below =
-      let u = entry_inside S.size (entries_pos w b p) (len_at w b p) i below in
-      let e = entries_inside w kind S law b p view in
-      omega (arith, u.1, e)
+  entry_before i below = grind (arith, common_steps, entry_inside S.size (entries_pos w b p) (len_at w b p) i below, entries_inside w kind S law b p view)
 
   -- an entry is valid with its parts before the entries
   pub entry_parts : (i : ℕ) → i < len_at w b p → IsValidWithin S b (at i) valid.middle (entries_pos w b p) valid.entries.last
@@ -96,10 +93,7 @@ module _ (w : Width) (kind : IsArchiveWord w) (k v : ElementSpec) (kl : IsElemen
       bucket = found generic_kind (table_controls w b p) (cap_at w b p) (len_at w b p) hash (fits_bucket b)
 
       fits_same : (j : ℕ) → IsWalked w b p j → fits_bucket c j ≡ fits_bucket b j
-      fits_same j there =
-          ap (λ m. fits c (pair_pos w S.size c p m)) (sym (read_same j there))
-          ∙ ap (fits c) (positions_same (index_in b j))
-          ∙ same (index_in b j) (index_below w kind S law b p view j there)
+      fits_same j there = grind (arith, common_steps, read_same j there, positions_same (index_in b j), index_below w kind S law b p view j there)
 
       pub lookup_same : index_found w c p hash (fits_in w k v c p fits) ≡ index_found w b p hash (fits_in w k v b p fits)
       lookup_same =

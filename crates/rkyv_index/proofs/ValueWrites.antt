@@ -1,5 +1,6 @@
 -- A write of one value in place keeps the index map, and its list but for that value.
-use Rattle.std.proofs.Common.{◌≡◌, ◌≢◌, ℕ, suc, ◌+◌, ◌-◌, ◌*◌, ◌<◌, ◌≤◌, ◌^◌, inl, inr, refl, sym, ap, subst, arith, Bool, List, Some}
+use Rattle.std.proofs.lemmas.Grind.{common_steps}
+use Rattle.std.proofs.Common.{◌≡◌, ◌≢◌, ℕ, suc, ◌+◌, ◌-◌, ◌*◌, ◌<◌, ◌≤◌, ◌^◌, inl, inr, refl, sym, ap, subst, arith, Bool, List, Some, rules}
 use Rattle.std.specs.Prelude.{slice_get, slice_set, unsigned_abs}
 use Rattle.std.specs.Int.{Width, byte_len}
 use Rattle.std.proofs.Math.Nat.{mul-le-mul_right}
@@ -121,13 +122,7 @@ module _ (w : Width) (kind : IsArchiveWord w) (k v : ElementSpec) (kl : IsElemen
         }
 
     pub entries_kept : KeepsEntries w k v b c p i
-    entries_kept = record {
-      is_valid = index_is_valid;
-      header = header_same;
-      front = front_same 0 (entries_pos w b p) (omega arith) (omega arith);
-      keys = key_same;
-      others = other_same;
-    }
+    entries_kept = search (rules, index_is_valid, header_same, front_same, key_same, other_same)
 
     -- ---- lookups
 
@@ -147,10 +142,7 @@ module _ (w : Width) (kind : IsArchiveWord w) (k v : ElementSpec) (kl : IsElemen
 
     module _ (key_hash : List ℕ → ℕ → ℕ) (local : HashLocal k key_hash) where
       hash_same : (j : ℕ) → j < len_at w b p → key_hash c (at j) ≡ key_hash b (at j)
-      hash_same j there =
-          let key = viewable_key k v kl vl b (at j) (entry j there) in
-          let same = key_same j there in
-          sym (local b c (at j) 0 (at j) key.valid.0 (omega arith) key.valid.1 same.fixed (same.parts key.valid.0 key.valid.1))
+      hash_same j there = grind (arith, common_steps, viewable_key k v kl vl b (at j) (entry j there), key_same j there)
 
       pub index_kept : KeepsIndexMap (index_kind w k v key_hash) b c p i
       index_kept = record {
@@ -167,10 +159,7 @@ module _ (w : Width) (kind : IsArchiveWord w) (k v : ElementSpec) (kl : IsElemen
           (pair : A × B) (new : B) (st : IndexRepresents w k v key value key_hash factor b p pairs) (at_i : slice_get pairs i ≡ Some pair) (represents : value c (value_pos k v (at i)) new) where
         -- the written pair has the new value, and each other pair is unchanged
         written_represents : PairRepresents k v key value c (at i) (pair.0, new)
-        written_represents =
-            let there = viewable_key k v kl vl b (at i) (entry i below) in
-            let same = key_same i below in
-            (kn pair.0 b c (at i) 0 (at i) there.valid.0 (omega arith) there.valid.1 same.fixed (same.parts there.valid.0 there.valid.1) (st.at i pair at_i).0, represents)
+        written_represents = grind (arith, common_steps, viewable_key k v kl vl b (at i) (entry i below), key_same i below)
 
         other_represents : (j : ℕ) (x : A × B) → j < len_at w b p → slice_get pairs j ≡ Some x → j ≢ i → PairRepresents k v key value c (at j) x
         other_represents j x there at_j ne =

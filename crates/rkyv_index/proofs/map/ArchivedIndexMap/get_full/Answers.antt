@@ -1,12 +1,10 @@
-use Rattle.std.proofs.Common.{refl, rules}
-use Rattle.rkyv_index.specs.{IsPairOf, full_part}
+use Rattle.std.proofs.Common.{refl, arith}
+use Rattle.rkyv_index.specs.{full_part}
 use Rattle.rkyv_index.proofs.FromIndex.{key_as}
 use Rattle.rkyv_index.proofs.map.ArchivedIndexMap.get_full.Goals as goal
 
 pub returns : goal.returns
-returns g c =
-    let there : IsPairOf c.args.self c.in_ok-index.index (c.key.result, c.value.result) = search rules in
-    key_as full_part c.in_ok-index.ensures (c.in_ok-index.ensures.walked.0, there) refl
+returns g c = grind (arith, key_as)
 
 pub returns-in_err-index : goal.returns-in_err-index
 returns-in_err-index g c = rw c.from_residual.ensures (key_as full_part c.in_err-index.ensures tt refl)

@@ -1,4 +1,4 @@
-use Rattle.std.proofs.Common.{subst, ◌≡◌, ◌+◌, ◌-◌, ◌<◌, ◌≤◌, ◌^◌, ◌⊎◌, ◌∙◌, arith, sym, Bool, ℕ}
+use Rattle.std.proofs.Common.{◌≡◌, ◌+◌, ◌-◌, ◌<◌, ◌≤◌, ◌^◌, ◌∙◌, arith, sym, Bool, ℕ}
 use Rattle.std.proofs.lemmas.Grind.{common_steps}
 use Rattle.std.specs.List.{range_with_len, sum_by}
 use Rattle.rkyv_keys.specs.{hash_at}
@@ -32,13 +32,7 @@ module _ (g : _) (c : After-is_misplaced-is_misplaced g) where
   on = reads_on _ _ _ _ c.is_misplaced-is_misplaced.ensures.bounded
 
 pub returns-then-is_past-clause-counts : goal.returns-then-is_past-clause-counts
-returns-then-is_past-clause-counts g c =
-    let m = index_of c.args.self in
-    let key_hash = hash_at g.H.KeyHasher.hasher g.K.KeyElement.key_calls in
-    let strides = keys_strides m key_hash g.K.ElementEq.same in
-    let all = spent g (goal.at.returns-then-is_past-clause-counts g c).After-is_misplaced-is_misplaced in
-    subst (λ n. (c.args.limit < strides) ⊎ (2 ^ 63 < n + strides)) c.count-before.ensures
-    (past_all c.count-before.result _ _ strides _ all (rw c.count.ensures at c.is_past.ensures.past c.if-is_past.true))
+returns-then-is_past-clause-counts g c = grind (arith, spent, past_all)
 
 pub returns-then-is_past-clause-counted : goal.returns-then-is_past-clause-counted
 returns-then-is_past-clause-counted g c = grind (arith, common_steps, spent)

@@ -1,10 +1,11 @@
-use Rattle.std.proofs.Common.{◌≡◌, ◌+◌, ◌*◌, ◌<◌, ◌≤◌, ◌∙◌, ap, inr, length, subst, sym, List, ℕ}
+use Rattle.std.proofs.lemmas.Grind.{common_steps}
+use Rattle.std.proofs.Common.{◌≡◌, ◌+◌, ◌<◌, ◌≤◌, ◌∙◌, ap, inr, length, subst, sym, List, ℕ, arith}
 use Rattle.std.specs.Borrow.{Bor}
 use Rattle.std.specs.Int.{byte_len}
 use Rattle.std.specs.List.{All}
 use Rattle.std.proofs.lemmas.List.Elements.{All-cons, All-head, All-rest}
 use Rattle.rkyv_base.specs.{Viewable, number_at}
-use Rattle.rkyv_table.specs.{AllValid, IsDecoded, ItemsLeft, cap_at, item_positions, len_at, table_spec}
+use Rattle.rkyv_table.specs.{AllValid, IsDecoded, ItemsLeft, cap_at, item_positions, len_at}
 use Rattle.rkyv_table.proofs.Moved.{moved}
 use Rattle.rkyv_index.specs.{AreBelow, FirstNotBelow, IndicesBelow}
 use Rattle.rkyv_index.specs.Lemmas.IndexSpecs.{number_table_viewable}
@@ -15,10 +16,7 @@ pub new-requires : goal.new-requires
 new-requires g c = number_table_viewable g.W.Word.word g.W.Index.HasSpec.spec g.W.Index.Scalar.encoding g.met.W.Index.Scalar.laws g.met.W.IndexWidth.index c.args.bytes.now c.args.pos c.requires
 
 pub of-table-requires : goal.of-table-requires
-of-table-requires g c =
-    let s = table_spec g.W.Word.word g.W.Index.HasSpec.spec in
-    view_there s c.new.result c.args.bytes c.args.pos c.new.ensures
-    (number_table_viewable g.W.Word.word g.W.Index.HasSpec.spec g.W.Index.Scalar.encoding g.met.W.Index.Scalar.laws g.met.W.IndexWidth.index c.args.bytes.now c.args.pos c.requires)
+of-table-requires g c = grind (arith, common_steps, number_table_viewable g.W.Word.word g.W.Index.HasSpec.spec g.W.Index.Scalar.encoding g.met.W.Index.Scalar.laws g.met.W.IndexWidth.index c.args.bytes.now c.args.pos c.requires, view_there)
 
 pub buckets_begin-requires : goal.buckets_begin-requires
 buckets_begin-requires g c =
@@ -29,13 +27,7 @@ buckets_begin-requires g c =
     decoded_before w g.W.Word.kind b c.args.pos c.requires header is
 
 pub all_below-requires : goal.all_below-requires
-all_below-requires g c =
-    let w = g.W.Word.word in
-    let b = c.args.bytes.now in
-    let header = c.header-header.result in
-    let is = moved_from_view c.of-table.result.view c.new.result c.args.bytes c.args.pos c.of-table.ensures.view c.new.ensures (λ d r. IsDecoded w d r header) c.header-header.ensures in
-    subst (λ n. c.buckets_begin.result + n * byte_len w ≤ length b) (sym c.capacity.ensures)
-    (decoded_inside w g.W.Word.kind b c.args.pos c.requires header is c.buckets_begin.result c.buckets_begin.ensures.none c.buckets_begin.ensures.some)
+all_below-requires g c = grind (arith, moved_from_view, decoded_inside)
 
 pub returns-then-all_below-clause-below : goal.returns-then-all_below-clause-below
 returns-then-all_below-clause-below g c =

@@ -1,4 +1,4 @@
-use Rattle.std.proofs.Common.{arith, inl, refl, ℕ}
+use Rattle.std.proofs.Common.{arith, ℕ}
 use Rattle.std.proofs.lemmas.Grind.{common_steps}
 use Rattle.std.proofs.lemmas.Result.{err_from_is_err_and}
 use Rattle.rkyv_index.specs.{key_pos, keys_of, set_bytes}
@@ -6,9 +6,7 @@ use Rattle.rkyv_index.proofs.ListSteps.{above_zero, one_pushed}
 use Rattle.rkyv_index.proofs.set.ArchivedIndexSet.deserialize_items.Goals as goal
 
 pub returns-in_err-list : goal.returns-in_err-list
-returns-in_err-list g c =
-    let p = err_from_is_err_and c.from_residual.result c.from_residual.ensures.1 in
-    rw (p.1, p.2) (inl (refl, above_zero c.len.result _ c.len.ensures (λ is_zero. let ok = c.in_err-list.ensures.succeeds is_zero in absurd cc)))
+returns-in_err-list g c = grind (arith, err_from_is_err_and, above_zero)
 
 pub loop-index-preserved : goal.loop-index-preserved
 loop-index-preserved g c =

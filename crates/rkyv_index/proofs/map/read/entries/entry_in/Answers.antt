@@ -1,7 +1,7 @@
-use Rattle.std.proofs.Common.{◌∙◌, ap}
+use Rattle.std.proofs.lemmas.Grind.{common_steps}
+use Rattle.std.proofs.Common.{arith}
 use Rattle.rkyv_base.specs.{entry_spec}
 use Rattle.rkyv_base.specs.Lemmas.Entry.{entry_element}
-use Rattle.rkyv_index.specs.{entry_at}
 use Rattle.rkyv_index.proofs.Checking.{view_there}
 use Rattle.rkyv_index.proofs.ValidIndexMap.{entry_viewable}
 use Rattle.rkyv_index.proofs.map.read.entries.entry_in.Goals as goal
@@ -15,9 +15,7 @@ at-requires g c =
     rw (c.entry_pos-at.ensures, c.size.ensures, c.requires.begin) there
 
 pub returns-clause-at : goal.returns-clause-at
-returns-clause-at g c =
-    let i = c.args.index in
-    (c.at.ensures.0, c.at.ensures.1 ∙ c.entry_pos-at.ensures ∙ ap (λ n. entry_at n c.args.begin i) c.size.ensures ∙ ap (λ q. entry_at (entry_spec g.K.HasSpec.spec g.V.HasSpec.spec).size q i) c.requires.begin)
+returns-clause-at g c = grind (arith, common_steps)
 
 pub returns-clause-viewable : goal.returns-clause-viewable
 returns-clause-viewable g c =

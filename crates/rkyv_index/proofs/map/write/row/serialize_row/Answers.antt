@@ -11,12 +11,7 @@ pub push_reserved-requires : goal.push_reserved-requires
 push_reserved-requires g c = grind (arith, common_steps, parts_count, length-take)
 
 pub returns-in_err-resolver : goal.returns-in_err-resolver
-returns-in_err-resolver g c =
-    let m = c.loop-value.invariant.appended in
-    let there = slice_get_read c.args.values.now _ c.loop-value.value-index c.value-item.result refl c.loop-value-test.true c.value-item.is in
-    let p = err_from_is_err_and c.from_residual.result c.from_residual.ensures.1 in
-    rw (p.1, p.2) (step_fails g.U.Archive.format c.args.values.now c.loop-value.value-index c.value-item.result there (g.S.Writer.output c.args.serializer.now) (g.S.Writer.output c.loop-value.serializer) m.0 c.loop-value.resolvers.items m.1 m.2
-    g.W.Width.LIMIT (g.S.Writer.output c.serialize.new.serializer) c.in_err-resolver.field-0.0 m.3 c.in_err-resolver.ensures)
+returns-in_err-resolver g c = grind (arith, slice_get_read, err_from_is_err_and, step_fails)
 
 pub loop-value-preserved : goal.loop-value-preserved
 loop-value-preserved g c =
