@@ -1,16 +1,10 @@
 -- A list of pairs is extended, and the archive of its first pairs is unchanged.
-use Rattle.std.proofs.Common.{arith, ◌≡◌, ℕ, ◌≤◌, Option, Some, None, refl, ap}
+use Rattle.std.proofs.Common.{arith, ◌≡◌, ℕ, ◌≤◌, Option}
 use Rattle.std.proofs.lemmas.Grind.{common_steps}
 use Rattle.std.specs.Option.{ForSome, option_map}
 use Rattle.rkyv_dict.specs.declared.dict.Stored.{Stored}
 use Rattle.rkyv_dict.specs.declared.form.ArchiveWidth.{ArchiveWidth}
 use Rattle.rkyv_dict.specs.{Pairs, State, archived_of, take_pairs}
-
-built_kept : (old new : Pairs) (most : ℕ) (built_len : Option ℕ) → ForSome built_len (λ n. n ≤ most)
-    → ((n : ℕ) → n ≤ most → take_pairs n new ≡ take_pairs n old)
-    → option_map (λ n. take_pairs n new) built_len ≡ option_map (λ n. take_pairs n old) built_len
-built_kept old new most None h same = refl
-built_kept old new most (Some n) h same = ap Some (same n (h n refl))
 
 pub pair_put : (bits : ArchiveWidth) (factor : ℕ × ℕ) (old new after : Pairs) (most : ℕ) (archive : Option Stored) → ForSome archive (λ a. ForSome a.built_len (λ n. n ≤ most))
     → ((n : ℕ) → n ≤ most → take_pairs n new ≡ take_pairs n old) → new ≡ after
