@@ -79,11 +79,7 @@ unfolding byte_words
 words_join a b h =
     let m = length a / 8 in
     let n = length b / 8 in
-    let count : length (a ++ b) / 8 ≡ m + n = omega (arith, length-append a b) in
-    let left : whole_words a m ++ rest_words a ≡ whole_words a m = ap (λ r. whole_words a m ++ r) (rest_none a h) ∙ append-nil (whole_words a m) in
-    (λ i. (ap (whole_words (a ++ b)) count ∙ whole_join a b m n (omega arith)) i ++ rest_join a b h i)
-    ∙ append_assoc (whole_words a m) (whole_words b n) (rest_words b)
-    ∙ ap (λ x. x ++ (whole_words b n ++ rest_words b)) (sym left)
+    grind (arith, common_steps, length-append a b, rest_none a h, append-nil (whole_words a m), whole_join a b m n (omega arith), append_assoc (whole_words a m) (whole_words b n) (rest_words b), rest_join)
 
 pub writes_join : WritesJoin
 writes_join sizes state a b whole = sym (ap (hash_words state) (words_join a b whole) ∙ fold-append hash_word state (byte_words a) (byte_words b))

@@ -31,11 +31,7 @@ unfolding bits_after
 after_some m k l ne =
     let mask : bit_at 65278 k ≡ 1 = later_bit k l ∙ ap (λ b. cond b 0 1) (ne_eqb (k % 8) 0 ne) in
     let n = m * 2 ^ 1 in
-    let low : bit_at (n % 2 ^ 16) k ≡ bit_at n k = sym (bit_at_cat_low (n / 2 ^ 16) 16 (n % 2 ^ 16) k l) ∙ ap (λ x. bit_at x k) (shr_split n 16) in
-    let e : k ≡ suc (k - 1) = omega arith in
-    let half : n / 2 ≡ m = omega arith in
-    let moved : bit_at n k ≡ bit_at m (k - 1) = ap (bit_at n) e ∙ bit_at-suc n (k - 1) ∙ ap (λ x. bit_at x (k - 1)) half in
-    omega (arith, bit_at_and (n % 2 ^ 16) 65278 k, mask, low, moved, bit_at-lt (n % 2 ^ 16) k)
+    grind (arith, common_steps, bit_at_cat_low (n / 2 ^ 16) 16 (n % 2 ^ 16) k l, shr_split n 16, bit_at-suc n (k - 1), bit_at_and (n % 2 ^ 16) 65278 k, bit_at-lt (n % 2 ^ 16) k)
 
 two : (a : ℕ) → a < 2 → (a ≡ 0) ⊎ (a ≡ 1)
 two a l = elim (cases_eq a 0) [ inl z ↦ inl z | inr nz ↦ inr (omega arith) ]
@@ -62,15 +58,7 @@ module _ (xs : List ℕ) (t equal next : ℕ) (marks_byte : MarksEqual xs t equa
   chain_step : (n m : ℕ) → Chains xs t n m → Chains xs t (suc n) (bit_or equal (bit_and (bits_after m) next))
   chain_step n m before k l h = elim (cases_eq (k % 8) 0) [
     | inl z ↦ chain_base m k l (omega arith)
-    | inr nz ↦
-        let some = after_some m k l nz in
-        let e : bit_at (bit_or equal (bit_and (bits_after m) next)) k ≡ max (bit_at equal k) (min (bit_at m (k - 1)) (bit_at next k)) =
-        bit_at_or equal (bit_and (bits_after m) next) k ∙ ap (max (bit_at equal k)) (bit_at_and (bits_after m) next k ∙ ap (λ x. min x (bit_at next k)) some) in
-        let a = marks_byte k l in
-        let b = marks_next k l in
-        let c = before (k - 1) (omega arith) (omega arith) in
-        ap (λ x. eqb x 1) e ∙ or_mark (bit_at equal k) (bit_at next k) (bit_at m (k - 1)) (bit_at-lt equal k) (bit_at-lt next k) (bit_at-lt m (k - 1))
-        ∙ (λ i. a i || (b i && c i)) ∙ sym (half_next xs t k nz)
+    | inr nz ↦ grind (arith, common_steps, after_some, bit_at_or, bit_at_and, or_mark, bit_at-lt, half_next)
   ]
 
   pub chain_is : (n : ℕ) → Chains xs t n (chain equal next n)
@@ -90,10 +78,7 @@ none_marked : (xs : List ℕ) (t : ℕ) → ((k : ℕ) → k < 16 → eqb (slice
 none_marked xs t none zero k l h = half_first xs t k (omega arith) ∙ none k l
 none_marked xs t none (suc n) k l h = elim (cases_eq (k % 8) 0) [
   | inl z ↦ half_first xs t k z ∙ none k l
-  | inr nz ↦
-      let a = none k l in
-      let b = none_marked xs t none n (k - 1) (omega arith) (omega arith) in
-      half_next xs t k nz ∙ (λ i. a i || (eqb (slice_index xs k) (bit_xor t 1) && b i)) ∙ and-false (eqb (slice_index xs k) (bit_xor t 1))
+  | inr nz ↦ grind (arith, common_steps, half_next xs t k nz, and-false (eqb (slice_index xs k) (bit_xor t 1)), none_marked xs t none n (k - 1) (omega arith) (omega arith))
 ]
 
 -- if no byte is equal, no index is marked

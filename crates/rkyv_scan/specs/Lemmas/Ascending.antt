@@ -1,5 +1,6 @@
 -- The indices of every mask ascend.
-use Rattle.std.proofs.Common.{ℕ, ◌+◌, Bool, List, arith}
+use Rattle.std.proofs.lemmas.Grind.{common_steps}
+use Rattle.std.proofs.Common.{ℕ, Bool, List, arith}
 use Rattle.std.specs.List.{range_with_len}
 use Rattle.std.specs.List.Sorted.{IsStrictlyIncreasing}
 use Rattle.std.proofs.lemmas.List.FromFn.{get_or-range_with_len, length-range_with_len}
@@ -9,11 +10,7 @@ use Rattle.rkyv_scan.specs.{flag_indices, indices_where, mask_indices}
 range_ascends : (a n : ℕ) → IsStrictlyIncreasing (range_with_len a n)
 range_ascends a n k h =
     let count = length-range_with_len a n in
-    omega (
-      arith,
-      get_or-range_with_len a n k 0 (omega arith),
-      get_or-range_with_len a n (k + 1) 0 (omega arith),
-    )
+    grind (arith, common_steps, get_or-range_with_len)
 
 pub indices_ascend : (test : ℕ → Bool) (n : ℕ) → IsStrictlyIncreasing (indices_where test n)
 unfolding indices_where

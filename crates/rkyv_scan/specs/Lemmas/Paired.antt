@@ -1,5 +1,6 @@
 -- Lemmas: groups of sixteen control bytes, whose halves are matched as groups of eight.
-use Rattle.std.specs.Prelude.{◌≡◌, ℕ, ◌+◌, ◌*◌, ◌/◌, ◌%◌, ◌<◌, List, slice_index, take, drop}
+use Rattle.std.proofs.lemmas.Grind.{common_steps}
+use Rattle.std.specs.Prelude.{◌≡◌, ℕ, ◌+◌, ◌*◌, ◌/◌, ◌%◌, ◌<◌, List, slice_index, drop}
 use Rattle.std.proofs.Common.{arith, refl, sym, ◌∙◌, ap, get_or-take, get_or-drop}
 use Rattle.rkyv_scan.specs.{IsKind, half_of, is_half_match_at, is_word_match_at, paired_kind}
 use Rattle.rkyv_scan.specs.Lemmas.KindLaws.{word_lawful}
@@ -13,10 +14,7 @@ half_at s k =
 -- the match at index `j` of the half that has index `k`
 pub half_lower : (s : List ℕ) (t k j : ℕ) → j < 8
     → is_half_match_at s t (k / 8 * 8 + j) ≡ is_word_match_at (half_of s k) t j
-half_lower s t k j l =
-    let e : (k / 8 * 8 + j) / 8 * 8 ≡ k / 8 * 8 = omega arith in
-    let f : (k / 8 * 8 + j) % 8 ≡ j = omega arith in
-    λ i. is_word_match_at (take 8 (drop (e i) s)) t (f i)
+half_lower s t k j l = grind (arith, common_steps)
 
 pub paired_lawful : IsKind paired_kind
 paired_lawful = record {
@@ -24,6 +22,5 @@ paired_lawful = record {
   equal = λ s t k l h. word_lawful.equal (half_of s k) t (k % 8) (omega arith) (half_at s k ∙ h);
   full = λ s t k l h. omega (arith, half_at s k, word_lawful.full (half_of s k) t (k % 8) l h);
   lowest = λ s t k h low. sym (half_at s k)
-      ∙ word_lawful.lowest (half_of s k) t (k % 8) h (λ j l. sym (half_lower s t k j (omega arith))
-      ∙ low (k / 8 * 8 + j) (omega arith));
+      ∙ word_lawful.lowest (half_of s k) t (k % 8) h (λ j l. grind (arith, common_steps, half_lower s t k j (omega arith)));
 }

@@ -1,4 +1,5 @@
-use Rattle.std.proofs.Common.{◌∙◌, ap, bit_and, sym}
+use Rattle.std.proofs.lemmas.Grind.{common_steps}
+use Rattle.std.proofs.Common.{◌∙◌, ap, bit_and, sym, arith}
 use Rattle.rkyv_scan.proofs.Paired.{chain_equal, chain_is, chained_indices, none_equal}
 use Rattle.rkyv_scan.proofs.simd.paired.GroupGroupKind.match_byte.Goals as goal
 
@@ -18,5 +19,4 @@ returns-then-after-next-eq0 c =
 pub returns : goal.returns
 returns c =
     let xs = c.args.self.both.lanes in
-    rw (c.of_bits-2.ensures, c.chained.ensures)
-    (chained_indices xs c.args.byte _ (chain_is xs c.args.byte c.equal_bits-equal.result c.equal_bits-next.result c.equal_bits-equal.ensures c.equal_bits-next.ensures 7))
+    grind (arith, common_steps, chain_is xs c.args.byte c.equal_bits-equal.result c.equal_bits-next.result c.equal_bits-equal.ensures c.equal_bits-next.ensures 7, chained_indices)
