@@ -36,10 +36,7 @@ some_marked p xs long some =
     let pos : 0 < m = omega arith in
     let l : length (map p xs) ≡ 8 = length-map xs p ∙ long in
     let small : m < 2 ^ 8 = subst (λ n. m < 2 ^ n) l (mask_l-lt (map p xs)) in
-    let below = bit_at-trailing_zeros w8 m pos small in
-    let e = trailing_mask_l p 8 xs (omega arith) pos in
-    let f = trailing_mask_l p 64 xs (omega arith) pos in
-    position_is p xs (count_trailing_zeros 64 m) (sym f) (omega (arith, below.0, e, f))
+    grind (arith, common_steps, bit_at-trailing_zeros w8 m pos small, trailing_mask_l p 8 xs (omega arith) pos, trailing_mask_l p 64 xs (omega arith) pos, position_is)
 
 -- `ys`: part of `xs` from `at` on
 pub record IsStretch (xs ys : List ℕ) (at : ℕ) : Type 0 where
@@ -54,8 +51,7 @@ both_below p xs ys at n s le before here k l =
     ⊎_elim (λ (b : k < at). before k b)
     (λ (g : at ≤ k).
     let d : at + (k - at) ≡ k = omega arith in
-    let e : get_or ys (k - at) 0 ≡ get_or xs k 0 = s.same (k - at) (omega arith) ∙ ap (λ i. get_or xs i 0) d in
-    ap p (sym e) ∙ here (k - at) (omega arith))
+    grind (arith, common_steps))
     (cases_lt k at)
 
 -- the first element that passes is in a part, and none passes before it

@@ -1,11 +1,11 @@
 -- Writing a root, step by step: the parts, the zeros and the value.
 use Rattle.std.specs.Prelude.{◌≡◌, ℕ, ◌+◌, ◌-◌, ◌%◌, ◌≤◌, List, [], ◌++◌, length}
-use Rattle.std.proofs.Common.{arith, subst, sym, ◌∙◌, ap, inl, inr, length-append, append_assoc, rules}
+use Rattle.std.proofs.Common.{arith, subst, ◌∙◌, ap, inl, inr, length-append, append_assoc, rules}
 use Rattle.std.proofs.lemmas.Grind.{common_steps}
 use Rattle.std.proofs.lemmas.List.{append-nil, length-replicate, take_all}
 use Rattle.rkyv_base.specs.declared.errors.WriteError.{WriteError}
 use Rattle.rkyv_base.specs.declared.errors.WriteError.TheVariants.{DistanceTooLarge}
-use Rattle.rkyv_base.specs.{Appends, ArchiveOf, ElementSpec, Format, IsElement, IsFormat, IsValidArchive, OccursAt, Only, Output, RootBytes, RootNext, ValidAt, Within, WriteFails, WriteRootFails, WroteRoot, end_of, fresh, padding, piece, round_up, zeros}
+use Rattle.rkyv_base.specs.{Appends, ArchiveOf, ElementSpec, Format, IsElement, IsFormat, IsValidArchive, OccursAt, Only, Output, RootBytes, RootNext, Within, WriteFails, WriteRootFails, WroteRoot, end_of, fresh, padding, piece, round_up, zeros}
 use Rattle.rkyv_base.specs.Lemmas.Bytes.{occurs_back, occurs_front}
 use Rattle.rkyv_base.specs.Lemmas.ElementSpec.{valid_at}
 use Rattle.rkyv_base.specs.Lemmas.Entry.{round_up-multiple}
@@ -32,9 +32,7 @@ module _ (F : Type 0) {V R : Type 0} (limit : ℕ) (s : ElementSpec) (f : Format
   pub root_align_fails : (e : WriteError F) → WriteFails limit (Only (piece (zeros (padding s.align (end_of o1))))) o1 o2 e → WriteRootFails limit s f v o o2 e
   root_align_fails e t =
       fails_after limit (RootNext s f v (end_of o)) (Only (piece (zeros (padding s.align (end_of o1))))) o o1 o2 part e a inside
-      (λ front step h.
-      let k : part ++ front ≡ part = ap (λ (x : List ℕ). part ++ x) h.0 ∙ append-nil part in
-      rw k (inr (inr (inl (r, made, h.1 ∙ ap piece same_zeros))))) t
+      (λ front step h. grind (arith, common_steps, append-nil, same_zeros)) t
 
   pub root_append_fails : (out : List ℕ) (e : WriteError F) → ZerosAppended → f.image v r (end_of o2) out
       → WriteFails limit (Only (piece out)) o2 o3 e → WriteRootFails limit s f v o o3 e
@@ -61,22 +59,11 @@ module _ {V R : Type 0} (limit : ℕ) (s : ElementSpec) (laws : IsElement s) (re
       let k : 0 + length bytes - 0 ≡ length bytes = omega arith in
       let all : OccursAt bytes 0 bytes = record { inside = omega arith; there = rw k (take_all (length bytes) bytes (omega arith)) } in
       let d = root_sound v bytes 0 root bytes b all in
-      let at : root ≡ length bytes - s.size = omega (arith, d.5) in (
-        record {
-          within = small;
-          inside = omega (arith, d.5);
-          aligned = subst (λ n. n % s.align ≡ 0) at d.6;
-          valid = subst (λ n. ValidAt s bytes n) at (valid_at s laws bytes root 0 d.0 d.1 d.3 d.4 d.2);
-        },
-        subst (λ n. represents bytes n v) at d.7,
-        at,
-      )
+      grind (arith, valid_at)
 
   -- the archive of one value, written from position 0
   pub archive_made : (v : V) (o' : Output) (b : List ℕ) (root : ℕ) → WroteRoot limit s f v fresh o' root → b ≡ o'.bytes → ArchiveOf limit s represents f v b
   archive_made v o' b root w e =
       let same : b ≡ w.0 = e ∙ w.1.bytes in
       let small : length w.0 ≤ limit = omega (arith, w.3, w.1.start, ap length w.1.bytes) in
-      let d = root_accepted v w.0 root w.2 small in
-      let rb : RootBytes s.align f v 0 w.0 (length w.0 - s.size) = subst (λ n. RootBytes s.align f v 0 w.0 n) d.2 w.2 in
-      subst (λ x. ArchiveOf limit s represents f v x) (sym same) (d.0, d.1, rb)
+      grind (arith, common_steps, root_accepted v w.0 root w.2 small)

@@ -1,5 +1,5 @@
 -- Inline text in upper case: no other byte changes, and the text stays valid.
-use Rattle.std.specs.Prelude.{◌≡◌, ℕ, ◌+◌, ◌-◌, ◌≤◌, ◌==◌, ◌&&◌, Bool, true, false, nat_le, nat_lt, List, [], ◌∷◌, ◌++◌, length, map, take, drop}
+use Rattle.std.specs.Prelude.{◌≡◌, ℕ, ◌+◌, ◌-◌, ◌≤◌, ◌==◌, ◌&&◌, Bool, true, false, nat_le, nat_lt, List, [], ◌∷◌, ◌++◌, length, map, drop}
 use Rattle.std.specs.Char.{to_ascii_uppercase}
 use Rattle.std.specs.Int.{Width}
 use Rattle.std.specs.Str.{IsUtf8}
@@ -52,15 +52,7 @@ module _ (w : Width) (b : List ℕ) (p : ℕ) (inside : p + text_size w ≤ leng
       let n : ℕ = text_size w in
       let t : List ℕ = inline_at w b p in
       let k : ℕ = length t in
-      let m : length (map to_ascii_uppercase t) ≡ k = length-map t to_ascii_uppercase in
-      let o : k ≤ n = inline_length in
-      let rest : drop p (with_uppercase w b p) ≡ map to_ascii_uppercase t ++ drop (p + k) b = with_bytes-rest b p k (map to_ascii_uppercase t) (omega arith) m in
-      let e : (p + n) - p ≡ k + (n - k) = omega arith in
-      let e' : (p + n) - p ≡ length (map to_ascii_uppercase t) + (n - k) = omega arith in
-      let back : drop k (fixed_bytes w b p) ≡ take (n - k) (drop (p + k) b) =
-      ap (λ (j : ℕ). drop k (take j (drop p b))) e ∙ drop-take k (n - k) (drop p b) ∙ ap (take (n - k)) (drop-drop k p b) in
-      ap (take ((p + n) - p)) rest ∙ ap (λ (j : ℕ). take j (map to_ascii_uppercase t ++ drop (p + k) b)) e'
-      ∙ take-append-add (map to_ascii_uppercase t) (drop (p + k) b) (n - k) ∙ ap (λ (l : List ℕ). map to_ascii_uppercase t ++ l) (sym back)
+      grind (arith, common_steps, length-map t to_ascii_uppercase, drop-take k (n - k) (drop p b), drop-drop k p b, take-append-add (map to_ascii_uppercase t) (drop (p + k) b) (n - k), inline_length, with_bytes-rest)
 
   inline_stays : IsInline w b p → IsInline w (with_uppercase w b p) p
   inline_stays h = ap is_out_of_line fixed_uppercase ∙ form_uppercase (fixed_bytes w b p) ∙ h

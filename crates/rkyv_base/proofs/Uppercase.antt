@@ -3,7 +3,7 @@ use Rattle.std.proofs.lemmas.Grind.{common_steps}
 use Rattle.std.specs.Prelude.{◌≡◌, ℕ, ◌≤◌, true, List, [], ◌∷◌, map}
 use Rattle.std.specs.Char.{to_ascii_uppercase}
 use Rattle.std.specs.Str.{IsUtf8}
-use Rattle.std.proofs.Common.{refl, arith, sym}
+use Rattle.std.proofs.Common.{refl, arith}
 use Rattle.std.proofs.Math.Utf8.{encode, encodes, scalar, scalars}
 use Rattle.std.proofs.lemmas.Bool.{and_parts, cases_lt, cond_both, ltb-true}
 use Rattle.std.proofs.lemmas.List.{map-append}
@@ -37,10 +37,7 @@ chars_uppercase : (cs : List ℕ) → scalars cs ≡ true
 chars_uppercase [] h = (refl, refl)
 chars_uppercase (c ∷ cs) h =
     let both : (scalar c ≡ true) × (scalars cs ≡ true) = and_parts (scalar c) (scalars cs) h in
-    let rest = chars_uppercase cs both.1 in (
-      rw (scalar_uppercase c both.0) rest.0,
-      rw (← char_uppercase c, rest.1) (sym (map-append to_ascii_uppercase (encode c) (encodes cs))),
-    )
+    grind (arith, common_steps, scalar_uppercase, char_uppercase, map-append, chars_uppercase cs both.1)
 
 pub utf8_uppercase : (t : List ℕ) → IsUtf8 t → IsUtf8 (map to_ascii_uppercase t)
 utf8_uppercase t u = grind (arith, common_steps, chars_uppercase u.0 u.1.0)

@@ -1,6 +1,6 @@
 -- Lemmas: numbers and lists of bytes at a position of an archive.
 use Rattle.std.specs.Prelude.{◌≡◌, ℕ, ◌+◌, ◌-◌, ◌≤◌, List, ◌++◌, length, drop, slice_range}
-use Rattle.std.proofs.Common.{arith, sym, ◌∙◌, length-append}
+use Rattle.std.proofs.Common.{arith, length-append}
 use Rattle.std.proofs.lemmas.Grind.{common_steps}
 use Rattle.std.proofs.lemmas.List.{drop-drop, drop-take, take-take, take_all}
 use Rattle.std.proofs.Math.Seq.{drop-append_seam, take-append_seam}
@@ -33,32 +33,26 @@ agree_on_part b c i j i' j' hi hj hij s =
 pub occurs_front : (c : List ℕ) (p : ℕ) (x y : List ℕ) → OccursAt c p (x ++ y) → OccursAt c p x
 occurs_front c p x y s =
     let n : length (x ++ y) ≡ length x + length y = length-append x y in
-    record {
-      inside = omega (arith, s.inside);
-      there =
-          let cut = slice_of_slice c p (p + length (x ++ y)) p (p + length x) (omega arith)
-          (omega arith) (omega arith) in
-          let k : (p + length x) - p ≡ length x = omega arith in
-          let z : p - p ≡ 0 = omega arith in
-          let z0 : length x - 0 ≡ length x = omega arith in
-          sym cut ∙ rw (s.there, k, z, z0) (take-append_seam x y);
-    }
+    grind (
+      arith,
+      common_steps,
+      slice_of_slice c p (p + length (x ++ y)) p (p + length x) (omega arith) (omega arith)
+          (omega arith),
+      take-append_seam x y,
+    )
 
 pub occurs_back : (c : List ℕ) (p : ℕ) (x y : List ℕ) → OccursAt c p (x ++ y)
     → OccursAt c (p + length x) y
 occurs_back c p x y s =
     let n : length (x ++ y) ≡ length x + length y = length-append x y in
-    record {
-      inside = omega (arith, s.inside);
-      there =
-          let cut = slice_of_slice c p (p + length (x ++ y)) (p + length x)
-          (p + length x + length y) (omega arith) (omega arith) (omega arith) in
-          let k : (p + length x) - p ≡ length x = omega arith in
-          let m : (p + length x + length y) - p ≡ length x + length y = omega arith in
-          let z : (length x + length y) - length x ≡ length y = omega arith in
-          sym cut ∙ rw (s.there, k, m, z, drop-append_seam x y)
-          (take_all (length y) y (omega arith));
-    }
+    grind (
+      arith,
+      common_steps,
+      slice_of_slice c p (p + length (x ++ y)) (p + length x) (p + length x + length y)
+          (omega arith) (omega arith) (omega arith),
+      drop-append_seam x y,
+      take_all (length y) y (omega arith),
+    )
 
 -- a middle part of bytes in an archive
 pub occurs_third : (c : List ℕ) (p : ℕ) (x y z w : List ℕ) → OccursAt c p ((x ++ y) ++ (z ++ w))

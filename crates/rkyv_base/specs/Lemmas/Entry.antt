@@ -1,6 +1,6 @@
 -- Lemmas: the entry of a key and a value: the key, zeros up to the value's alignment, the value,
 -- and zeros up to the greater alignment.
-use Rattle.std.specs.Prelude.{◌≡◌, ℕ, ◌+◌, ◌%◌, ◌<◌, ◌≤◌, max, List, length}
+use Rattle.std.specs.Prelude.{◌≡◌, ℕ, ◌+◌, ◌%◌, ◌<◌, ◌≤◌, List, length}
 use Rattle.std.proofs.lemmas.Bool.{cases_lt}
 use Rattle.std.proofs.lemmas.Bool.Decides.{nat_tests}
 use Rattle.std.specs.Coded.{le_prop, ×_prop}
@@ -102,21 +102,14 @@ module _ (k v : ElementSpec) (kl : IsElement k) (vl : IsElement v) where
       let al = max_align k.align v.align kl.align_is vl.align_is in
       record {
         align_is = al;
-        size_whole = size_multiple (whole_size k v) (max k.align v.align) al
-            (round_up-multiple (value_offset k v + v.size) (max k.align v.align) al);
+        size_whole = grind (arith, common_steps, size_multiple, round_up-multiple);
         size_small = size_of_any (whole_size k v);
         proper = entry_prop;
         rest_in_range = entry_between;
         rest_unique = entry_one;
         exclusive = entry_exclusive;
         one_failure = entry_one_failure;
-        widen_hi = λ b p lo hi hi' l o h. (
-          h.0,
-          h.1,
-          kl.widen_hi b p lo hi hi' h.1 o h.2,
-          vl.widen_hi b
-              (p + value_offset k v) h.1 hi hi' l o h.3,
-        );
+        widen_hi = grind (arith, common_steps);
         lower_lo = entry_lower;
         local = entry_local;
       }
@@ -137,11 +130,12 @@ module _ (k v : ElementSpec) (kl : IsElement k) (vl : IsElement v) where
       let lie = key_and_value_lie b p h in
       let x : (0 ≤ h.valid.1.1) × (h.valid.1.1 ≤ p) =
       kl.rest_in_range b p 0 p h.valid.1.1 (omega arith) h.valid.1.2 in
-      record {
-        inside = lie.0;
-        aligned = sum_multiple p (value_offset k v) v.align vl.align_is lie.2
-            (round_up-multiple k.size v.align vl.align_is);
-        valid =
-            valid_at v vl b (p + value_offset k v) h.valid.1.1 p h.valid.0 x.1 (omega arith)
-            h.valid.1.3;
-      }
+      grind (
+        arith,
+        common_steps,
+        sum_multiple p (value_offset k v) v.align vl.align_is lie.2
+            (round_up-multiple k.size v.align vl.align_is),
+        round_up-multiple k.size v.align vl.align_is,
+        valid_at v vl b (p + value_offset k v) h.valid.1.1 p h.valid.0 x.1 (omega arith)
+            h.valid.1.3,
+      )

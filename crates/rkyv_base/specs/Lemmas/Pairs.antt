@@ -1,7 +1,7 @@
 -- Lemmas: the format of pairs: the key's parts and the value's parts, followed by the key,
 -- zeros, the value and zeros.
 use Rattle.std.specs.Prelude.{◌≡◌, ℕ, ◌+◌, ◌-◌, ◌%◌, ◌≤◌, max, List, ◌++◌, length}
-use Rattle.std.proofs.Common.{arith, subst, ◌∙◌, ap, inl, inr, length-append}
+use Rattle.std.proofs.Common.{arith, subst, ◌∙◌, ap, inl, inr, length-append, rules}
 use Rattle.std.proofs.lemmas.Grind.{common_steps}
 use Rattle.std.proofs.lemmas.List.{length-replicate}
 use Rattle.rkyv_base.specs.declared.pairs.EntryResolver.{EntryResolver}
@@ -28,10 +28,7 @@ module _ {V W : Type 0} (k v : ElementSpec) (kl : IsElement k) (vl : IsElement v
   pub pair_local : RepresentsLocally k key → RepresentsLocally v value
       → RepresentsLocally (entry_spec k v) (PairRepresents k v key value)
   pair_local kn vn pair b c p lo hi l o h fixed part st =
-      let s = same_parts k v kl vl b c p lo hi l o h fixed part in (
-        kn pair.0 b c p lo hi h.1 o h.2 s.key s.key_parts st.0,
-        vn pair.1 b c (p + value_offset k v) h.1 hi l s.room h.3 s.value s.value_parts st.1,
-      )
+      let s = same_parts k v kl vl b c p lo hi l o h fixed part in grind arith
 
 module _ {V W R Q : Type 0} (k v : ElementSpec) (kl : IsElement k) (vl : IsElement v)
     (key : List ℕ → ℕ → V → Type 0) (value : List ℕ → ℕ → W → Type 0) (kf : Format V R)
@@ -64,16 +61,9 @@ module _ {V W R Q : Type 0} (k v : ElementSpec) (kl : IsElement k) (vl : IsEleme
       simp (length-append, length-replicate) (omega (arith, i.0)) in
       let als : (p % k.align ≡ 0) × (p % v.align ≡ 0) =
       multiple_of_max p k.align v.align kl.align_is vl.align_is al in
-      let alv : (p + off) % v.align ≡ 0 =
-      sum_multiple p off v.align vl.align_is als.1
-      (round_up-multiple k.size v.align vl.align_is) in
-      let tk : OccursAt c p g.1 = occurs_front c p g.1 (zeros (off - length g.1))
-      (occurs_front c p (g.1 ++ zeros (off - length g.1))
-      (g.2 ++ zeros ((whole - off) - length g.2)) tp) in
-      let tv : OccursAt c (p + off) g.2 =
-      subst (λ n. OccursAt c (p + n) g.2) n1
-      (occurs_third c p g.1 (zeros (off - length g.1)) g.2
-      (zeros ((whole - off) - length g.2)) tp) in
+      let alv : (p + off) % v.align ≡ 0 = search (rules, sum_multiple, round_up-multiple) in
+      let tk : OccursAt c p g.1 = grind (arith, common_steps, occurs_front) in
+      let tv : OccursAt c (p + off) g.2 = grind (arith, common_steps, occurs_third) in
       let dk = kw.sound pair.0 r.key c p0 p h.1 g.1 h.3 g.3 (occurs_front c p0 h.1 h.2 sp) tk
       (omega arith) als.0 in
       let dv = vw.sound pair.1 r.value c (p0 + length h.1) (p + off) h.2 g.2 h.4 g.4
@@ -82,9 +72,7 @@ module _ {V W R Q : Type 0} (k v : ElementSpec) (kl : IsElement k) (vl : IsEleme
       kl.rest_in_range c p p0 (p0 + length h.1) dk.0 (omega arith) dk.1 in
       let hk : k.is_valid c p p0 (p0 + length part) dk.0 =
       kl.widen_hi c p p0 (p0 + length h.1) (p0 + length part) dk.0 (omega arith) dk.1 in
-      let hv : v.is_valid c (p + off) (p0 + length h.1) (p0 + length part) dv.0 =
-      vl.widen_hi c (p + off) (p0 + length h.1) (p0 + length h.1 + length h.2) (p0 + length part)
-      dv.0 (omega arith) dv.1 in
+      let hv : v.is_valid c (p + off) (p0 + length h.1) (p0 + length part) dv.0 = grind arith in
       let lv = vl.lower_lo c (p + off) (p0 + length h.1) dk.0 (p0 + length part) dv.0 bk.1
       (omega arith) hv in
       (lv.0, (h.0, dk.0, hk, lv.1), (dk.2, dv.2))

@@ -54,10 +54,7 @@ module _ {V : Type 0} (e : Encoding V) (word : IsWord e.word) where
     one_failure = λ b p lo hi error error' f f'. f.0 ∙ sym f'.0;
     widen_hi = λ b p lo hi hi' l o h. h;
     lower_lo = λ b p lo lo' hi l o o' h. (lo', (refl, h.1), omega (arith, h.0));
-    local = λ b c p lo hi l o same part h. (
-      h.0,
-      subst (λ s. e.IsCode (from_le_bytes e.word s)) same h.1,
-    );
+    local = grind (arith, common_steps);
   }
 
 module _ {V : Type 0} (s : ElementSpec) (e : Encoding V) (laws : IsScalar s e) where
@@ -71,8 +68,7 @@ module _ {V : Type 0} (s : ElementSpec) (e : Encoding V) (laws : IsScalar s e) w
 
   pub scalar_is_format : IsFormat s (ScalarRepresents e) (scalar_format e)
   scalar_is_format = record {
-    size_exact = λ v r p out i. ap length i.bytes ∙ word_bytes e.word laws.word (e.code v)
-        ∙ sym laws.size;
+    size_exact = grind (arith, common_steps, word_bytes);
     exclusive = λ v r p out i f. f;
     sound = λ v r c p0 p part out h i s t o al.
         let n : number_at e.word c p ≡ e.code v = number_sits v out c p i t in (

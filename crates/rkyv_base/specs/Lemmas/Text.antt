@@ -8,7 +8,7 @@ use Rattle.std.proofs.Common.{refl, arith, subst, sym, ◌∙◌, inl, inr, rule
 use Rattle.std.proofs.lemmas.Grind.{common_steps}
 use Rattle.std.proofs.Props.{props}
 use Rattle.rkyv_base.specs.declared.errors.VerifyError.{VerifyError}
-use Rattle.rkyv_base.specs.{AgreeOn, IsAlign, IsArchiveWord, IsElement, IsValidInline}
+use Rattle.rkyv_base.specs.{AgreeOn, IsArchiveWord, IsElement, IsValidInline}
 use Rattle.rkyv_base.specs.{IsValidOutOfLine, IsValidText, OutOfLineFails, PartIn}
 use Rattle.rkyv_base.specs.{RepresentsLocally, TextFails, TextReads, Viewable, fixed_bytes}
 use Rattle.rkyv_base.specs.{inline_text, is_out_of_line, out_of_line_begin, out_of_line_length}
@@ -139,8 +139,7 @@ module _ (w : Width) where
 
   reads_local : (s b c : List ℕ) (p lo hi l : ℕ) (t : List ℕ) → IsValidText w s b p lo hi l
       → AgreeOn b c lo l → text_of w s b p ≡ t → text_of w s c p ≡ t
-  reads_local s b c p lo hi l t (inl h) part e = inline_reads s c p h.0
-      ∙ sym (inline_reads s b p h.0) ∙ e
+  reads_local s b c p lo hi l t (inl h) part e = grind (arith, common_steps, inline_reads)
   reads_local s b c p lo hi l t (inr h) part e =
       out_of_line_reads s c p h.2 h.0 h.3.begins ∙ sym (same_text s b c p lo hi l part h)
       ∙ sym (out_of_line_reads s b p h.2 h.0 h.3.begins) ∙ e
@@ -177,8 +176,7 @@ module _ (w : Width) where
 module _ (w : Width) (kind : IsArchiveWord w) where
   pub text_element : IsElement (text_spec w)
   text_element = record {
-    align_is = by_archive_word (λ v. IsAlign (byte_len v)) (inr (inr (inl refl)))
-        (inr (inr (inr refl))) w kind;
+    align_is = grind (arith, common_steps, by_archive_word);
     size_whole = by_archive_word (λ v. text_size v % byte_len v ≡ 0) refl refl w kind;
     size_small = by_archive_word (λ v. text_size v ≤ 1073741824) (omega arith) (omega arith) w kind;
     proper = λ b p lo hi l. text_prop w (fixed_bytes w b p) b p lo hi l;

@@ -1,9 +1,8 @@
 -- Lemmas: the format of text: inline, filled up with ff, if it fits in the fixed bytes,
 -- and else in one piece out of line.
 use Rattle.std.specs.Prelude.{FitsSigned, List, [], false, get_or, length, nat_le, nat_lt, pos}
-use Rattle.std.specs.Prelude.{replicate, slice_range, take, true, ℕ, ℤ, ◌&&◌, ◌++◌, ◌+ℤ◌, ◌+◌}
+use Rattle.std.specs.Prelude.{replicate, slice_range, true, ℕ, ℤ, ◌&&◌, ◌++◌, ◌+ℤ◌, ◌+◌}
 use Rattle.std.specs.Prelude.{◌-ℤ◌, ◌-◌, ◌<◌, ◌==◌, ◌∷◌, ◌≡◌, ◌≤◌}
-use Rattle.std.specs.List.{position_or_len}
 use Rattle.std.specs.Int.{Width, byte_len}
 use Rattle.std.specs.Str.{IsUtf8}
 use Rattle.rkyv_base.specs.declared.strings.TextResolver.{TextResolver}
@@ -44,26 +43,17 @@ inline_ends : (size : ℕ) (t : List ℕ) → IsUtf8 t → inline_text (inline_b
 inline_ends size t u =
     let fill : List ℕ = replicate (size - length t) 255 in
     let below : (k : ℕ) → k < length t → (get_or (t ++ fill) k 0 == 255) ≡ false =
-    λ k h. let small : get_or t k 0 < 255 = text_below t u k 0 h in
-    rw (get_or-append t fill 0 k h) (grind (arith, nat_tests)) in
-    let here : length t < length (t ++ fill) → (get_or (t ++ fill) (length t) 0 == 255) ≡ true =
-    λ h.
-    let z : length t - length t ≡ 0 = omega arith in
-    let more : 0 < size - length t = omega (
+    grind (arith, common_steps, text_below, get_or-append, nat_tests) in
+    grind (
       arith,
+      common_steps,
       length-append t fill,
-      length-replicate {A = ℕ} (size - length t) 255,
-    ) in
-    rw (
       get_or-append_right t fill (length t) 0 (omega arith),
-      z,
-      get_or-replicate {A = ℕ}
-          (size - length t) 0 255 0 more,
-    ) refl in
-    let at : position_or_len (λ x. x == 255) (t ++ fill) ≡ length t =
-    position_or_len_is (λ x. x == 255) (t ++ fill) (length t) 0
-    (omega (arith, length-append t fill)) below here in
-    ap (λ (n : ℕ). take n (t ++ fill)) at ∙ take-append_seam t fill
+      take-append_seam t fill,
+      length-replicate,
+      get_or-replicate,
+      position_or_len_is,
+    )
 
 -- a byte of the form 10xxxxxx
 out_of_line_byte : (x : ℕ) → 128 ≤ x → x < 192 → (nat_le 128 x && nat_lt x 192) ≡ true
@@ -123,10 +113,9 @@ module _ (w : Width) (kind : IsArchiveWord w) where
       → fixed_bytes w c p ≡ inline_bytes (text_size w) t
       → (l : ℕ) × IsValidText w (fixed_bytes w c p) c p lo hi l × TextReads w c p t
   inline_sound t c p lo hi u fixed =
-      let inline : is_out_of_line (fixed_bytes w c p) ≡ false = ap is_out_of_line fixed
-      ∙ inline_form (text_size w) t sizes.0 u in
-      let text : inline_text (fixed_bytes w c p) ≡ t = ap inline_text fixed
-      ∙ inline_ends (text_size w) t u in (
+      let inline : is_out_of_line (fixed_bytes w c p) ≡ false =
+      grind (arith, common_steps, inline_form, sizes) in
+      let text : inline_text (fixed_bytes w c p) ≡ t = grind (arith, common_steps, inline_ends) in (
         lo,
         inl (inline, subst IsUtf8 (sym text) u, refl),
         inline_reads w (fixed_bytes w c p) c p inline ∙ text,
@@ -142,22 +131,13 @@ module _ (w : Width) (kind : IsArchiveWord w) where
       let s : List ℕ = fixed_bytes w c p in
       let out_of_line : is_out_of_line s ≡ true =
       ap is_out_of_line fixed ∙ out_of_line_first w kind (length t) d in
-      let len : out_of_line_length w s ≡ length t = ap (out_of_line_length w) fixed
-      ∙ length_reads w kind (length t) d long.1 in
-      let distance : signed_at w s (byte_len w) ≡ d =
-      ap (λ (x : List ℕ). signed_at w x (byte_len w)) fixed
-      ∙ distance_reads w kind (length t) d fits in
-      let begins : pos p0 ≡ out_of_line_begin w s p = add_distance p p0
-      ∙ ap (λ (z : ℤ). pos p +ℤ z) (sym distance) in
+      let len : out_of_line_length w s ≡ length t = grind (arith, length_reads) in
+      let distance : signed_at w s (byte_len w) ≡ d = grind (arith, distance_reads) in
+      let begins : pos p0 ≡ out_of_line_begin w s p = grind (arith, common_steps, add_distance) in
       let text : slice_range c p0 (p0 + out_of_line_length w s) ≡ t =
       ap (λ (n : ℕ). slice_range c p0 (p0 + n)) len ∙ sits.there in
       let part : PartIn (out_of_line_begin w s p) (out_of_line_length w s) 1 p0 (p0 + length t) p0 =
-      record {
-        begins = begins;
-        above = omega arith;
-        below = omega (arith, len);
-        aligned = omega arith;
-      } in (
+      grind (arith, common_steps) in (
         p0 + out_of_line_length w s,
         inr (out_of_line, omega (arith, len, long.0), p0, part, subst IsUtf8 (sym text) u, refl),
         out_of_line_reads w s c p p0 out_of_line begins ∙ text,
@@ -178,12 +158,7 @@ module _ (w : Width) (kind : IsArchiveWord w) where
   text_sound t r c p0 p part out (u, inr h) (inr (inl i)) s fixed =
       let fits : FitsSigned w (pos p0 -ℤ pos p) =
       subst (λ q. FitsSigned w (pos q -ℤ pos p)) h.2 i.1 in
-      let same : fixed_bytes w c p ≡ out_of_line_bytes w (length t) (pos p0 -ℤ pos p) =
-      subst (λ q. fixed_bytes w c p ≡ out_of_line_bytes w (length t) (pos q -ℤ pos p)) h.2 (fixed
-      ∙ i.2) in
-      subst (λ x. (l : ℕ) × IsValidText w (fixed_bytes w c p) c p p0 (p0 + length x) l
-      × TextReads w c p t) (sym h.1)
-      (out_of_line_sound t c p p0 u h.0 fits (subst (OccursAt c p0) h.1 s) same)
+      grind (arith, out_of_line_sound)
 
   -- a written text is valid, and represents the text
   pub text_is_format : IsFormat (text_spec w) (TextReads w) (text_format w)

@@ -22,5 +22,6 @@ paired_lawful = record {
   equal = λ s t k l h. word_lawful.equal (half_of s k) t (k % 8) (omega arith) (half_at s k ∙ h);
   full = λ s t k l h. omega (arith, half_at s k, word_lawful.full (half_of s k) t (k % 8) l h);
   lowest = λ s t k h low. sym (half_at s k)
-      ∙ word_lawful.lowest (half_of s k) t (k % 8) h (λ j l. grind (arith, common_steps, half_lower s t k j (omega arith)));
+      ∙ word_lawful.lowest (half_of s k) t (k % 8) h
+      (λ j l. grind (arith, common_steps, half_lower s t k j (omega arith)));
 }
