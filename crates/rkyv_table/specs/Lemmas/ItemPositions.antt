@@ -99,22 +99,11 @@ module _ (w : Width) (s : ElementSpec) (law : IsElement s) (b : List ℕ) (p lo 
       subst (λ (xs : List ℕ). slice_index xs i
       < 128) (decoded_controls w s.size b p t.begin decoded) walked.1 in
       let above = t.part.above in
-      let ends = all_between s law (bucket_at s.size t.begin cap) b t.begin
-      (walk (controls_at s.size b t.begin cap) cap) lo t.is.last above t.is.items in
-      let one =
-      bucket_is_valid_within s law b t.begin cap lo t.is.last i above t.is.items walked.0 full in
-      let u = bucket_inside s.size t.begin cap i walked.0 in
-      let e = t.ends in
-      subst (λ q. IsValidWithin s b q lo t.begin t.begin × (t.begin ≤ q)
-      × (q + s.size ≤ l)) (sym (decoded_item w s.size b p t.begin decoded i walked.0)) (
-        record {
-          lower = one.lower;
-          rest = one.rest;
-          above = one.above;
-          below = one.below;
-          ends = omega (arith, one.ends, ends.1);
-          is_valid = one.is_valid;
-        },
-        u.0,
-        omega (arith, u.1, e),
+      grind (
+        arith,
+        common_steps,
+        all_between s law (bucket_at s.size t.begin cap) b t.begin (walk (controls_at s.size b t.begin cap) cap) lo t.is.last above t.is.items,
+        bucket_is_valid_within s law b t.begin cap lo t.is.last i above t.is.items walked.0 full,
+        bucket_inside s.size t.begin cap i walked.0,
+        decoded_item w s.size b p t.begin decoded i walked.0,
       )

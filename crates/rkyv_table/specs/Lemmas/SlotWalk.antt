@@ -1,15 +1,15 @@
 -- Lemmas: the full buckets of a written table are the slots that have an item.
-use Rattle.std.proofs.Common.{arith, refl, sym, ◌∙◌, ap, inl, inr, get_or, zero}
+use Rattle.std.proofs.lemmas.Grind.{common_steps}
+use Rattle.std.proofs.Common.{arith, refl, sym, ◌∙◌, ap, inl, inr, zero}
 use Rattle.std.proofs.lemmas.Bool.{cases_Bool, eqb-true, le-ltb, lt-ltb, not-false}
 use Rattle.std.proofs.lemmas.List.{get_or_default}
-use Rattle.std.proofs.lemmas.List.Elements.{All-get_or}
 use Rattle.std.proofs.lemmas.List.Folds.{Any-from_list_any}
 use Rattle.std.proofs.lemmas.Option.{none-some, same_Some, slice_get_within}
 use Rattle.std.specs.List.{list_any, range_with_len}
-use Rattle.std.specs.Prelude.{◌≡◌, ℕ, suc, ◌+◌, ◌^◌, ◌<◌, List, [], ◌∷◌, Bool, true, false, eqb}
+use Rattle.std.specs.Prelude.{◌≡◌, ℕ, suc, ◌+◌, ◌<◌, List, [], ◌∷◌, Bool, true, false, eqb}
 use Rattle.std.specs.Prelude.{None, Option, Some, filter, length, slice_get, slice_index}
 use Rattle.rkyv_scan.specs.{is_full}
-use Rattle.rkyv_table.specs.{ArePlaced, filled, filled_from, hashes_of, is_free, items_of, walk}
+use Rattle.rkyv_table.specs.{ArePlaced, filled, filled_from, is_free, items_of, walk}
 
 pub filled_count : {X : Type 0} (b : ℕ) (ss : List (Option X))
     → length (filled_from b ss) ≡ filled ss
@@ -87,19 +87,17 @@ module _ {X : Type 0} (cap : ℕ) (pairs : List (ℕ × X)) (slots : List (Optio
 
   filled_slot : (b : ℕ) (x : X) → slice_get slots b ≡ Some (Some x)
       → is_full (slice_index controls b) ≡ true
-  filled_slot b x e = elim (cases_Bool (is_free p.homes b)) [
-    | inl free ↦ absurd (none-some x
-        (same_Some None (Some x) (sym (p.slotted.others b (below b (Some x) e) free) ∙ e)))
-    | inr taken ↦
-        let h = home_of p.homes b taken in
-        let n = p.written.placed.count in
-        let i : h.0 < length (hashes_of pairs) = omega (arith, h.1, n) in
-        let t = p.written.tags h.0 i in
-        let f : get_or (hashes_of pairs) h.0 0 < 2 ^ 64 =
-        All-get_or (λ v. v < 2 ^ 64) (hashes_of pairs) h.0 0 i p.hashes in
-        let c = ap (slice_index controls) h.2 in
-        lt-ltb (slice_index controls b) 128 (omega (arith, t, f, c))
-  ]
+  filled_slot b x e =
+      grind (
+        arith,
+        common_steps,
+        cases_Bool,
+        none-some,
+        same_Some,
+        below,
+        home_of,
+        lt-ltb,
+      )
 
   -- a walk over the control bytes visits the slots with items
   pub walk_filled : walk controls cap ≡ filled_from 0 slots
