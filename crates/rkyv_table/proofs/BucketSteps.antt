@@ -67,12 +67,7 @@ module _ {X R : Type 0} (size limit : ℕ) (f : Format X R) (slots : List (Optio
             refl,
           );
           all = d.all ∙ ap (λ (y : List R). y ++ d.done) l ∙ append_assoc more (r ∷ []) d.done;
-          count = (
-              let t : filled (take (i + 1) slots) ≡ filled (take i slots) + 1 = rw (take_more slots i None q, e) (filled-append (take i slots) (Some x ∷ [])) in
-              let c = d.count in
-              let k = ap length l ∙ length_push more r in
-              omega arith
-              );
+          count = grind (arith, common_steps, take_more, filled-append, length_push);
           within = lim;
         }
 

@@ -33,11 +33,7 @@ turn a t j n h e =
     let d = div-add-mod' a n in
     let dt = div-add-mod' t n in
     let u = j + (n - a % n) in
-    let du = div-add-mod' u n in
-    let s : a + t + u / n * n ≡ (a / n + t / n + 1) * n + j = omega arith in
-    let m = add-mul-mod_self_right (a + t) (u / n) n in
-    let m' = mod-mul-add (a / n + t / n + 1) n j h in
-    sym m ∙ ap (λ z. z % n) s ∙ m'
+    grind (arith, common_steps, div-add-mod' u n, add-mul-mod_self_right (a + t) (u / n) n, mod-mul-add (a / n + t / n + 1) n j h)
 
 -- the converse
 unturn : (a t u n : ℕ) → 0 < n → (a + t) % n ≡ (a + u) % n → t % n ≡ u % n
@@ -48,11 +44,7 @@ unturn a t u n pos e =
     let f = λ (z : ℕ). (let m = add-mul-mod_self_right z (a / n + 1) n in
     let s : a + z + b ≡ z + (a / n + 1) * n = omega arith in
     ap (λ w. w % n) s ∙ m) in
-    let ft : (a + t + b) % n ≡ t % n = f t in
-    let fu : (a + u + b) % n ≡ u % n = f u in
-    let p = mod-add-mod (a + t) n b in
-    let p' = mod-add-mod (a + u) n b in
-    sym ft ∙ sym p ∙ ap (λ w. (w + b) % n) e ∙ p' ∙ fu
+    grind (arith, common_steps, mod-add-mod (a + t) n b, mod-add-mod (a + u) n b)
 
 -- each residue is that of exactly one index
 index_hit : (s n j : ℕ) → j < 2 ^ n → (k : ℕ) × (k < 2 ^ n) × (probe_index s (16 * 2 ^ n) k ≡ 16 * j + s % 16)
@@ -92,9 +84,7 @@ has_index s m n x e h =
     (λ t. let u = eqb-true (x % 16) (s % 16) t in
     let j : x / 16 < 2 ^ n = omega arith in
     let w = index_hit s n (x / 16) j in
-    let a = any_map_range f (2 ^ n) w.0 w.1 in
-    let k : f w.0 ≡ x = w.2 ∙ omega arith in
-    rw k at a) in
+    grind (arith, common_steps, any_map_range f (2 ^ n) w.0 w.1)) in
     rw (len, e) goal
 
 distinct_indices : (s m n : ℕ) → m ≡ 16 * 2 ^ n → IsDistinct eqb (indices s m)
@@ -130,10 +120,7 @@ count_strides h cap pos =
     ∙ same_tests (ltb q (probe_capacity cap) && eqb (q % 16) s) (list_any (eqb q) xs)
     (λ t. let u = and_parts (ltb q (probe_capacity cap)) (eqb (q % 16) s) t in
     let a = ltb-true q (probe_capacity cap) u.0 in
-    let b = eqb-true (q % 16) s u.1 in
-    let m = any_map_range f n (q / 16) (omega arith) in
-    let e : 16 * (q / 16) + s ≡ q = omega arith in
-    rw e at m)
+    grind (arith, common_steps, eqb-true (q % 16) s u.1, any_map_range f n (q / 16) (omega arith)))
     (λ t. let w = from_map_range f n q t in
     and_from (ltb q (probe_capacity cap)) (eqb (q % 16) s) (lt-ltb q (probe_capacity cap) (omega arith)) (eq-eqb (q % 16) s (omega arith))))
     ∙ l

@@ -1,11 +1,12 @@
 -- A lookup in a written table.
-use Rattle.std.proofs.Common.{◌≡◌, ℕ, ◌∙◌, ◌<◌, ◌^◌, inl, inr, refl, ap, arith, Bool, List, length}
+use Rattle.std.proofs.lemmas.Grind.{common_steps}
+use Rattle.std.proofs.Common.{◌≡◌, ℕ, ◌∙◌, ◌<◌, ◌^◌, inl, inr, refl, ap, arith, Bool, List}
 use Rattle.std.specs.Int.{Width}
 use Rattle.std.specs.List.{find}
 use Rattle.std.specs.Option.{option_map}
 use Rattle.std.proofs.lemmas.List.{get_or-map}
 use Rattle.rkyv_scan.specs.{IsKind, Kind}
-use Rattle.rkyv_table.specs.{IsUnderHash, WrittenAt, cap_at, found, home_positions, item_at, len_at, pos_found, table_controls}
+use Rattle.rkyv_table.specs.{IsUnderHash, WrittenAt, cap_at, found, home_positions, item_at, pos_found, table_controls}
 use Rattle.rkyv_table.proofs.Written.{found_first}
 
 module _ (kind : Kind) (law : IsKind kind) (w : Width) (size : ℕ) (b : List ℕ) (p hash : ℕ) where
@@ -14,10 +15,7 @@ module _ (kind : Kind) (law : IsKind kind) (w : Width) (size : ℕ) (b : List �
   pub first_found : hash < 2 ^ 64 → (hashes homes : List ℕ) (accept : ℕ → Bool) → WrittenAt w b p hashes homes
       → IsUnderHash hash hashes (home_positions w size b p homes) accept → pos_found kind w size b p hash accept ≡ find accept (home_positions w size b p homes)
   first_found fits hashes homes accept written under = elim written.placed [
-    | inl none ↦
-        let count = written.count in
-        let z : len_at w b p ≡ 0 = count ∙ ap length none.0 in
-        rw (z, none.1) refl
+    | inl none ↦ grind (arith, common_steps)
     | inr placed ↦
         let at : ℕ → ℕ = item_at w size b p in
         let n = placed.1.placed.count in

@@ -1,5 +1,5 @@
 -- Placing: the first empty index of a stride, and the first of all strides.
-use Rattle.std.proofs.Common.{◌≡◌, ℕ, zero, suc, ◌+◌, ◌*◌, ◌-◌, ◌%◌, ◌<◌, ◌≤◌, ◌⊎◌, inl, inr, refl, sym, ap, ◌∙◌, arith, List, [], ◌∷◌, Bool, true, false, ◌&&◌, eqb, leb, ltb, get_or, take, drop, filter, Option, Some, None}
+use Rattle.std.proofs.Common.{◌≡◌, ℕ, zero, suc, ◌+◌, ◌*◌, ◌-◌, ◌%◌, ◌<◌, ◌≤◌, ◌⊎◌, inl, inr, refl, sym, ap, ◌∙◌, arith, List, [], ◌∷◌, Bool, true, false, ◌&&◌, eqb, leb, ltb, get_or, take, drop, filter, Option, Some, None, rules}
 use Rattle.std.proofs.lemmas.Grind.{common_steps}
 use Rattle.std.specs.List.{find, flat_map, list_any, range_with_len, slice_get}
 use Rattle.std.specs.Option.{option_map}
@@ -35,13 +35,7 @@ more_indices controls g p i w r e none is =
     let a = i * w in
     let len : (i + 1) * w ≡ a + w = omega arith in
     let s = find_shift (is_empty_at controls) (λ j. leb 128 (get_or g j 0)) (p + a) 0 w (λ j lo hi. rw (same_control controls g (p + a) w j e (omega arith)) refl) in
-    let z : p + a + 0 ≡ p + a = omega arith in
-    let s' = rw z at s in
-    let r' = is ∙ head_filter (λ j. leb 128 (get_or g j 0)) (range_with_len 0 w) in
-    ap (λ n. find (is_empty_at controls) (range_with_len p n)) len
-    ∙ ap (find (is_empty_at controls)) (range_append p a w)
-    ∙ find-append (is_empty_at controls) (range_with_len p a) (range_with_len (p + a) w)
-    ∙ rw none (s' ∙ ap (option_map (λ j. p + a + j)) (sym r'))
+    grind (arith, common_steps, head_filter, range_append, find-append)
 
 pub whole_stride : (P : ℕ → Bool) (p n q : ℕ) → n ≤ 16 → find P (range_with_len p n) ≡ Some q → find P (range_with_len p 16) ≡ Some q
 whole_stride P p n q le h = grind (arith, common_steps, range_append p n (16 - n), find-append P (range_with_len p n) (range_with_len (p + n) (16 - n)))
@@ -91,13 +85,7 @@ some_shown h cap controls p q b r hb fb hp lp started e =
           (let t = same_test cap controls q' pos r w.1 (omega arith) ∙ ap (is_empty_at controls) w.2 ∙ fb in
           let less : q' < q = omega (arith, w.1) in
           both_ways (is_empty_at controls q') (f.no q' l less) t) in
-          absurd (elim w.3 [
-            | inl u ↦ here u.0 u.1
-            | inr u ↦ elim started [
-              | inl none ↦ both_ways (is_empty_at controls b) (ap (is_empty_at controls) (sym w.2) ∙ taken_at (is_empty_at controls) cap (start h cap) q' none u.0 u.1 w.1) fb
-              | inr s ↦ let u0 = u.0 in let u1 = u.1 in here (omega arith) (omega arith)
-            ]
-          ])
+          grind (arith, both_ways, taken_at)
     ] in (
       two,
       find_buckets (is_empty_at controls) cap p
@@ -118,9 +106,7 @@ free_probed h cap free b hb fb =
     let p = v.0 in
     let q = v.1 in
     let t = and_from (ltb q (2 * cap)) (free (q % cap)) (lt-ltb q (2 * cap) v.5) (ap free v.6 ∙ fb) in
-    let a = any_range (λ q. ltb q (2 * cap) && free (q % cap)) p 16 q v.3 v.4 t in
-    let m = any_map_filter free (λ q. ltb q (2 * cap)) (λ q. q % cap) (range_with_len p 16) in
-    any_flat_map free (buckets_at cap) (strides h cap) ∙ any_member (λ p. list_any free (buckets_at cap p)) p (strides h cap) v.2 (m ∙ a)
+    search (rules, any_range, any_map_filter, any_flat_map, any_member)
 
 -- ---- steps of the walk over the strides
 

@@ -78,9 +78,7 @@ more_candidates kind controls g cap t p i pos e =
     ∙ ap (λ x. kind.marks (take w (drop (p + x * w) controls)) t ((i * w + j) % w)) q
     ∙ ap (λ x. kind.marks (take w (drop (p + i * w) controls)) t x) r
     ∙ ap (λ x. kind.marks x t j) (sym e)) in
-    let z : p + a + 0 ≡ p + a = omega arith in
-    let s' = rw z at s in
-    rw (len, range_append p a w, filter-append, map-append, s', map_map) refl
+    grind (arith, range_append, filter-append, map-append, map_map)
 
 -- a control byte of a group is one of the control bytes
 pub same_control : (controls g : List ℕ) (q w j : ℕ) → g ≡ take w (drop q controls) → j < w → get_or g j 0 ≡ get_or controls (q + j) 0
@@ -93,9 +91,7 @@ more_empty controls g p i w e =
     let a = i * w in
     let len : (i + 1) * w ≡ a + w = omega arith in
     let s = any_shift (λ q. leb 128 (get_or controls q 0)) (λ j. leb 128 (get_or g j 0)) (p + a) 0 w (λ j lo hi. rw (same_control controls g (p + a) w j e (omega arith)) refl) in
-    let z : p + a + 0 ≡ p + a = omega arith in
-    let s' = rw z at s in
-    rw (len, range_append p a w, list_any-append, s') refl
+    grind (arith, common_steps, range_append, list_any-append)
 
 -- a list with a kept element has one that passes
 any_kept : (P : ℕ → Bool) (xs : List ℕ) → 0 < length (filter P xs) → list_any P xs ≡ true
@@ -125,23 +121,13 @@ unfolding candidates_in candidates
 found_whole kind controls cap t p n b accept le h =
     let m = marked kind controls t p in
     let e : 16 ≡ n + (16 - n) = omega arith in
-    let cut : map (λ q. q % cap) (filter m (range_with_len p (n + (16 - n)))) ≡ map (λ q. q % cap) (filter m (range_with_len p n)) ++ map (λ q. q % cap) (filter m (range_with_len (p + n) (16 - n))) =
-    ap (λ xs. map (λ q. q % cap) (filter m xs)) (range_append p n (16 - n))
-    ∙ ap (map (λ q. q % cap)) (filter-append m (range_with_len p n) (range_with_len (p + n) (16 - n)))
-    ∙ map-append (λ q. q % cap) (filter m (range_with_len p n)) (filter m (range_with_len (p + n) (16 - n))) in
-    ap (λ z. find accept (map (λ q. q % cap) (filter m (range_with_len p z)))) e
-    ∙ ap (find accept) cut
-    ∙ find-append accept (map (λ q. q % cap) (filter m (range_with_len p n))) (map (λ q. q % cap) (filter m (range_with_len (p + n) (16 - n))))
-    ∙ rw h refl
+    grind (arith, common_steps, range_append p n (16 - n), filter-append m (range_with_len p n) (range_with_len (p + n) (16 - n)), map-append, find-append)
 
 -- the width of a group divides sixteen
 pub width_divides : (kind : Kind) → IsKind kind → 16 % kind.width ≡ 0
 width_divides kind law =
     let k = law.power.0 in
-    let small = law.power.1 in
-    let s : 4 - k + k ≡ 4 = omega arith in
-    let e : 2 ^ (4 - k) * 2 ^ k ≡ 16 = sym (pow-add 2 (4 - k) k) ∙ ap (λ z. 2 ^ z) s in
-    rw law.power.2 (ap (λ z. z % 2 ^ k) (sym e) ∙ mul-mod_left (2 ^ (4 - k)) (2 ^ k))
+    grind (arith, common_steps, pow-add 2 (4 - k) k, mul-mod_left (2 ^ (4 - k)) (2 ^ k))
 
 pub width_small : (kind : Kind) → IsKind kind → kind.width ≤ 16
 width_small kind law = rw law.power.2 (pow_mono {i = law.power.0} {j = 4} law.power.1)

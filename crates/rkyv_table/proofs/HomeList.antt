@@ -40,10 +40,7 @@ homes_one_list cap hashes xs p = grind (arith, common_steps, front_homes, take_a
 next_home : (cap h : ℕ) (taken : List ℕ) → length taken < cap → (b : ℕ) × (find (is_free taken) (probed h cap) ≡ Some b)
 next_home cap h taken room =
     let f = free_bucket cap taken room in
-    elim (cases_option (find (is_free taken) (probed h cap))) [
-      | inl none ↦ absurd (both_ways (list_any (is_free taken) (probed h cap)) (none_find (is_free taken) (probed h cap) none) (free_probed h cap (is_free taken) f.0 f.1 f.2))
-      | inr some ↦ some
-    ]
+    grind (arith, common_steps, cases_option (find (is_free taken) (probed h cap)), free_probed h cap (is_free taken) f.0 f.1 f.2, both_ways, none_find)
 
 front_exist : (cap : ℕ) (hashes : List ℕ) → length hashes < cap → (i : ℕ) → i ≤ length hashes → AreHomes cap (take i hashes) (homes cap (take i hashes))
 front_exist cap hashes room zero h = record { count = refl; first = λ i l. absurd (omega arith) }
@@ -89,11 +86,4 @@ written_one_list cap hashes xs controls pos w =
     let n = control_count cap in
     let count = w.wrapped.count in
     let l = length-map-range_with_len f 0 n in
-    ext_get_or 0 controls (map f (range_with_len 0 n)) (omega arith) (λ q h.
-    let hq : q < n = omega arith in
-    let e = get_or-map-range_with_len f 0 n q q 0 hq (omega arith) in
-    let at : get_or controls q 0 ≡ f q = elim (cases_lt q (2 * cap)) [
-      | inl two ↦ rw (lt-ltb q (2 * cap) two) (control_of cap controls q pos w.wrapped two hq ∙ bucket_is cap hashes xs controls (q % cap) w (mod_below q cap pos))
-      | inr past ↦ rw (le-ltb q (2 * cap) past) (w.past q past hq)
-    ] in
-    at ∙ sym e)
+    ext_get_or 0 controls (map f (range_with_len 0 n)) (omega arith) (λ q h. grind (arith, common_steps, cases_lt q (2 * cap), bucket_is cap hashes xs controls (q % cap) w (mod_below q cap pos), mod_below q cap pos, get_or-map-range_with_len, lt-ltb, control_of, le-ltb))

@@ -39,11 +39,7 @@ any_map_range f n i h = grind (arith, common_steps, get_or-map-range_with_len f 
 pub from_map_range : (f : ℕ → ℕ) (n x : ℕ) → list_any (eqb x) (map f (range_with_len 0 n)) ≡ true → (i : ℕ) × (i < n) × (f i ≡ x)
 from_map_range f n x h =
     let a = Any-from_list_any (eqb x) (map f (range_with_len 0 n)) h in
-    let l = length-map-range_with_len f 0 n in
-    let lt : a.0 < n = omega arith in
-    let e = get_or-map-range_with_len f 0 n a.0 a.0 a.1 lt (omega arith) in
-    let t = eqb-true x a.1 a.4 in
-    (a.0, lt, sym e ∙ a.3 ∙ sym t)
+    grind (arith, common_steps, length-map-range_with_len, get_or-map-range_with_len, eqb-true)
 
 -- the numbers from `k` on are `k` and those from `k + 1` on
 pub range_cons : (k n : ℕ) → k < n → range_with_len k (n - k) ≡ k ∷ range_with_len (k + 1) (n - (k + 1))
@@ -65,12 +61,7 @@ distinct_filter p (x ∷ xs) h = let ih = distinct_filter p xs h.1 in
 pub distinct_map_range : (f : ℕ → ℕ) (n : ℕ) → ((i j : ℕ) → i < n → j < n → f i ≡ f j → i ≡ j) → IsDistinct eqb (map f (range_with_len 0 n))
 distinct_map_range f n inj =
     let l = length-map-range_with_len f 0 n in
-    IsDistinct-from_apart eqb (map f (range_with_len 0 n)) (λ i j d ij h.
-    let hj : j < n = omega arith in
-    let hi : i < n = omega arith in
-    let ei = get_or-map-range_with_len f 0 n i i d hi (omega arith) in
-    let ej = get_or-map-range_with_len f 0 n j j d hj (omega arith) in
-    rw (ei, ej) (ne_eqb (f i) (f j) (λ e. let s = inj i j hi hj e in omega arith)))
+    IsDistinct-from_apart eqb (map f (range_with_len 0 n)) (λ i j d ij h. grind (arith, common_steps, get_or-map-range_with_len, ne_eqb))
 
 -- ---- tests of some element
 
@@ -106,11 +97,7 @@ pub in_range : (n q : ℕ) → list_any (eqb q) (range_with_len 0 n) ≡ true �
 in_range n q m =
     let l = length-range_with_len 0 n in
     let w = Any-from_list_any (eqb q) (range_with_len 0 n) m in
-    let lt : w.0 < n = omega arith in
-    let g = get_or-range_with_len 0 n w.0 w.1 lt in
-    let e = eqb-true q w.1 w.4 in
-    let s = w.3 in
-    omega arith
+    grind (arith, common_steps, get_or-range_with_len, eqb-true)
 
 -- ---- the first that passes
 

@@ -1,5 +1,6 @@
 -- The steps of a lookup over the strides, which ends in valid control bytes.
-use Rattle.std.proofs.Common.{◌≡◌, ℕ, suc, ◌+◌, ◌*◌, ◌/◌, ◌%◌, ◌^◌, ◌<◌, ◌≤◌, inl, inr, refl, sym, ap, ◌∙◌, arith, List, [], ◌∷◌, Bool, true, false, not, eqb, leb, ltb, length, get_or, filter, take, drop, get_or-take, get_or-drop, Some, None}
+use Rattle.std.proofs.Common.{rules}
+use Rattle.std.proofs.Common.{◌≡◌, ℕ, suc, ◌+◌, ◌*◌, ◌/◌, ◌%◌, ◌^◌, ◌<◌, ◌≤◌, inl, inr, refl, sym, ap, ◌∙◌, arith, List, [], ◌∷◌, Bool, true, false, not, eqb, ltb, length, get_or, filter, take, drop, get_or-take, get_or-drop, Some, None}
 use Rattle.std.proofs.lemmas.Grind.{common_steps}
 use Rattle.std.specs.List.{Contains, find, list_any, position_or_len, range_with_len}
 use Rattle.std.proofs.lemmas.List.FromFn.{get_or-range_with_len, length-range_with_len}
@@ -48,11 +49,7 @@ empty_bucket cap len controls a =
     elim (cases_Bool (list_any (λ x. not (P x)) (range_with_len 0 cap))) [
       | inl t ↦
           let w = Any-from_list_any (λ x. not (P x)) (range_with_len 0 cap) t in
-          let lt : w.0 < cap = omega arith in
-          let g = get_or-range_with_len 0 cap w.0 w.1 lt in
-          let e : w.1 ≡ w.0 = sym w.3 ∙ g ∙ omega arith in
-          let f = ltb-false (get_or controls w.1 0) 128 (not-true (P w.1) w.4) in
-          (w.1, omega arith, f)
+          grind (arith, common_steps, get_or-range_with_len, ltb-false, not-true)
       | inr f ↦ let e = full_filter P (range_with_len 0 cap) f in absurd (omega arith)
     ]
 
@@ -69,9 +66,7 @@ ends_somewhere kind controls cap len h t accept a =
     let lp = ltb-true p (probe_capacity cap) below in
     let k = control_of cap controls q pos a.wrapped v.5 (omega arith) in
     let e : 128 ≤ get_or controls q 0 = rw (k, v.6) w.2 in
-    let s = any_range (λ q. leb 128 (get_or controls q 0)) p 16 q v.3 v.4 (le-leb 128 (get_or controls q 0) e) in
-    let d = or_right (list_any accept (candidates kind controls cap t p)) (stride_has_empty controls p) s in
-    first_within (ends_at kind controls cap t accept) (strides h cap) (any_member (ends_at kind controls cap t accept) p (strides h cap) v.2 d)
+    search (rules, any_range, le-leb, or_right, first_within, any_member)
 
 -- a full control byte of a stride is that of a full bucket
 pub stride_full : (cap len : ℕ) (controls stride : List ℕ) (p q : ℕ) → AreValidControls cap len controls → p < probe_capacity cap → q < 16 → stride ≡ take 16 (drop p controls) → get_or stride q 0 < 128
@@ -98,11 +93,7 @@ end_within kind controls cap len h accept a = elim (cases_eq len 0) [
   | inl z ↦ rw (eq-eqb len 0 z) (omega arith)
   | inr n ↦
       let b = a (omega arith) in
-      let room = b.room in
-      let e = end_is kind controls cap len h accept n in
-      let s = ends_somewhere kind controls cap len h (tag h) accept b in
-      let k = count_strides h cap (omega arith) in
-      omega arith
+      grind (arith, common_steps, end_is kind controls cap len h accept n, ends_somewhere kind controls cap len h (tag h) accept b, count_strides h cap (omega arith))
 ]
 
 -- the bucket of a marked index is in the walk

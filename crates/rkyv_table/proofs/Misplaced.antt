@@ -1,5 +1,5 @@
 -- Items that a lookup of their own doesn't find.
-use Rattle.std.proofs.Common.{◌≡◌, ℕ, ◌+◌, ◌%◌, ◌^◌, ◌<◌, ◌≤◌, inl, inr, refl, sym, ap, subst, ◌∙◌, arith, List, [], ◌∷◌, Bool, true, false, not, ◌&&◌, eqb, length, filter, get_or, map, take, Option, Some, get_or-take, length-take}
+use Rattle.std.proofs.Common.{◌≡◌, ℕ, ◌+◌, ◌%◌, ◌^◌, ◌<◌, ◌≤◌, inl, inr, refl, sym, ap, subst, ◌∙◌, arith, List, [], ◌∷◌, Bool, true, false, not, ◌&&◌, eqb, length, filter, get_or, map, take, Option, Some, get_or-take, length-take, rules}
 use Rattle.std.proofs.lemmas.Grind.{common_steps}
 use Rattle.std.specs.Prelude.{MatchOption}
 use Rattle.std.specs.List.{Contains, IsDistinct, find, list_any, position_or_len, range_with_len}
@@ -140,15 +140,9 @@ module _ (kind : Kind) (cap : ℕ) (hashes homes controls : List ℕ) (hash_at :
       let some : list_any Q homes ≡ true = any_member Q b homes (contains_member b homes (home_in i h)) self in
       let k = position_or_len Q homes in
       let lk : k < length homes = first_within Q homes some in
-      let ki : k ≤ i = elim (cases_lt i k) [
-        | inl less ↦ absurd (true≢false (sym self ∙ fails_before_first Q homes i 0 less))
-        | inr ge ↦ ge
-      ] in
+      let ki : k ≤ i = grind (arith, common_steps, cases_lt, true≢false, fails_before_first) in
       let e : hash_at b ≡ get_or hashes i 0 = same.hashed i h in
-      let f : found kind controls cap (length hashes) (hash_at b) Q ≡ find Q homes =
-      found_written cap (hash_at b) hashes homes controls kind Q room (rw e (fits i (omega arith))) law w fits
-      (λ j lj t. let lj' : j < length homes = omega arith in
-      sym (same.hashed j lj') ∙ sym (same.equal b (get_or homes j 0) (home_in i h) (home_in j lj') t)) in
+      let f : found kind controls cap (length hashes) (hash_at b) Q ≡ find Q homes = search (rules, found_written, home_in) in
       (k, ki, passes_at_first Q homes 0 lk, f ∙ find_at Q homes ∙ slice_get-get_or homes k 0 lk, λ j lj. fails_before_first Q homes j 0 lj)
 
   none_before : (i : ℕ) → i < length homes → ((j : ℕ) → j < i → same_at (get_or homes i 0) (get_or homes j 0) ≡ false) → repeats_earlier same_at homes i ≡ false

@@ -1,6 +1,7 @@
 -- The modulus is the least power of two that is at least the number of control bytes, and 16 times
 -- a power of two.
-use Rattle.std.proofs.Common.{◌≡◌, ℕ, zero, suc, ◌+◌, ◌*◌, ◌-◌, ◌^◌, ◌<◌, ◌≤◌, inl, inr, sym, ap, ◌∙◌, arith, zero-add, leb, get_or}
+use Rattle.std.proofs.lemmas.Grind.{common_steps}
+use Rattle.std.proofs.Common.{◌≡◌, ℕ, zero, suc, ◌+◌, ◌*◌, ◌-◌, ◌^◌, ◌<◌, ◌≤◌, inl, inr, sym, ap, ◌∙◌, arith, zero-add, leb}
 use Rattle.std.specs.List.{position_or_len, range_with_len}
 use Rattle.std.specs.Int.{IsNextPowerOfTwo}
 use Rattle.std.proofs.Math.Nat.{two-pow-succ}
@@ -23,11 +24,7 @@ reaches c =
     let l = length-range_with_len 0 c in
     let e = position_or_len p xs in
     elim (cases_lt e c) [
-      | inl a ↦ let t = passes_at_first p xs 0 (omega arith) in
-          let g = get_or-range_with_len 0 c e 0 a in
-          let t' = leb-true c (2 ^ get_or xs e 0) t in
-          let s : get_or xs e 0 ≡ e = omega arith in
-          rw s at t'
+      | inl a ↦ grind (arith, common_steps, passes_at_first p xs 0 (omega arith), get_or-range_with_len 0 c e 0 a, leb-true)
       | inr b ↦ let u = below_pow e in omega arith
     ]
 
@@ -37,15 +34,7 @@ unfolding modulus
 modulus_power cap pos =
     let c = control_count cap in
     let e = position_or_len (λ k. leb c (2 ^ k)) (range_with_len 0 c) in
-    let r = reaches c in
-    let big : 31 ≤ c = omega arith in
-    elim (cases_lt e 4) [
-      | inl a ↦ let u = pow_below e 4 a in absurd (omega arith)
-      | inr b ↦ let s = pow-add 2 4 (e - 4) in
-          let t : 4 + (e - 4) ≡ e = omega arith in
-          let s' = rw t at s in
-          (e - 4, s', r)
-    ]
+    grind (arith, common_steps, reaches c, cases_lt e 4, pow-add 2 4 (e - 4), pow_below)
 
 -- the result of `next_power_of_two`
 pub modulus_is : (cap m : ℕ) → 0 < cap → IsNextPowerOfTwo (control_count cap) m → m ≡ modulus cap

@@ -1,4 +1,5 @@
 -- A write among the parts of one of several items keeps them all.
+use Rattle.std.proofs.lemmas.Grind.{common_steps}
 use Rattle.std.proofs.Common.{◌≡◌, ◌≢◌, ℕ, zero, suc, ◌+◌, ◌-◌, ◌<◌, ◌≤◌, sym, subst, arith, inl, inr, List, [], ◌∷◌, Bool, true, false, filter}
 use Rattle.std.specs.List.{range_with_len}
 use Rattle.std.proofs.lemmas.Bool.{both_ways, cases_Bool, cases_eq, cases_lt}
@@ -61,11 +62,7 @@ module _ (s : ElementSpec) (law : IsElement s) (at : ℕ → ℕ) where
     chain_stays : (is : List ℕ) (lo l : ℕ) → lo ≤ hi → AgreeOn b c lo hi → AreValidAt s at b hi is lo l → AreValidAt s at c hi is lo l
     chain_stays [] lo l o same h = h
     chain_stays (j ∷ is) lo l o same h =
-        let k : (lo ≤ h.0) × (h.0 ≤ hi) = law.rest_in_range b (at j) lo hi h.0 o h.1 in (
-          h.0,
-          law.local b c (at j) lo hi h.0 o (fixed j) (agree_on_part b c lo hi lo h.0 (omega arith) k.1 k.0 same) h.1,
-          chain_stays is h.0 l k.1 (agree_on_part b c lo hi h.0 hi k.0 (omega arith) k.1 same) h.2,
-        )
+        let k : (lo ≤ h.0) × (h.0 ≤ hi) = law.rest_in_range b (at j) lo hi h.0 o h.1 in grind (arith, common_steps, agree_on_part, chain_stays is h.0 l k.1 (agree_on_part b c lo hi h.0 hi k.0 (omega arith) k.1 same) h.2)
 
     -- if the parts of one item were written, all items stay valid, and the bytes
     -- before all parts are the same

@@ -1,5 +1,6 @@
 -- A write among the parts of one item keeps the table.
-use Rattle.std.proofs.Common.{◌≡◌, ◌≢◌, ℕ, ◌+◌, ◌-◌, ◌*◌, ◌<◌, ◌≤◌, sym, ap, subst, ◌∙◌, arith, inl, inr, List, Bool, true, filter, slice_index, slice_range}
+use Rattle.std.proofs.lemmas.Grind.{common_steps}
+use Rattle.std.proofs.Common.{◌≡◌, ◌≢◌, ℕ, ◌+◌, ◌-◌, ◌*◌, ◌<◌, ◌≤◌, sym, subst, arith, inl, inr, List, Bool, true, filter, slice_index}
 use Rattle.std.specs.Int.{Width, byte_len}
 use Rattle.std.specs.List.{range_with_len}
 use Rattle.std.proofs.lemmas.Bool.{lt-ltb}
@@ -7,7 +8,7 @@ use Rattle.std.proofs.lemmas.Int.{ints}
 use Rattle.rkyv_base.specs.{AgreeOn, ElementSpec, IsElement, ModifiesOnly, Viewable}
 use Rattle.rkyv_base.proofs.Sealing.{sealed_wider}
 use Rattle.rkyv_scan.specs.{is_full}
-use Rattle.rkyv_table.specs.{AreValidAt, AreValidItems, IsPart, IsValidBefore, StaysAt, IsWalked, TableAt, ValidPart, WritesAmongParts, bucket_at, cap_at, control_count, controls_at, controls_pos, decode_begin, item_at, len_at, table_controls, table_spec, walk}
+use Rattle.rkyv_table.specs.{AreValidAt, AreValidItems, IsPart, IsValidBefore, StaysAt, IsWalked, TableAt, ValidPart, WritesAmongParts, bucket_at, cap_at, control_count, controls_at, decode_begin, item_at, len_at, table_controls, table_spec, walk}
 use Rattle.rkyv_table.specs.Lemmas.ItemPositions.{decoded_controls, decoded_item, decoded_pos}
 use Rattle.rkyv_table.specs.Lemmas.ValidItemLaws.{all_between}
 use Rattle.rkyv_table.specs.Lemmas.SameHeader.{begin_same, cap_same, len_same, pos_same}
@@ -101,12 +102,7 @@ module _ (w : Width) (s : ElementSpec) (law : IsElement s) (b : List ℕ) (p i :
           sealed = λ lo hi l o o' h. at_sealed lo hi l h;
         };
         header = same;
-        controls =
-            ap (λ z. slice_range c z (z + control_count (cap_at w c p))) (sym (pos_same w b c p same))
-            ∙ ap (λ n. slice_range c (controls_pos w b p) (controls_pos w b p + control_count n)) caps
-            ∙ ap (λ z. slice_range c z (z + control_count cap)) (decoded_pos w s.size b p begin whole.part.begins)
-            ∙ sym controls_same
-            ∙ sym (decoded_controls w s.size b p begin whole.part.begins);
+        controls = grind (arith, common_steps, pos_same w b c p same, decoded_pos w s.size b p begin whole.part.begins, decoded_controls w s.size b p begin whole.part.begins, whole, controls_same);
         own = subst (IsValidBefore s b) (sym (at_is i walked.0)) (own_before s law bucket_pos P b c begin cap 0 whole.is.last (omega arith) all up i walked.0 (full i walked) writes_at);
         others = λ j there ne. subst (StaysAt s b c) (sym (at_is j there.0)) (other_stays s law bucket_pos P b c begin cap 0 whole.is.last (omega arith) all up i walked.0 (full i walked) writes_at j there.0 (full j there) ne);
       }

@@ -1,5 +1,5 @@
 -- If items are written in one way alone, so are tables of them.
-use Rattle.std.proofs.Common.{◌≡◌, ℕ, ◌+◌, ◌-◌, ◌<◌, ◌∙◌, inl, inr, sym, ap, subst, arith, List, [], ◌∷◌, ◌++◌, length, slice_get, slice_index, Option, Some, None, get_or, eqb}
+use Rattle.std.proofs.Common.{◌≡◌, ℕ, ◌+◌, ◌-◌, ◌<◌, ◌∙◌, inl, inr, sym, ap, subst, arith, List, [], ◌∷◌, ◌++◌, length, slice_index, Option, Some, None, get_or, eqb}
 use Rattle.std.proofs.lemmas.Grind.{common_steps}
 use Rattle.std.specs.Int.{Width}
 use Rattle.std.specs.List.{list_any}
@@ -20,10 +20,7 @@ module _ {X R : Type 0} (f : Format X R) (one : WritesOneWay f) where
   parts_one_way (Some x ∷ ss) p part part' rs rs' h h' =
       let first = one.parts x p h.0 h'.0 h.1 h'.1 h.4 h'.4 in
       let there : SlotParts f ss (p + length h.0) h'.2 h'.3 = subst (λ (a : List ℕ). SlotParts f ss (p + length a) h'.2 h'.3) (sym first.0) h'.5 in
-      let others = parts_one_way ss (p + length h.0) h.2 h'.2 h.3 h'.3 h.5 there in (
-        h.6 ∙ ap (λ (a : List ℕ). a ++ h.2) first.0 ∙ ap (λ (b : List ℕ). h'.0 ++ b) others.0 ∙ sym h'.6,
-        h.7 ∙ ap (λ r. r ∷ h.3) first.1 ∙ ap (λ (qs : List R). h'.1 ∷ qs) others.1 ∙ sym h'.7,
-      )
+      grind (arith, common_steps, parts_one_way ss (p + length h.0) h.2 h'.2 h.3 h'.3 h.5 there)
 
   -- the buckets
   images_one_way : (size : ℕ) (ss : List (Option X)) (p z : ℕ) (part out out' : List ℕ) (rs : List R) → SlotParts f ss p part rs
@@ -56,10 +53,7 @@ module _ {X : Type 0} (cap : ℕ) (homes : List ℕ) (items : List X) where
         let c = member_contains b homes (not-false (list_any (eqb b) homes) taken) in
         let at : slice_index homes c.0 ≡ b = get_or_default homes c.0 0 b c.1 ∙ c.2 in
         elim (slice_get_cases items c.0).1 [
-          | inl e ↦
-              let here : slice_get slots b ≡ Some (Some e.0) = subst (λ k. slice_get slots k ≡ Some (Some e.0)) at (s.at c.0 e.0 e.2) in
-              let here' : slice_get slots' b ≡ Some (Some e.0) = subst (λ k. slice_get slots' k ≡ Some (Some e.0)) at (s'.at c.0 e.0 e.2) in
-              get_or_from_slice_get slots b (Some e.0) None here ∙ sym (get_or_from_slice_get slots' b (Some e.0) None here')
+          | inl e ↦ grind (arith, get_or_from_slice_get)
           | inr past ↦ absurd (omega (arith, past.0, c.1, s.items_count))
         ]
   ]

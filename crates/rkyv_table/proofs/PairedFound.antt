@@ -1,7 +1,7 @@
 -- A lookup by groups of sixteen as two halves has the result of one by groups of eight.
 use Rattle.std.proofs.lemmas.Grind.{common_steps}
-use Rattle.std.proofs.Common.{◌≡◌, ℕ, ◌+◌, ◌-◌, ◌*◌, ◌/◌, ◌%◌, ◌<◌, ◌≤◌, Bool, refl, ap, ◌∙◌, arith, List, drop, map, take}
-use Rattle.rkyv_scan.specs.{generic_kind, is_word_match_at, paired_kind}
+use Rattle.std.proofs.Common.{◌≡◌, ℕ, ◌+◌, ◌-◌, ◌*◌, ◌/◌, ◌%◌, ◌<◌, ◌≤◌, Bool, refl, ap, arith, List, drop, map, take}
+use Rattle.rkyv_scan.specs.{generic_kind, paired_kind}
 use Rattle.rkyv_scan.proofs.Indices.{range_agree}
 use Rattle.rkyv_table.specs.{candidates, found, marked, probe_length}
 use Rattle.rkyv_table.proofs.Groups.{group_of}
@@ -13,9 +13,7 @@ marked_alike controls t p q lo hi =
     let z : p + d / 16 * 16 ≡ p = omega arith in
     let r : d % 16 ≡ d = omega arith in
     let s : List ℕ = take 16 (drop p controls) in
-    let e : take 8 (drop (d / 8 * 8) s) ≡ take 8 (drop (p + d / 8 * 8) controls) = group_of controls s p (d / 8 * 8) 8 (omega arith) refl in
-    (λ i. is_word_match_at (take 8 (drop (r i / 8 * 8) (take 16 (drop (z i) controls)))) t (r i % 8))
-    ∙ ap (λ xs. is_word_match_at xs t (d % 8)) e
+    grind (arith, common_steps, group_of controls s p (d / 8 * 8) 8 (omega arith) refl)
 
 candidates_alike : (controls : List ℕ) (cap t p : ℕ) → candidates paired_kind controls cap t p ≡ candidates generic_kind controls cap t p
 unfolding candidates

@@ -1,4 +1,5 @@
 -- A written table is valid in each range around it.
+use Rattle.std.proofs.lemmas.Grind.{common_steps}
 use Rattle.std.proofs.Common.{ℕ, ◌+◌, ◌≤◌, arith, length, List}
 use Rattle.std.specs.Int.{Width}
 use Rattle.rkyv_base.specs.{ElementSpec, Format, IsArchiveWord, IsElement, IsFormat}
@@ -10,9 +11,7 @@ use Rattle.rkyv_table.specs.{IsValidAround, WrittenTablesPass}
 pub is_valid_around : (s : ElementSpec) → IsElement s → (c : List ℕ) (p begin end l : ℕ) → begin ≤ end → s.is_valid c p begin end l → IsValidAround s c p begin end
 is_valid_around s law c p begin end l o h lo hi below above =
     let d = law.lower_lo c p begin lo end l below o h in
-    let b = law.rest_in_range c p begin end l o h in
-    let within = law.rest_in_range c p lo end d.0 (omega arith) d.1 in
-    (d.0, law.widen_hi c p lo end hi d.0 above d.1, within.0, within.1)
+    grind (arith, common_steps)
 
 pub tables_pass : {X R : Type 0} (w : Width) → IsArchiveWord w → (s : ElementSpec) → IsElement s → (represents : List ℕ → ℕ → X → Type 0) (f : Format X R) → IsFormat s represents f
     → (factor : ℕ × ℕ) → WrittenTablesPass w s f factor

@@ -1,4 +1,5 @@
 -- One pair more taken, and put into its bucket.
+use Rattle.std.proofs.lemmas.Grind.{common_steps}
 use Rattle.std.proofs.Common.{◌≡◌, ◌≢◌, ℕ, zero, suc, ◌+◌, ◌^◌, ◌<◌, ◌⊎◌, inl, inr, refl, sym, ap, ◌∙◌, subst, arith, List, [], ◌∷◌, ◌++◌, length, get_or, set, replicate, Option, Some, None, true, length-set, add-one}
 use Rattle.std.specs.Prelude.{slice_get}
 use Rattle.std.specs.List.{find}
@@ -8,7 +9,7 @@ use Rattle.std.proofs.lemmas.List.Elements.{All-append, All-cons, All-nil}
 use Rattle.std.proofs.lemmas.List.Folds.{list_any-append}
 use Rattle.std.proofs.lemmas.Option.{none-some, same_Some, slice_get_within}
 use Rattle.std.proofs.lemmas.Bool.{both_ways, eq-eqb, leb-true, not-true, not_from_false, or_parts}
-use Rattle.rkyv_table.specs.{AreHashes, AreInSlots, ArePlaced, AreWrittenControls, HasRoom, filled, fresh_controls, hashes_of, is_empty_at, is_free, items_of, probed, strides, tag, with_control}
+use Rattle.rkyv_table.specs.{AreHashes, AreInSlots, ArePlaced, HasRoom, filled, fresh_controls, hashes_of, is_empty_at, is_free, items_of, probed, strides, tag, with_control}
 use Rattle.rkyv_table.proofs.Written.{probed_below}
 use Rattle.rkyv_table.proofs.WrittenStep.{free_empty, fresh, one_more, room_left}
 use Rattle.rkyv_table.proofs.Lists.{some_find}
@@ -84,26 +85,18 @@ module _ {X : Type 0} (cap : ℕ) (pairs : List (ℕ × X)) (slots : List (Optio
         let fits : (j : ℕ) → j < length (hashes_of pairs) → get_or (hashes_of pairs) j 0 < 2 ^ 64 = λ j l. p.hashes j 0 l in
         let hb : b < cap = probed_below (is_empty_at controls) cap b (strides h cap) pos e in
         let fb = leb-true 128 (get_or controls b 0) (some_find (is_empty_at controls) (probed h cap) b e).1 in
-        let apart : (i : ℕ) → i < length homes → get_or homes i 0 ≢ b = λ i l z. (
-        let n = w.placed.count in
-        let li : i < length (hashes_of pairs) = omega arith in
-        let k = w.tags i li in
-        let f = fits i li in
-        let t : tag (get_or (hashes_of pairs) i 0) < 128 = omega arith in
-        let q : get_or controls (get_or homes i 0) 0 ≡ get_or controls b 0 = ap (λ y. get_or controls y 0) z in
-        omega arith
-        ) in
+        let apart : (i : ℕ) → i < length homes → get_or homes i 0 ≢ b = grind (arith, common_steps) in
         let mh : hashes_of (pairs ++ (h, x) ∷ []) ≡ hashes_of pairs ++ h ∷ [] = map-append (λ (y : ℕ × X). y.0) pairs ((h, x) ∷ []) in
         let mi : items_of (pairs ++ (h, x) ∷ []) ≡ items_of pairs ++ x ∷ [] = map-append (λ (y : ℕ × X). y.1) pairs ((h, x) ∷ []) in
-        let w' : AreWrittenControls cap (hashes_of pairs ++ h ∷ []) (homes ++ b ∷ []) (with_control controls cap b (tag h)) = one_more cap h b (hashes_of pairs) homes controls pos w fits hh e in
-        let s' : AreInSlots cap (homes ++ b ∷ []) (items_of pairs ++ x ∷ []) (set slots b (Some x)) = slotted_more cap homes (items_of pairs) slots b x p.slotted hb (free_empty cap (hashes_of pairs) homes controls b w fits hb ∙ (some_find (is_empty_at controls) (probed h cap) b e).1) apart in
-        let f' : AreHashes (hashes_of pairs ++ h ∷ []) = fit_more (hashes_of pairs) h p.hashes hh in
-        record {
-          homes = homes ++ b ∷ [];
-          hashes = subst AreHashes (sym mh) f';
-          written = subst (λ z. AreWrittenControls cap z (homes ++ b ∷ []) (with_control controls cap b (tag h))) (sym mh) w';
-          slotted = subst (λ z. AreInSlots cap (homes ++ b ∷ []) z (set slots b (Some x))) (sym mi) s';
-        }
+        grind (
+          arith,
+          common_steps,
+          one_more cap h b (hashes_of pairs) homes controls pos w fits hh e,
+          slotted_more cap homes (items_of pairs) slots b x p.slotted hb (free_empty cap (hashes_of pairs) homes controls b w fits hb ∙ (some_find (is_empty_at controls) (probed h cap) b e).1) apart,
+          free_empty cap (hashes_of pairs) homes controls b w fits hb,
+          some_find (is_empty_at controls) (probed h cap) b e,
+          fit_more (hashes_of pairs) h p.hashes hh,
+        )
 
 -- no pair is placed
 pub placed_none : {X : Type 0} (cap : ℕ) → 0 < cap → ArePlaced {X = X} cap [] (replicate cap None) (fresh_controls cap)

@@ -1,5 +1,5 @@
 -- The steps of a `Probe`.
-use Rattle.std.proofs.Common.{◌≡◌, ℕ, zero, suc, inl, inr, ◌+◌, ◌*◌, ◌-◌, ◌/◌, ◌%◌, ◌^◌, ◌<◌, ◌≤◌, refl, sym, ap, ◌∙◌, arith, [], ◌∷◌, bit_and, add-zero, add_comm}
+use Rattle.std.proofs.Common.{◌≡◌, ℕ, zero, suc, inl, inr, ◌+◌, ◌*◌, ◌-◌, ◌/◌, ◌%◌, ◌^◌, ◌<◌, ◌≤◌, refl, ap, ◌∙◌, arith, [], ◌∷◌, bit_and, add-zero, add_comm}
 use Rattle.std.proofs.lemmas.Grind.{common_steps}
 use Rattle.std.proofs.Math.Nat.{mod-add-mod, mod-eq_of_lt}
 use Rattle.std.proofs.Math.Pow.{pow_mono}
@@ -75,6 +75,4 @@ all_strides hash cap = let z : modulus cap / 16 - 0 ≡ modulus cap / 16 = omega
 pub first_taken : (cap s : ℕ) → s < cap → strides_from cap s 0 ≡ s ∷ strides_from cap s 1
 first_taken cap s h =
     let w = modulus_power cap (omega arith) in
-    let some : 0 < modulus cap / 16 = let u = pow_pos w.0 in omega arith in
-    let l : s < modulus cap = omega arith in
-    takes cap s 0 s some (sym (ap (λ z. z % modulus cap) (add-zero s) ∙ mod-eq_of_lt l)) (omega arith)
+    grind (arith, common_steps, pow_pos, takes, add-zero, mod-eq_of_lt)

@@ -30,11 +30,7 @@ pub group_cut : (F : ℕ → Bool) (end base w : ℕ) → base + w ≤ end → m
 group_cut F end base w le =
     let n = end - (base + w) in
     let s = filter_shift F (λ j. F (base + j)) base 0 w (λ j lo hi. refl) in
-    let z : base + 0 ≡ base = omega arith in
-    let s' = rw z at s in
-    let d : end - base ≡ w + n = omega arith in
-    ap (λ xs. xs ++ filter F (range_with_len (base + w) n)) (sym s')
-    ∙ sym (ap (λ k. filter F (range_with_len base k)) d ∙ ap (filter F) (range_append base w n) ∙ filter-append F (range_with_len base w) (range_with_len (base + w) n))
+    grind (arith, common_steps, range_append base w n, filter-append F (range_with_len base w) (range_with_len (base + w) n))
 
 pub group_read : (controls : List ℕ) (base w : ℕ) (marks : List ℕ) → marks ≡ indices_where (λ j. ltb (get_or (take w (drop base controls)) j 0) 128) w
     → marks ≡ filter (λ j. ltb (get_or controls (base + j) 0) 128) (range_with_len 0 w)
@@ -135,11 +131,7 @@ unfolding full_from walk
 walked_first controls cap le =
     let F = λ (q : ℕ). ltb (get_or controls q 0) 128 in
     let n = length controls - cap in
-    let d : length controls - 0 ≡ cap + n = omega arith in
-    let xs = filter F (range_with_len 0 cap) in
-    let ys = filter F (range_with_len (0 + cap) n) in
-    let cut = ap (λ k. filter F (range_with_len 0 k)) d ∙ ap (filter F) (range_append 0 cap n) ∙ filter-append F (range_with_len 0 cap) (range_with_len (0 + cap) n) in
-    ap (take (length xs)) cut ∙ take-append-le (length xs) xs ys (omega arith) ∙ take_all (length xs) xs (omega arith)
+    grind (arith, common_steps, range_append 0 cap n, filter-append F (range_with_len 0 cap) (range_with_len (0 + cap) n), take-append-le, take_all)
 
 no_length : (xs : List ℕ) → length xs ≡ 0 → xs ≡ []
 no_length [] e = refl
@@ -154,10 +146,7 @@ start_left controls shown cap len marks count same long read =
       | inr nz ↦
           let some : 0 < len = omega arith in
           let l = long some in
-          let e = same some in
-          let w = ap (λ xs. walk xs cap) e in
-          ap (take len) (group_marked controls 0 marks (omega arith) (read some))
-          ∙ ap (λ n. take n (full_from controls (length controls) 0)) (count ∙ ap length (sym w)) ∙ walked_first controls cap (omega arith) ∙ w
+          grind (arith, common_steps, group_marked, walked_first)
     ]
 
 pub some_capacity : (controls : List ℕ) (cap len : ℕ) → len ≡ length (walk controls cap) → 0 < len → 0 < cap

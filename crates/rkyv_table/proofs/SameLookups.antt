@@ -46,6 +46,4 @@ module _ (w : Width) (b c : List ℕ) (p : ℕ) (header : AgreeOn b c p (p + 3 *
     pos_found_same accept accept' agree =
         let at = item_at w s.size b p in
         let same : (j : ℕ) → item_at w s.size c p j ≡ at j = λ j. sym (item_same w b c p header s.size j) in
-        ap (option_map (item_at w s.size c p))
-        (found_same (λ j. accept (item_at w s.size c p j)) (λ j. accept' (at j)) (λ j there. ap accept (same j) ∙ agree j there))
-        ∙ map_of_found (item_at w s.size c p) at same (bucket_found generic_kind w s.size b p hash accept')
+        grind (arith, found_same, map_of_found)

@@ -1,5 +1,6 @@
 -- Two archives with the same bytes of a table have the same table.
-use Rattle.std.proofs.Common.{◌≡◌, ℕ, ◌+◌, ◌*◌, ◌<◌, ◌≤◌, ◌∙◌, ap, inl, inr, sym, arith, List}
+use Rattle.std.proofs.lemmas.Grind.{common_steps}
+use Rattle.std.proofs.Common.{◌≡◌, ℕ, ◌+◌, ◌*◌, ◌<◌, ◌≤◌, ◌∙◌, ap, inl, inr, arith, List}
 use Rattle.std.specs.Int.{Width, byte_len}
 use Rattle.std.proofs.lemmas.Bool.{cases_eq}
 use Rattle.rkyv_base.specs.{AgreeOn, ElementSpec, IsElement}
@@ -18,10 +19,7 @@ pub same_walk : (w : Width) (s : ElementSpec) → IsElement s → (b c : List �
     → AgreeOn b c p (p + 3 * byte_len w) → AgreeOn b c lo l
     → walk (table_controls w b p) (cap_at w b p) ≡ walk (table_controls w c p) (cap_at w c p)
 same_walk w s law b c p lo hi l o valid fixed part = elim (cases_eq (cap_at w b p) 0) [
-  | inl none ↦
-      ap (walk (table_controls w b p)) none ∙ walk_none (table_controls w b p)
-      ∙ sym (walk_none (table_controls w c p))
-      ∙ ap (walk (table_controls w c p)) (sym none ∙ cap_same w b c p fixed)
+  | inl none ↦ grind (arith, common_steps, walk_none, cap_same)
   | inr some ↦
       ap (λ (xs : List ℕ). walk xs (cap_at w b p)) (same_controls w s law b c p lo hi l o valid fixed part (omega arith))
       ∙ ap (walk (table_controls w c p)) (cap_same w b c p fixed)

@@ -35,10 +35,7 @@ pub all_kept : (s : ElementSpec) → IsElement s → (at : ℕ → ℕ) (b c : L
 all_kept s law at b c n hi i sealed keeps above apart [] lo l o below h = h
 all_kept s law at b c n hi i sealed keeps above apart (j ∷ is) lo l o below h =
     let k : (lo ≤ h.0) × (h.0 ≤ hi) = law.rest_in_range b (at j) lo hi h.0 o h.1 in
-    let here : s.is_valid c (at j) lo hi h.0 = elim (cases_eq j i) [
-      | inl e ↦ subst (λ z. s.is_valid c (at z) lo hi h.0) (sym e) (keeps lo hi h.0 o above (subst (λ z. s.is_valid b (at z) lo hi h.0) e h.1))
-      | inr ne ↦ valid_outside s law b c (at i) s.size sealed (at j) lo hi h.0 o (apart j below.0 ne) (inl (omega (arith, k.1, above))) h.1
-    ] in
+    let here : s.is_valid c (at j) lo hi h.0 = grind (arith, common_steps, cases_eq, valid_outside) in
     (h.0, here, all_kept s law at b c n hi i sealed keeps above apart is h.0 l k.1 below.1 h.2)
 
 -- a valid value whose parts are below `hi` leaves a lower end of at most `hi` in any range

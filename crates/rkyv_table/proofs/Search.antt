@@ -24,10 +24,7 @@ cases_option (Some x) = inr (x, refl)
 pub control_of : (cap : ℕ) (controls : List ℕ) (q : ℕ) → 0 < cap → IsWrapped cap controls → q < 2 * cap → q < control_count cap → get_or controls q 0 ≡ get_or controls (q % cap) 0
 control_of cap controls q pos r two c = elim (cases_lt q cap) [
   | inl a ↦ ap (λ z. get_or controls z 0) (sym (mod-eq_of_lt a))
-  | inr b ↦ let m = mod_more (q - cap) cap (omega arith) in
-      let e : q - cap + cap ≡ q = omega arith in
-      let m' = rw e at m in
-      r.repeated q b two c ∙ ap (λ z. get_or controls z 0) (sym m')
+  | inr b ↦ grind (arith, common_steps, mod_more)
 ]
 
 -- a stride that shows an index from `2 * cap` on shows every bucket, together with the first stride

@@ -1,12 +1,12 @@
 -- The parts of a table, in order.
-use Rattle.std.proofs.Common.{◌≡◌, ℕ, ◌+◌, refl, ap, ◌∙◌, subst, arith, List, ◌++◌, length, Option, append_assoc, inl, inr}
+use Rattle.std.proofs.Common.{◌≡◌, ℕ, ◌+◌, refl, ap, ◌∙◌, subst, arith, List, ◌++◌, length, Option, append_assoc, inl, inr, rules}
 use Rattle.std.proofs.lemmas.Grind.{common_steps}
 use Rattle.std.proofs.lemmas.List.{length-replicate}
 use Rattle.rkyv_base.specs.declared.errors.WriteError.{WriteError}
 use Rattle.rkyv_base.specs.{Appended, Appends, ElementSpec, Format, Only, Output, Step, Within, WriteFails, end_of, padding, piece, zeros}
 use Rattle.rkyv_base.proofs.WritingSteps.{appends_after, end-appends, fails_after, fails_under}
 use Rattle.rkyv_table.specs.Lemmas.Buckets.{images_length}
-use Rattle.rkyv_table.specs.{BucketNext, PartsNext, SlotImages, SlotParts, TableBytes, TableNext, WroteBuckets}
+use Rattle.rkyv_table.specs.{BucketNext, PartsNext, SlotParts, TableBytes, TableNext, WroteBuckets}
 
 -- the zeros after the appended bytes, by the position at which these begin
 pub zeros_behind : (align : ℕ) (o o1 : Output) (a : List ℕ) → Appends o o1 a → zeros (padding align (end_of o1)) ≡ zeros (padding align (end_of o + length a))
@@ -57,10 +57,7 @@ module _ (F : Type 0) {X R : Type 0} (s : ElementSpec) (limit : ℕ) (f : Format
         pub stopped_controls : (o4 : Output) (e : WriteError F) → WriteFails limit (Only (piece controls)) o3 o4 e → Stopped o4 e
         stopped_controls o4 e t =
             let whole : Appends o o3 (front ++ w.0) = appends_after o o2 o3 front w.0 table_front w.1.0 in
-            let at : end_of o3 ≡ end_of o + length (front ++ w.0) = end-appends o o3 (front ++ w.0) whole in
-            piece_fails limit Next o o3 o4 (front ++ w.0) controls e whole (inr w.1.1)
-            (λ step is. inr (inr (inr (a, rs, front, w.0, (made, front_is), subst (λ n. SlotImages s.size f slots rs n w.0) at w.2, refl, is))))
-            t
+            search (rules, end-appends, piece_fails, front_is)
 
         pub table_wrote : (o4 : Output) → Appended limit controls o3 o4 → (bytes : List ℕ) × Appended limit bytes o o4 × TableBytes s f slots controls (end_of o) (end_of o3) bytes
         table_wrote o4 d = grind (arith, common_steps, end-appends, length-replicate, images_length, appends_after, table_front, front_is, append_assoc)

@@ -1,5 +1,5 @@
 -- A walk over written control bytes visits the home buckets.
-use Rattle.std.proofs.Common.{◌≡◌, ℕ, ◌<◌, ◌∙◌, subst, arith, List, [], length, slice_index}
+use Rattle.std.proofs.Common.{ℕ, ◌<◌, arith, List, [], length, slice_index}
 use Rattle.std.proofs.lemmas.Grind.{common_steps}
 use Rattle.std.specs.List.{AllPairs, Contains, IsDistinct, range_with_len}
 use Rattle.std.proofs.lemmas.Bool.{cases_Bool, not-false}
@@ -7,7 +7,7 @@ use Rattle.std.proofs.lemmas.List.{get_or_default}
 use Rattle.std.proofs.lemmas.List.FromFn.{get_or-range_with_len, length-range_with_len}
 use Rattle.std.proofs.lemmas.List.Kept.{AllPairs-filter}
 use Rattle.rkyv_scan.specs.{is_full}
-use Rattle.rkyv_table.specs.{AreHashes, AreWrittenControls, IsFullBucket, VisitsHomes, is_free, walk}
+use Rattle.rkyv_table.specs.{AreHashes, AreWrittenControls, VisitsHomes, is_free, walk}
 use Rattle.rkyv_table.proofs.Lists.{member_contains}
 use Rattle.rkyv_table.proofs.Walks.{full_walked, walk_none, walked_full}
 use Rattle.rkyv_table.proofs.WrittenAccepted.{accepted_written, distinct_homes}
@@ -28,11 +28,7 @@ module _ (cap : ℕ) (hashes homes controls : List ℕ) (room : length hashes < 
   home_walked bucket c =
       let count = w.placed.count in
       let l : c.0 < length hashes = omega (arith, c.1) in
-      let at : slice_index homes c.0 ≡ bucket = get_or_default homes c.0 0 bucket c.1 ∙ c.2 in
-      let e = w.tags c.0 l in
-      let h = fit c.0 0 l in
-      let full : slice_index controls (slice_index homes c.0) < 128 = omega arith in
-      full_walked cap controls bucket (subst (IsFullBucket cap controls) at (home_below cap hashes homes controls c.0 (omega arith) w l, full))
+      grind (arith, common_steps, get_or_default homes c.0 0 bucket c.1, home_below cap hashes homes controls c.0 (omega arith) w l, full_walked)
 
   pub walked_homes : VisitsHomes cap homes controls
   walked_homes = grind (arith, common_steps, walk_ascends controls cap, distinct_homes cap hashes homes w.placed, walked_home, home_walked, accepted_written)

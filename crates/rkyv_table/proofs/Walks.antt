@@ -22,19 +22,8 @@ cut F cap a (suc n) =
       | inl l ↦
           let t = lt-ltb a cap l in
           let d : cap - a ≡ suc (cap - (a + 1)) = omega arith in
-          elim (cases_Bool (F a)) [
-            | inl f ↦ rw (f, t, e, d, f) (ap (λ xs. a ∷ xs) ih)
-            | inr f ↦ rw (f, e, d, f) ih
-          ]
-      | inr g ↦
-          let t = le-ltb a cap g in
-          let d : cap - a ≡ 0 = omega arith in
-          let d' : cap - (a + 1) ≡ 0 = omega arith in
-          let ih' = rw d' at ih in
-          elim (cases_Bool (F a)) [
-            | inl f ↦ rw (f, t, e, d) ih'
-            | inr f ↦ rw (f, e, d) ih'
-          ]
+          grind (arith, common_steps, cases_Bool)
+      | inr g ↦ grind (arith, common_steps, le-ltb, cases_Bool)
     ]
 
 -- ---- the indices of the mask are all full ones from some index on
@@ -63,11 +52,7 @@ head_range P a (suc n) =
 pub walk_of : (controls : List ℕ) (cap base width : ℕ) (indices : List ℕ) → WalkFrom controls cap base width indices → IsWalk controls cap base width indices
 walk_of controls cap base width indices w =
     let P = λ (j : ℕ). ltb (get_or controls (base + j) 0) 128 in
-    let inside = w.inside in
-    let h = head_range P w.next (width - w.next) in
-    let e : w.next + (width - w.next) ≡ width = omega arith in
-    let h' = rw (e, ← w.marks) at h in
-    record { count = w.count; below = w.below; inside = h'.1; marks = h'.2 }
+    grind (arith, common_steps, head_range P w.next (width - w.next))
 
 -- the remaining buckets are the full buckets from an index on
 pub left_is : (controls : List ℕ) (cap base width : ℕ) (indices : List ℕ) → (w : WalkFrom controls cap base width indices) → left controls cap base width indices ≡ full_from controls cap (base + w.next)
@@ -76,11 +61,7 @@ left_is controls cap base width indices w =
     let inside = w.inside in
     let F = λ (q : ℕ). ltb (get_or controls q 0) 128 in
     let s = filter_shift F (λ j. F (base + j)) base w.next (width - w.next) (λ j lo hi. refl) in
-    let e : base + width ≡ base + w.next + (width - w.next) = omega arith in
-    ap (λ xs. filter (λ q. ltb q cap) (map (λ j. base + j) xs) ++ filter F (range_with_len (base + width) (cap - (base + width)))) w.marks
-    ∙ ap (λ xs. filter (λ q. ltb q cap) xs ++ filter F (range_with_len (base + width) (cap - (base + width)))) (sym s)
-    ∙ ap (λ z. filter (λ q. ltb q cap) (filter F (range_with_len (base + w.next) (width - w.next))) ++ filter F (range_with_len z (cap - z))) e
-    ∙ cut F cap (base + w.next) (width - w.next)
+    grind (arith, common_steps, cut F cap (base + w.next) (width - w.next))
 
 -- ---- an index is taken
 
@@ -92,10 +73,7 @@ takes_index controls cap base width j (x ∷ xs) e h = grind (arith, common_step
 drop_first : (P : ℕ → Bool) (a n q : ℕ) → FirstIn P a n q → drop 1 (filter P (range_with_len a n)) ≡ filter P (range_with_len (q + 1) (a + n - (q + 1)))
 drop_first P a zero q f = absurd (omega (arith, f.from, f.to))
 drop_first P a (suc n) q f = elim (cases_eq a q) [
-  | inl s ↦
-      let t = ap P s ∙ f.yes in
-      let e : a + suc n - (q + 1) ≡ n = omega arith in
-      rw (t, e, s) refl
+  | inl s ↦ grind (arith, common_steps)
   | inr d ↦
       let lo = f.from in
       let hi = f.to in

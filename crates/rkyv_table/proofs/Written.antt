@@ -1,5 +1,5 @@
 -- A lookup in written control bytes finds the first accepted home bucket.
-use Rattle.std.proofs.Common.{◌≡◌, ℕ, ◌+◌, ◌*◌, ◌%◌, ◌^◌, ◌<◌, ◌≤◌, inl, inr, refl, sym, ap, ◌∙◌, arith, List, [], ◌∷◌, Bool, true, false, ◌&&◌, eqb, ltb, leb, length, get_or, take, map, Some, None, get_or-take, length-take}
+use Rattle.std.proofs.Common.{◌≡◌, ℕ, ◌+◌, ◌*◌, ◌%◌, ◌^◌, ◌<◌, ◌≤◌, inl, inr, refl, sym, ap, ◌∙◌, arith, List, [], ◌∷◌, Bool, true, false, ◌&&◌, eqb, ltb, leb, length, get_or, take, map, Some, None, get_or-take, length-take, rules}
 use Rattle.std.proofs.lemmas.Grind.{common_steps}
 use Rattle.std.specs.List.{find, flat_map, list_any, position_or_len, range_with_len}
 use Rattle.std.specs.Option.{option_map}
@@ -30,10 +30,7 @@ find_candidates accept kind controls cap t p = find_map_filter accept (marked ki
 pub taken_at : (free : ℕ → Bool) (cap p q : ℕ) → list_any free (buckets_at cap p) ≡ false → p ≤ q → q < p + 16 → q < 2 * cap → free (q % cap) ≡ false
 unfolding buckets_at
 taken_at free cap p q none lo hi two =
-    false_from_ne_true (free (q % cap)) (λ t.
-    let a = any_range (λ q. ltb q (2 * cap) && free (q % cap)) p 16 q lo hi (and_from (ltb q (2 * cap)) (free (q % cap)) (lt-ltb q (2 * cap) two) t) in
-    let m = any_map_filter free (λ q. ltb q (2 * cap)) (λ q. q % cap) (range_with_len p 16) in
-    both_ways (list_any free (buckets_at cap p)) none (m ∙ a))
+    false_from_ne_true (free (q % cap)) (λ t. search (rules, any_range, and_from, lt-ltb, any_map_filter, both_ways))
 
 -- the first free bucket of a stride, as its index
 pub first_free : (free : ℕ → Bool) (cap p b : ℕ) → find free (buckets_at cap p) ≡ Some b → (q : ℕ) × FirstIn (λ q. ltb q (2 * cap) && free (q % cap)) p 16 q × (q % cap ≡ b)
@@ -47,10 +44,7 @@ probed_below free cap b (p ∷ ps) pos h =
     let h' = sym (find-append free (buckets_at cap p) (flat_map (buckets_at cap) ps)) ∙ h in
     elim (cases_option (find free (buckets_at cap p))) [
       | inl none ↦ let h'' = rw none at h' in probed_below free cap b ps pos h''
-      | inr some ↦ let h'' = rw some.1 at h' in
-          let same : some.0 ≡ b = same_Some some.0 b h'' in
-          let w = first_free free cap p some.0 some.1 in
-          let l = mod_below w.0 cap pos in omega (arith, w.2)
+      | inr some ↦ grind (arith, common_steps, same_Some, first_free, mod_below)
     ]
 
 -- ---- taken buckets
@@ -60,9 +54,7 @@ pub taken_home : (homes : List ℕ) (i b : ℕ) → i ≤ length homes → is_fr
 taken_home homes i b hi h =
     let a = Any-from_list_any (eqb b) (take i homes) (not-false (list_any (eqb b) (take i homes)) h) in
     let l = length-take i homes in
-    let lt : a.0 < i = omega arith in
-    let e = eqb-true b a.1 a.4 in
-    (a.0, lt, get_or_default homes a.0 0 a.1 (omega arith) ∙ sym (get_or-take i homes a.0 a.1 lt) ∙ a.3 ∙ sym e)
+    grind (arith, common_steps, eqb-true, get_or_default, get_or-take)
 
 -- ---- a written table and a lookup under the hash `h` of its item `i`, the first accepted one
 
@@ -98,12 +90,7 @@ module _ (cap h i : ℕ) (hashes homes controls : List ℕ) (kind : Kind) (accep
   fits_below : (p : ℕ) → b < cap → free b ≡ true → list_any (eqb p) (strides h cap) ≡ true → list_any free (buckets_at cap p) ≡ false → list_any free (buckets_at cap (start h cap)) ≡ false → p + 16 ≤ 2 * cap
   fits_below p hb fb hp none first =
       elim (cases_lt (2 * cap) (p + 16)) [
-        | inl over ↦
-            let w = tail_shows_all h cap p b hb hp over in
-            absurd (elim w.3 [
-              | inl u ↦ both_ways (free b) (ap free (sym w.2) ∙ taken_at free cap p w.0 none u.0 u.1 w.1) fb
-              | inr u ↦ both_ways (free b) (ap free (sym w.2) ∙ taken_at free cap (start h cap) w.0 first u.0 u.1 w.1) fb
-            ])
+        | inl over ↦ grind (arith, common_steps, tail_shows_all h cap p b hb hp over, both_ways, taken_at)
         | inr l ↦ l
       ]
 
@@ -163,11 +150,7 @@ module _ (cap h i : ℕ) (hashes homes controls : List ℕ) (kind : Kind) (accep
         passes = λ n. let none = none_find free (buckets_at cap p) n in passed p lp (fits_below p lb fb hp none (first none)) none;
         hits = λ n. found_in p lp n;
       } in g) in
-      let h' : find free (flat_map (buckets_at cap) (s ∷ st.0)) ≡ Some b = ap (λ ps. find free (flat_map (buckets_at cap) ps)) (sym st.1) ∙ home' in
-      ap (found_along kind controls cap (tag h) accept) st.1
-      ∙ walk_on cap b free accept kind controls (tag h) s st.0 (good s here (λ n. n))
-      (λ n hr. let none = none_find free (buckets_at cap s) n in
-      walk_all cap b free accept kind controls (tag h) st.0 (λ p hp. good p (ap (list_any (eqb p)) st.1 ∙ or_right (eqb p s) (list_any (eqb p) st.0) hp) (λ _. none)) hr) h'
+      search (rules, found_along, walk_on, none_find, walk_all, or_right)
 
 -- if no home bucket is accepted, no candidate is
 none_accepted : (cap h p : ℕ) (hashes homes controls : List ℕ) (kind : Kind) (accept : ℕ → Bool) → 0 < cap → h < 2 ^ 64 → IsKind kind → AreWrittenControls cap hashes homes controls

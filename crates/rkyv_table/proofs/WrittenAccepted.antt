@@ -1,5 +1,6 @@
 -- Written control bytes are valid: they have as many full buckets as items.
-use Rattle.std.proofs.Common.{◌≡◌, ℕ, ◌+◌, ◌^◌, ◌<◌, refl, sym, ◌∙◌, arith, List, false, ◌&&◌, eqb, ltb, length, get_or, take, get_or-take, length-take}
+use Rattle.std.proofs.lemmas.Grind.{common_steps}
+use Rattle.std.proofs.Common.{◌≡◌, ℕ, ◌^◌, ◌<◌, refl, sym, ◌∙◌, arith, List, false, ◌&&◌, eqb, ltb, length, get_or, get_or-take, length-take}
 use Rattle.std.specs.List.{IsDistinct, list_any, range_with_len}
 use Rattle.std.specs.Cmp.{nat_eq_equiv}
 use Rattle.std.proofs.lemmas.Map.Keys.{IsDistinct-from_apart}
@@ -8,7 +9,7 @@ use Rattle.std.proofs.lemmas.List.{get_or_default}
 use Rattle.std.proofs.lemmas.List.Folds.{Any-from_list_any, list_any_at}
 use Rattle.std.proofs.lemmas.List.FromFn.{get_or-range_with_len, length-range_with_len}
 use Rattle.std.proofs.lemmas.Bool.{and_from, and_parts, both_ways, eq-eqb, eqb-true, false_from_ne_true, leb-false, lt-ltb, ltb-true, ne_eqb, not-false, not-true}
-use Rattle.rkyv_table.specs.{AreHomes, AreValidControls, AreWrittenControls, is_free, probed, walk}
+use Rattle.rkyv_table.specs.{AreHomes, AreValidControls, AreWrittenControls, is_free, walk}
 use Rattle.rkyv_table.proofs.Coverage.{same_tests}
 use Rattle.rkyv_table.proofs.Lists.{any_filter, any_range, distinct_filter, in_range, some_find}
 use Rattle.rkyv_table.proofs.WrittenStep.{free_empty, home_below}
@@ -17,12 +18,7 @@ use Rattle.rkyv_table.proofs.WrittenStep.{free_empty, home_below}
 pub homes_apart : (cap : ℕ) (hashes homes : List ℕ) → AreHomes cap hashes homes → (i j : ℕ) → i < j → j < length homes → get_or homes i 0 ≡ get_or homes j 0 → ⊥
 homes_apart cap hashes homes p i j ij hj e =
     let count = p.count in
-    let f = (some_find (is_free (take j homes)) (probed (get_or hashes j 0) cap) (get_or homes j 0) (p.first j (omega arith))).1 in
-    let none = not-true (list_any (eqb (get_or homes j 0)) (take j homes)) f in
-    let l = length-take j homes in
-    let g = get_or-take j homes i 0 ij in
-    let a = list_any_at (eqb (get_or homes j 0)) (take j homes) i 0 (omega arith) (rw g (eq-eqb (get_or homes j 0) (get_or homes i 0) (sym e))) in
-    both_ways (list_any (eqb (get_or homes j 0)) (take j homes)) none a
+    grind (arith, some_find, not-true, length-take, get_or-take, list_any_at, eq-eqb, both_ways)
 
 pub distinct_homes : (cap : ℕ) (hashes homes : List ℕ) → AreHomes cap hashes homes → IsDistinct eqb homes
 distinct_homes cap hashes homes p = IsDistinct-from_apart eqb homes (λ i j d ij hj.
@@ -32,12 +28,7 @@ distinct_homes cap hashes homes p = IsDistinct-from_apart eqb homes (λ i j d ij
 
 pub distinct_range : (n : ℕ) → IsDistinct eqb (range_with_len 0 n)
 distinct_range n = let l = length-range_with_len 0 n in
-    IsDistinct-from_apart eqb (range_with_len 0 n) (λ i j d ij hj.
-    let jc : j < n = omega arith in
-    let ic : i < n = omega arith in
-    let gi = get_or-range_with_len 0 n i d ic in
-    let gj = get_or-range_with_len 0 n j d jc in
-    rw (gi, gj) (ne_eqb (0 + i) (0 + j) (λ e. omega arith)))
+    IsDistinct-from_apart eqb (range_with_len 0 n) (λ i j d ij hj. grind (arith, common_steps, get_or-range_with_len, ne_eqb))
 
 -- a bucket is full if and only if it is a home bucket
 pub full_home : (cap : ℕ) (hashes homes controls : List ℕ) (q : ℕ) → 0 < cap → AreWrittenControls cap hashes homes controls → ((j : ℕ) → j < length hashes → get_or hashes j 0 < 2 ^ 64)
@@ -48,11 +39,7 @@ full_home cap hashes homes controls q pos w fits =
     let count = w.placed.count in
     any_filter q F (range_with_len 0 cap)
     ∙ same_tests (list_any (eqb q) (range_with_len 0 cap) && F q) (list_any (eqb q) homes)
-    (λ t.
-    let u = and_parts (list_any (eqb q) (range_with_len 0 cap)) (F q) t in
-    let l = in_range cap q u.0 in
-    let f = ltb-true (get_or controls q 0) 128 u.1 in
-    not-false (list_any (eqb q) homes) (false_from_ne_true (is_free homes q) (λ y. let e = w.others q l y in omega arith)))
+    (λ t. grind (arith, common_steps, and_parts, in_range, ltb-true, not-false, false_from_ne_true))
     (λ m.
     let a = Any-from_list_any (eqb q) homes m in
     let e = eqb-true q a.1 a.4 in

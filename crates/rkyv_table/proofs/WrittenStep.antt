@@ -106,12 +106,7 @@ one_more cap h b hashes homes controls pos w fits hh e =
             let y = get_or_push homes b 0 n len in
             rw (s, x, y) (at_bucket controls cap b t pos bc)
       ];
-      others = λ c hc f.
-          let none = not-true (list_any (eqb c) (homes ++ b ∷ [])) f in
-          let u = or_parts (list_any (eqb c) homes) (list_any (eqb c) (b ∷ [])) (sym (list_any-append (eqb c) homes (b ∷ [])) ∙ none) in
-          let v = or_parts (eqb c b) false u.1 in
-          let apart : c ≢ b = λ z. both_ways (eqb c b) v.0 (eq-eqb c b z) in
-          at_other controls cap b t c apart (λ z. omega arith) ∙ w.others c hc (not_from_false (list_any (eqb c) homes) u.0);
+      others = grind (arith, not-true, or_parts, list_any-append, both_ways, eq-eqb, at_other, not_from_false);
       past = λ q g c. let x = at_other controls cap b t q (λ z. omega arith) (λ z. omega arith) in x ∙ w.past q g c;
     }
 
@@ -127,17 +122,9 @@ free_bucket cap homes h =
     elim (cases_Bool (list_any (is_free homes) xs)) [
       | inl t ↦
           let w = Any-from_list_any (is_free homes) xs t in
-          let lt : w.0 < cap = omega arith in
-          let g = get_or-range_with_len 0 cap w.0 w.1 lt in
-          let e : w.1 ≡ w.0 = sym w.3 ∙ g ∙ omega arith in
-          (w.1, omega arith, w.4)
+          grind (arith, common_steps, get_or-range_with_len)
       | inr f ↦
-          let d : IsDistinct eqb xs = IsDistinct-from_apart eqb xs (λ i j d ij hj.
-          let jc : j < cap = omega arith in
-          let ic : i < cap = omega arith in
-          let gi = get_or-range_with_len 0 cap i d ic in
-          let gj = get_or-range_with_len 0 cap j d jc in
-          rw (gi, gj) (ne_eqb (0 + i) (0 + j) (λ e. omega arith))) in
+          let d : IsDistinct eqb xs = IsDistinct-from_apart eqb xs (λ i j d ij hj. grind (arith, common_steps, get_or-range_with_len, ne_eqb)) in
           let m = length-le_from_is_member nat_eq_equiv xs homes d (λ q m.
           not-false (list_any (eqb q) homes) (false_from_ne_true (is_free homes q) (λ t.
           both_ways (list_any (is_free homes) xs) f (any_member (is_free homes) q xs m t)))) in

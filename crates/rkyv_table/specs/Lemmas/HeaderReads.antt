@@ -1,7 +1,7 @@
 -- The numbers that are read of a header, by its bytes.
 use Rattle.std.proofs.Common.{arith, subst, length-append}
 use Rattle.std.proofs.lemmas.Grind.{common_steps}
-use Rattle.std.specs.Int.{Width, byte_len, cast_unsigned, to_le_bytes}
+use Rattle.std.specs.Int.{Width, byte_len, to_le_bytes}
 use Rattle.std.specs.Prelude.{◌≡◌, ℕ, ◌+◌, ◌*◌, ◌^◌, ◌<◌, ℤ, FitsSigned, List, ◌++◌, length}
 use mir.Val.{bits}
 use Rattle.rkyv_base.specs.{IsArchiveWord, IsWord, OccursAt, signed_at}
@@ -23,10 +23,7 @@ module _ (w : Width) (kind : IsArchiveWord w) where
       behind = grind (arith, common_steps, word_bytes, occurs_back)
 
       pub distance_reads : FitsSigned w d → signed_at w c p ≡ d
-      distance_reads fits =
-          distances_read_back w kind d c p fits
-          (occurs_front c p (to_le_bytes w (cast_unsigned w d)) (to_le_bytes w len
-          ++ to_le_bytes w cap) s)
+      distance_reads fits = grind (arith, distances_read_back, occurs_front)
 
       pub len_reads : len < 2 ^ bits w → len_at w c p ≡ len
       len_reads fits = counts_read_back w kind len c (p + byte_len w) fits

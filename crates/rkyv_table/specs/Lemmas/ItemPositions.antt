@@ -1,15 +1,14 @@
 -- Lemmas: the positions of the items of a valid table, by the position of its buckets.
-use Rattle.std.proofs.Common.{◌≡◌, ℕ, zero, suc, ◌+◌, ◌*◌, ◌<◌, ◌≤◌, sym, ap, subst}
+use Rattle.std.proofs.Common.{◌≡◌, ℕ, zero, suc, ◌+◌, ◌*◌, ◌<◌, ◌≤◌, ap, subst, rules}
 use Rattle.std.proofs.Common.{arith, inl, inr, List, ◌∷◌, Bool, true, false, filter, slice_index}
-use Rattle.std.proofs.Common.{slice_range, pos, ◌+ℤ◌}
+use Rattle.std.proofs.Common.{slice_range, pos}
 use Rattle.std.proofs.lemmas.Grind.{common_steps}
 use Rattle.std.specs.Int.{Width}
 use Rattle.std.specs.List.{range_with_len}
-use Rattle.std.specs.Prelude.{unsigned_abs}
 use Rattle.std.proofs.Math.Nat.{add-mul}
 use Rattle.std.proofs.lemmas.Bool.{both_ways, cases_Bool, cases_eq, lt-ltb}
 use Rattle.std.proofs.lemmas.Int.{ints}
-use Rattle.rkyv_base.specs.{ElementSpec, IsElement, signed_at}
+use Rattle.rkyv_base.specs.{ElementSpec, IsElement}
 use Rattle.rkyv_scan.specs.{is_full}
 use Rattle.rkyv_table.specs.{AreValidAt, AreValidItems, IsValidTable, IsValidWithin, IsWalked}
 use Rattle.rkyv_table.specs.{ValidPart, bucket_at, cap_at, control_count, controls_at, controls_pos}
@@ -30,14 +29,7 @@ module _ (s : ElementSpec) (law : IsElement s) (at : ℕ → ℕ) where
         let after =
         all_between s law at b hi (filter P (range_with_len (a + 1) n)) h'.0 l k.1 h'.2 in
         elim (cases_eq a i) [
-          | inl e ↦ subst (λ z. IsValidWithin s b (at z) lo hi l) e (record {
-            lower = lo;
-            rest = h'.0;
-            above = omega arith;
-            below = o;
-            ends = after.0;
-            is_valid = h'.1;
-          })
+          | inl e ↦ grind (arith, common_steps)
           | inr ne ↦
               within_lower s b (at i) h'.0 lo hi l k.0
               (each_is_valid P b hi (a + 1) n h'.0 l i k.1 h'.2 (omega arith) (omega arith) t)
@@ -67,10 +59,7 @@ module _ (w : Width) (size : ℕ) (b : List ℕ) (p begin : ℕ) (decoded : pos 
     ≡ decode_begin w size b p) where
   -- the position of the control bytes
   pub decoded_pos : controls_pos w b p ≡ begin + cap_at w b p * size
-  decoded_pos =
-      let e : pos (begin + cap_at w b p * size) ≡ pos p +ℤ signed_at w b p =
-      omega (arith, ints, decoded) in
-      sym (ap unsigned_abs e)
+  decoded_pos = grind (arith, ints)
 
   pub decoded_controls : table_controls w b p ≡ controls_at size b begin (cap_at w b p)
   decoded_controls = ap (λ z. slice_range b z (z + control_count (cap_at w b p))) decoded_pos
@@ -83,10 +72,7 @@ module _ (w : Width) (size : ℕ) (b : List ℕ) (p begin : ℕ) (decoded : pos 
 module _ (w : Width) (s : ElementSpec) (law : IsElement s) (b : List ℕ) (p lo hi l : ℕ)
     (h : IsValidTable w s b p lo hi l) where
   pub valid_part : 0 < cap_at w b p → ValidPart w s b p lo hi l
-  valid_part some = elim h [
-    | inl e ↦ absurd (omega (arith, e.1, some))
-    | inr t ↦ record { begin = t.0; part = t.1; is = t.2; ends = t.3 }
-  ]
+  valid_part some = search rules
 
   -- the item in a full bucket is valid, and is before the control bytes
   pub item_is_valid : (i : ℕ) → IsWalked w b p i → (t : ValidPart w s b p lo hi l)
@@ -102,7 +88,8 @@ module _ (w : Width) (s : ElementSpec) (law : IsElement s) (b : List ℕ) (p lo 
       grind (
         arith,
         common_steps,
-        all_between s law (bucket_at s.size t.begin cap) b t.begin (walk (controls_at s.size b t.begin cap) cap) lo t.is.last above t.is.items,
+        all_between s law (bucket_at s.size t.begin cap) b t.begin
+            (walk (controls_at s.size b t.begin cap) cap) lo t.is.last above t.is.items,
         bucket_is_valid_within s law b t.begin cap lo t.is.last i above t.is.items walked.0 full,
         bucket_inside s.size t.begin cap i walked.0,
         decoded_item w s.size b p t.begin decoded i walked.0,

@@ -1,6 +1,6 @@
 -- Headers with the same bytes have the same numbers, and lead to the same positions.
 use Rattle.std.specs.Prelude.{◌≡◌, ℕ, ◌+◌, ◌-◌, ◌*◌, ◌≤◌, pos, ◌+ℤ◌, List, unsigned_abs}
-use Rattle.std.specs.Int.{Width, byte_len, cast_signed, from_le_bytes}
+use Rattle.std.specs.Int.{Width, byte_len, cast_signed}
 use Rattle.std.proofs.Common.{arith, ap, subst}
 use Rattle.std.proofs.lemmas.Grind.{common_steps}
 use Rattle.rkyv_base.specs.{AgreeOn, number_at, signed_at}
@@ -11,10 +11,7 @@ use Rattle.rkyv_table.specs.Table.Positions.{item_at}
 module _ (w : Width) (b c : List ℕ) (p : ℕ) (same : AgreeOn b c p (p + 3 * byte_len w)) where
   number_same : (k : ℕ) → k + byte_len w ≤ 3 * byte_len w
       → number_at w b (p + k) ≡ number_at w c (p + k)
-  number_same k fits = ap (from_le_bytes w)
-      (agree_on_part b c p (p + 3 * byte_len w) (p + k) (p + k + byte_len w) (omega arith)
-      (omega arith)
-      (omega arith) same)
+  number_same k fits = grind (arith, agree_on_part)
 
   pub len_same : len_at w b p ≡ len_at w c p
   len_same = number_same (byte_len w) (omega arith)

@@ -59,9 +59,7 @@ home_of : (homes : List ℕ) (b : ℕ) → is_free homes b ≡ false
     → (i : ℕ) × (i < length homes) × (slice_index homes i ≡ b)
 home_of homes b h =
     let a = Any-from_list_any (eqb b) homes (not-false (list_any (eqb b) homes) h) in
-    let e = eqb-true b a.1 a.4 in
-    let d = get_or_default homes a.0 a.1 0 a.2 in
-    (a.0, a.2, sym d ∙ a.3 ∙ sym e)
+    grind (arith, common_steps, eqb-true, get_or_default)
 
 module _ {X : Type 0} (cap : ℕ) (pairs : List (ℕ × X)) (slots : List (Option X)) (controls : List ℕ)
     (p : ArePlaced cap pairs slots controls) where
@@ -102,12 +100,4 @@ module _ {X : Type 0} (cap : ℕ) (pairs : List (ℕ × X)) (slots : List (Optio
   -- a walk over the control bytes visits the slots with items
   pub walk_filled : walk controls cap ≡ filled_from 0 slots
   unfolding walk
-  walk_filled =
-      let full : ℕ → Bool = λ b. is_full (slice_index controls b) in
-      let zero_index : (i : ℕ) → 0 + i ≡ i = λ i. omega arith in
-      ap (λ (n : ℕ). filter full (range_with_len 0 n)) (sym p.slotted.count)
-      ∙ filter_filled full 0 slots (
-        λ i e. ap full (zero_index i)
-            ∙ empty_slot i e,
-        λ i x e. ap full (zero_index i) ∙ filled_slot i x e,
-      )
+  walk_filled = grind (arith, filter_filled, empty_slot, filled_slot)

@@ -2,7 +2,7 @@
 use Rattle.std.specs.Prelude.{◌≡◌, ℕ, ◌+◌, ◌-◌, ◌*◌, ◌%◌, ◌<◌, ◌≤◌, ℤ, List, slice_index}
 use Rattle.std.specs.Int.{Width, byte_len}
 use Rattle.std.specs.Coded.{×_prop}
-use Rattle.std.proofs.Common.{refl, arith, subst, sym, ◌∙◌, ap, inl, inr}
+use Rattle.std.proofs.Common.{refl, arith, subst, sym, ◌∙◌, ap, inl, inr, rules}
 use Rattle.std.proofs.lemmas.Grind.{common_steps}
 use Rattle.std.proofs.Props.{props}
 use Rattle.std.proofs.lemmas.Bool.{cases_lt}
@@ -20,7 +20,6 @@ use Rattle.rkyv_base.specs.Lemmas.Parts.{part_wider}
 use Rattle.rkyv_base.specs.Lemmas.ElementSpec.{by_align, sum_multiple}
 use Rattle.rkyv_base.specs.Lemmas.Text.{by_archive_word}
 use Rattle.rkyv_table.specs.Table.Header.{cap_at, decode_begin, len_at}
-use Rattle.rkyv_table.specs.Controls.Numbers.{control_count}
 use Rattle.rkyv_table.specs.Table.ValidItems.{AreValidAt}
 use Rattle.rkyv_table.specs.Lemmas.ValidItemLaws.{all_exclusive, all_local, all_lower, all_one}
 use Rattle.rkyv_table.specs.Lemmas.ValidItemLaws.{all_one_failure, all_prop}
@@ -199,12 +198,7 @@ module _ (s : ElementSpec) (law : IsElement s) where
   at_lower b decoded cap len lo lo' hi l o (inl h) = (lo', inl (h.0, h.1, refl), omega (arith, h.2))
   at_lower b decoded cap len lo lo' hi l o (inr (n, part, is, e)) = (
     l,
-    inr (
-      n,
-      part_wider decoded (part_size s.size cap) s.align lo lo' hi hi n o (omega arith) part,
-      is_lower b cap len lo lo' n o part.above is,
-      e,
-    ),
+    grind (arith, part_wider, is_lower),
     omega arith,
   )
 
@@ -213,20 +207,13 @@ module _ (s : ElementSpec) (law : IsElement s) where
       → IsPart s c cap len lo begin
   is_near b c cap len lo begin low same is =
       let e : controls_at s.size b begin cap ≡ controls_at s.size c begin cap =
-      agree_on_part b c lo (begin + part_size s.size cap) (begin + cap * s.size)
-      (begin + cap * s.size
-      + control_count cap) (omega arith) (omega arith) (omega arith) same in
+      grind (arith, common_steps, agree_on_part) in
       let items = all_local s law (bucket_at s.size begin cap) b c lo (begin + part_size s.size cap)
       cap begin (walk (controls_at s.size b begin cap) cap) lo is.last
       same (omega arith) low (omega arith) (walk_below (controls_at s.size b begin cap) cap)
       (λ i h. let u = bucket_inside s.size begin cap i h in
       (omega (arith, u.0), omega (arith, u.1))) is.items in
-      record {
-        controls = subst (AreValidControls cap len) e is.controls;
-        last = is.last;
-        items = subst (λ (x : List ℕ).
-            AreValidAt s (bucket_at s.size begin cap) c begin (walk x cap) lo is.last) e items;
-      }
+      grind (arith, common_steps)
 
   at_local : (b c : List ℕ) (decoded : ℤ) (cap len lo hi l : ℕ) → AgreeOn b c lo l
       → TableAt s b decoded cap len lo hi l → TableAt s c decoded cap len lo hi l
@@ -255,9 +242,7 @@ table_element w kind s law = record {
       (len_at w b p) lo hi l l' h h';
   exclusive = λ b p lo hi l e h f. at_exclusive s law b (decode_begin w s.size b p) (cap_at w b p)
       (len_at w b p) lo hi l e h f;
-  one_failure = λ b p lo hi e e' f g.
-      at_one_failure s law b (decode_begin w s.size b p) (cap_at w b p)
-      (len_at w b p) lo hi e e' f g;
+  one_failure = search (rules, at_one_failure);
   widen_hi = λ b p lo hi hi' l o h.
       at_higher s law b (decode_begin w s.size b p) (cap_at w b p) (len_at w b p) lo hi hi' l o h;
   lower_lo = λ b p lo lo' hi l o o' h.

@@ -6,7 +6,7 @@ use Rattle.std.proofs.lemmas.Bool.{ne_eqb}
 use Rattle.std.proofs.lemmas.Int.{ints}
 use Rattle.std.proofs.lemmas.List.{length-map, length-replicate}
 use Rattle.std.specs.Int.{Width}
-use Rattle.std.specs.Prelude.{◌≡◌, ℕ, ◌+◌, ◌*◌, ◌%◌, ◌<◌, ◌≤◌, pos, ◌+ℤ◌, ◌-ℤ◌, FitsSigned, List}
+use Rattle.std.specs.Prelude.{◌≡◌, ℕ, ◌+◌, ◌*◌, ◌%◌, ◌<◌, ◌≤◌, pos, ◌+ℤ◌, ◌-ℤ◌, List}
 use Rattle.std.specs.Prelude.{[], ◌++◌, length, slice_get, slice_index, Option, Some, slice_range}
 use Rattle.rkyv_base.specs.{ElementSpec, Format, IsArchiveWord, IsElement, IsFormat, OccursAt}
 use Rattle.rkyv_base.specs.{padding, round_up, signed_at, zeros}
@@ -134,10 +134,7 @@ module _ {X R : Type 0} (w : Width) (kind : IsArchiveWord w) (s : ElementSpec) (
       capacity_is = ap (λ n. capacity n r.load_factor) t.len ∙ ap (capacity (length pairs)) t.factor
 
       len_decoded : len_at w c p ≡ length pairs
-      len_decoded =
-          let b = below_capacity r.len r.load_factor in
-          len_reads w kind i.distance r.len (resolved_capacity r) c p header
-          (omega (arith, b, t.fits)) ∙ t.len
+      len_decoded = grind (arith, below_capacity, len_reads, header)
 
       cap_decoded : cap_at w c p ≡ capacity (length pairs) factor
       cap_decoded =
@@ -153,11 +150,7 @@ module _ {X R : Type 0} (w : Width) (kind : IsArchiveWord w) (s : ElementSpec) (
           let z : capacity (length pairs) factor ≡ 0 = ap (λ k. capacity k factor) n in (
             p0,
             inl (len_decoded ∙ n, cap_decoded ∙ z, refl),
-            record {
-              len = len_decoded;
-              cap = cap_decoded;
-              buckets = λ h. absurd (omega (arith, h, n));
-            },
+            grind (arith, len_decoded, cap_decoded),
           )
 
       module _ (slots : List (Option X)) (controls : List ℕ) (some : 0 < length pairs)
@@ -173,10 +166,7 @@ module _ {X R : Type 0} (w : Width) (kind : IsArchiveWord w) (s : ElementSpec) (
         B = begin s laws represents f fl c p0 C pairs slots controls placed room r.pos part b sp
 
         distance_is : i.distance ≡ pos r.pos -ℤ pos p
-        distance_is = elim i.distance_value [
-          | inl h ↦ absurd (omega (arith, h.0, t.len, some))
-          | inr h ↦ h.1
-        ]
+        distance_is = grind arith
 
         begin_is : decode_begin w s.size c p ≡ pos B
         begin_is =
@@ -212,12 +202,7 @@ module _ {X R : Type 0} (w : Width) (kind : IsArchiveWord w) (s : ElementSpec) (
         some_sound : Sound pairs c p p0 (p0 + length part)
         some_sound = (
           B + part_size s.size C,
-          subst (λ k. TableAt s c k (cap_at w c p) (len_at w c p) p0 (p0 + length part)
-              (B + part_size s.size C)) (sym begin_is)
-              (subst (λ k. TableAt s c (pos B) k (len_at w c p) p0 (p0 + length part)
-              (B + part_size s.size C)) (sym cap_decoded)
-              (subst (λ k. TableAt s c (pos B) C k p0 (p0 + length part) (B + part_size s.size C))
-              (sym len_decoded) table_at)),
+          grind (arith, begin_is, cap_decoded, len_decoded, table_at),
           record {
             len = len_decoded;
             cap = cap_decoded;
@@ -242,10 +227,7 @@ module _ {X R : Type 0} (w : Width) (kind : IsArchiveWord w) (s : ElementSpec) (
     table_is_format = record {
       size_exact = λ pairs r p out i. ap length i.is
           ∙ header_length w kind i.distance r.len (resolved_capacity r);
-      exclusive = λ pairs r p out i f. elim i.distance_value [
-        | inl h ↦ omega (arith, h.0, f.0)
-        | inr h ↦ f.1 (subst (FitsSigned w) h.1 i.fits)
-      ];
+      exclusive = grind (arith, common_steps);
       sound =
           λ pairs r c p0 p part out t i sp so o al. table_sound pairs r c p0 p part out t i sp so;
     }

@@ -64,9 +64,7 @@ module _ (s : ElementSpec) (law : IsElement s) (at : ℕ → ℕ) where
       let k : (lo ≤ h.0) × (h.0 ≤ hi) = law.rest_in_range b (at i) lo hi h.0 o' h.1 in
       let d : (m : ℕ) × s.is_valid b (at i) lo' hi m × (m ≤ h.0) =
       law.lower_lo b (at i) lo lo' hi h.0 o o' h.1 in
-      let r : (m : ℕ) × AreValidAt s at b hi is d.0 m × (m ≤ l) =
-      all_lower b hi is h.0 d.0 l d.2 k.1 h.2 in
-      (r.0, (d.0, d.1, r.1), r.2)
+      grind (arith, common_steps, all_lower b hi is h.0 d.0 l d.2 k.1 h.2)
 
   -- the validity of the values depends only on the bytes from `x` on and below `y`,
   -- if the positions below `n` are in there
