@@ -1,4 +1,5 @@
 -- Maps whose keys feed no `usize` and no `isize`, under hashers that differ in these alone.
+use Rattle.std.proofs.lemmas.Grind.{common_steps}
 use Rattle.std.proofs.Common.{◌≡◌, ℕ, ◌<◌, ◌∙◌, arith, sym, ap, subst, Bool, List, length, map, slice_index}
 use Rattle.std.specs.Int.{Width}
 use Rattle.std.specs.List.{find}
@@ -51,7 +52,4 @@ queried_alike w k v kl vl same key_calls queries fits is fixed one other b p hom
     first sizes there =
         let h = fx_hash_at sizes key_calls in
         first_accepted w k v kl vl h b p homes view there (fx_hash sizes (queries.calls query)) (fits query b) (fx_fits sizes (queries.calls query))
-        (λ i below accepted.
-        let q = pair_at w k v b p homes i in
-        let valid = valid_key kl vl b q (pair_valid w k v kl vl h b p homes view there i below) in
-        ap (fx_hash sizes) (sym (is.same_calls query b q ready valid accepted)))
+        (λ i below accepted. grind (arith, common_steps, pair_valid w k v kl vl h b p homes view there i below, valid_key))

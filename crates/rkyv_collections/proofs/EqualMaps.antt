@@ -1,4 +1,5 @@
 -- Equal maps have the same pairs.
+use Rattle.std.proofs.lemmas.Grind.{common_steps}
 use Rattle.std.proofs.Common.{◌≡◌, ℕ, ◌+◌, ◌<◌, ◌∙◌, inl, inr, refl, sym, ap, arith, subst, List, Bool, true, false, Option, Some, eqb, get_or, length}
 use Rattle.std.specs.Int.{Width}
 use Rattle.std.specs.List.{find, list_all, position_or_len}
@@ -68,15 +69,7 @@ module _ (w : Width) (k v : ElementSpec) (kl : IsElement k) (vl : IsElement v) (
           | inl none ↦ absurd (both_ways false refl (rw none at e))
           | inr some ↦
               let value : same_at i some.0 ≡ true = rw some.1 at e in
-              let key = (some_find (same_key b q c) xs some.0 some.1).1 in
-              let index = found_index (same_key b q c) xs some.0 some.1 in
-              let inside : index.0 < length others = omega (arith, index.1) in
-              let is : pair_at w k v c r others index.0 ≡ some.0 = sym (pos_of_pair w k v kl vl key_hash c r others second.valid second.written index.0 inside) ∙ index.2 in (
-                index.0,
-                inside,
-                subst (λ x. entry_same k v same_key same_value b q c x ≡ true) (sym is)
-                    (and_from (same_key b q c some.0) (same_value b (q + value_offset k v) c (some.0 + value_offset k v)) key value),
-              )
+              grind (arith, common_steps, some_find (same_key b q c) xs some.0 some.1, found_index (same_key b q c) xs some.0 some.1, pos_of_pair, and_from)
         ]
 
     -- a pair that is the same as one of the other map is matched

@@ -1,5 +1,5 @@
 -- Lookups in a map that represents a list, in terms of the list.
-use Rattle.std.proofs.Common.{◌≡◌, ℕ, suc, ◌+◌, ◌<◌, sym, ◌∙◌, arith, inl, inr, Bool, List, [], ◌∷◌, length, slice_get, slice_index, Option, Some, subst, refl}
+use Rattle.std.proofs.Common.{◌≡◌, ℕ, suc, ◌+◌, ◌<◌, sym, ◌∙◌, arith, Bool, List, [], ◌∷◌, length, slice_get, slice_index, Option, Some, subst, refl}
 use Rattle.std.proofs.lemmas.Grind.{common_steps}
 use Rattle.std.specs.Int.{Width}
 use Rattle.std.specs.List.{find}
@@ -27,10 +27,7 @@ module _ {A B : Type 0} (k v : ElementSpec) (key : List ℕ → ℕ → A → Ty
   found_together fits accept_value (x ∷ xs) (y ∷ ys) n h =
       let here = h 0 y refl in
       let rest = found_together fits accept_value xs ys (omega (arith, n)) (λ i z e. h (suc i) z e) in
-      elim (cases_Bool (accept_value y.0)) [
-        | inl t ↦ rw (here.0, t) here.1
-        | inr f ↦ rw (here.0, f) rest
-      ]
+      grind (arith, common_steps, cases_Bool)
 
   -- the views of the found value and of the found pair
   pub value_listed : {V : Type 0} (key_pos : Option ℕ) (o : Option (A × B)) (result : Option (View V)) → IfSome result (λ x. x.archive.now ≡ b)

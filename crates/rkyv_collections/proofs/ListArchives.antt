@@ -1,5 +1,5 @@
 -- The archive of a list, and the scalar of a value that is found in it.
-use Rattle.std.proofs.Common.{◌≡◌, ◌+◌, ◌∙◌, ℕ, Bool, List, MatchResult, Option, Result, [], ◌∷◌, ap, refl, subst, sym, arith}
+use Rattle.std.proofs.Common.{◌≡◌, ◌+◌, ◌∙◌, ℕ, Bool, List, MatchResult, Option, Result, [], ◌∷◌, ap, refl, subst, sym, arith, rules}
 use Rattle.std.proofs.lemmas.Grind.{common_steps}
 use Rattle.std.specs.Borrow.{Bor}
 use Rattle.std.specs.Int.{Width}
@@ -62,12 +62,7 @@ first_in_root {ks = ks} {vs = vs} {wt = wt} m keys value native archive factor p
     let k = ks.spec in
     let v = vs.spec in
     let represents = moved (λ x p. MapRepresents w k v keys.represents value keys.key_hash factor x p pairs) _ _ _ _ (sym (ap (λ a. a.now) at.0)) (sym at.1) is in
-    record {
-      homes = represents.homes;
-      written = represents.written;
-      pair = first_listed w k v ks.laws vs.laws keys.represents value keys.key_hash factor (map_bytes m) (map_pos m) pairs m.valid (keys.fits query (map_bytes m)) (keys.equal query)
-          (λ a q s there. native query a (map_bytes m) q s there) represents;
-    }
+    search (rules, first_listed)
 
 -- the map at a view that is at a position is there
 at_view : {K V H W : Type 0} {ks : Specs K} {vs : Specs V} {wt : Words W} (m : ArchivedHashMap K V H W ks vs wt) (root : View (HashMapOf K V H W)) (archive : Bor (List ℕ)) (p : ℕ)

@@ -30,14 +30,10 @@ module _ (rows columns : ℕ) (same : ℕ → ℕ → Bool) (matching : IsMatchi
       let xs = range_with_len 0 columns in
       let some = any_range (same i) 0 columns m.0 (omega arith) (omega arith) m.2 in
       let inside = first_within (same i) xs some in
-      let n = length-range_with_len 0 columns in
-      let below : position_or_len (same i) xs < columns = omega arith in
-      let at = get_or-range_with_len 0 columns (position_or_len (same i) xs) 0 below in
-      let first : 0 + position_or_len (same i) xs ≡ position_or_len (same i) xs = omega arith in
-      (below, ap (same i) (sym (at ∙ first)) ∙ passes_at_first (same i) xs 0 inside)
+      grind (arith, common_steps, length-range_with_len 0 columns, passes_at_first (same i) xs 0 inside, get_or-range_with_len)
 
   columns_differ : (i j : ℕ) → i < rows → j < rows → column i ≡ column j → i ≡ j
-  columns_differ i j hi hj e = grind (arith, common_steps, column_same, column)
+  columns_differ i j hi hj e = grind (arith, common_steps, column_same)
 
   -- there are at least as many columns as rows
   pub rows_within : rows ≤ columns

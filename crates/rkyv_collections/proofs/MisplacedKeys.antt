@@ -1,4 +1,5 @@
 -- Keys of a map that a lookup of their own doesn't find.
+use Rattle.std.proofs.lemmas.Grind.{common_steps}
 use Rattle.std.proofs.Common.{◌≡◌, ℕ, ◌^◌, ◌<◌, ◌||◌, ◌∷◌, [], ◌∙◌, inl, inr, refl, sym, ap, arith, subst, List, Bool, true, Option, Some, None, length, filter, map, take, slice_index}
 use Rattle.std.specs.Option.{option_map}
 use Rattle.std.specs.Prelude.{MatchOption}
@@ -57,12 +58,7 @@ module _ (w : Width) (k v : ElementSpec) (kl : IsElement k) (vl : IsElement v) (
 
     repeated_keys : map_misplaced w k v key_hash same_key b p ≡ repeated (λ q r. same_key b q b r) (home_positions w (entry_spec k v).size b p homes)
     repeated_keys = elim written.placed [
-      | inl none ↦
-          let count = walk_count w (entry_spec k v) (entry_element k v kl vl) b p view in
-          let pairs = len_is_count w k v kl vl key_hash b p homes view written in
-          let z : length homes ≡ 0 = ap length none.1 in
-          let empty : walk (table_controls w b p) (cap_at w b p) ≡ [] = nil_from_length (walk (table_controls w b p) (cap_at w b p)) (count ∙ pairs ∙ z) in
-          rw (empty, none.1) refl
+      | inl none ↦ grind (arith, common_steps, walk_count w (entry_spec k v) (entry_element k v kl vl) b p view, entry_element k v kl vl, len_is_count w k v kl vl key_hash b p homes view written, nil_from_length)
       | inr some ↦
           ap (λ n. misplaced generic_kind (table_controls w b p) (cap_at w b p) n (λ i. key_hash b (at i)) (λ i j. same_key b (at i) b (at j))) written.count
           ∙ repeated_misplaced generic_kind (cap_at w b p) hashes homes (table_controls w b p) (λ i. key_hash b (at i)) (λ i j. same_key b (at i) b (at j)) word_lawful
@@ -115,10 +111,7 @@ module _ {Q State : Type 0} (w : Width) (k v : ElementSpec) (kl : IsElement k) (
 
   pub finds_the_one : FindsTheOne w size b p (fits q b) (pos_found generic_kind w size b p hash (fits q b))
   finds_the_one = elim (cases_eq cap 0) [
-    | inl z ↦
-        let e = no_items w (entry_spec k v) (entry_element k v kl vl) b p view z in
-        subst (λ n. FindsTheOne w size b p (fits q b) (option_map item_pos (found generic_kind controls cap n hash accept))) (sym e)
-        (by_pos None (λ i c. absurd (omega (arith, (walked_full cap controls i c).0, z))))
+    | inl z ↦ grind (arith, common_steps, no_items w (entry_spec k v) (entry_element k v kl vl) b p view z, entry_element k v kl vl, by_pos, walked_full)
     | inr some ↦
         by_pos (found generic_kind controls cap (len_at w b p) hash accept)
         (complete generic_kind cap (len_at w b p) hash controls accept (λ i. hash_at hasher key_calls b (item_pos i)) (λ i j. same b (item_pos i) b (item_pos j)) word_lawful

@@ -1,6 +1,6 @@
 -- A write among the parts of one value keeps the map. In the list that the map represents,
 -- only that value changes.
-use Rattle.std.proofs.Common.{◌≡◌, ℕ, ◌-◌, ◌∙◌, inl, inr, sym, ap, subst, arith, Bool, List, length, map, Some, slice_index}
+use Rattle.std.proofs.Common.{◌≡◌, ℕ, ◌-◌, ◌∙◌, inl, inr, sym, subst, arith, Bool, List, length, map, Some, slice_index}
 use Rattle.std.specs.Prelude.{slice_get, slice_set}
 use Rattle.std.specs.Int.{Width}
 use Rattle.std.specs.List.{find}
@@ -99,12 +99,7 @@ module _ (w : Width) (k v : ElementSpec) (kl : IsElement k) (vl : IsElement v) {
       elim (nth_found accept_value (λ before. new) accept xs pairs (count w k v kl vl key value key_hash factor b p pairs (λ before. new) accept accept_value view agrees st)
       (each_alike w k v kl vl key value key_hash factor b p pairs (λ before. new) accept accept_value view agrees st)) [
         | inl none ↦ absurd (let e = t.1 ∙ none.0 in cc)
-        | inr r ↦
-            let at : t.0 ≡ slice_index xs r.n = same_Some t.0 (slice_index xs r.n) (t.1 ∙ r.pos) in
-            let there : pos ≡ value_pos k v (slice_index xs r.n) = t.2 ∙ ap (value_pos k v) at in
-            subst (λ (l : List (A × B)). MapRepresents w k v key value key_hash factor c p l) (sym r.written)
-            (nested_represents w k v kl vl key_hash local key value kn vn b c p r.n factor pairs r.pair new view st r.at
-            (subst (WritesAmongParts v b c) there writes) (subst (λ z. value c z new) there represents))
+        | inr r ↦ grind (arith, same_Some, nested_represents)
       ]
 
 -- a write of one value in place is one among the parts of the map

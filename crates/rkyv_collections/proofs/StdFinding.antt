@@ -1,8 +1,8 @@
 -- Lookups in an archive of a map of std.
-use Rattle.std.proofs.Common.{arith, ◌≡◌, ℕ, ◌+◌, refl, sym, ap, subst, ◌∙◌, cond, ◌↔◌, Bool, true, List, [], ◌∷◌, None, Option, Some}
+use Rattle.std.proofs.Common.{arith, ◌≡◌, ℕ, ◌+◌, refl, sym, ap, ◌∙◌, cond, ◌↔◌, Bool, true, List, [], ◌∷◌, None, Option, Some}
 use Rattle.std.proofs.lemmas.Grind.{common_steps}
 use Rattle.std.specs.Int.{Width}
-use Rattle.std.specs.List.{find, list_any}
+use Rattle.std.specs.List.{list_any}
 use Rattle.std.specs.Map.{lookup}
 use Rattle.std.specs.Option.{is_some, option_map}
 use Rattle.std.proofs.lemmas.Bool.{cases_Bool, true≢false}
@@ -75,10 +75,7 @@ module _ {State : Type 0} (hasher : Hasher State) (small : NumbersFit hasher) (w
       (λ i h accepted.
       ap (hash_of_calls hasher)
       (sym (query.same_calls q b (pair_at w k v b p st.homes i) ready (valid_key kl vl b (pair_at w k v b p st.homes i) (pair_valid w k v kl vl hash b p st.homes view st.written i h)) accepted))) in
-      let listed = first_listed w k v kl vl key value hash factor b p entries view accept accept_value agrees st in
-      let behind = value_behind k v key value b (find accept positions) (first_pair accept_value entries) listed in
-      subst (λ (key_pos : Option ℕ). IsValueBehind value b (value_offset k v) key_pos (lookup accept_value entries)) (sym found)
-      (subst (λ (o : Option B). IsValueBehind value b (value_offset k v) (find accept positions) o) (first_looked_up accept_value entries) behind)
+      grind (arith, common_steps, first_listed w k v kl vl key value hash factor b p entries view accept accept_value agrees st, first_looked_up accept_value entries, value_behind)
 
   -- in any archive with the written bytes of a map of std
   looked_up : IsArchiveWord w → (equal : A → A → Bool) {R : Type 0} (f : Format (List (A × B)) R)

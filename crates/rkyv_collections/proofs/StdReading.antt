@@ -5,7 +5,6 @@ use Rattle.std.specs.Borrow.{Bor}
 use Rattle.std.specs.Int.{Width}
 use Rattle.std.specs.HashSet.{HashSet, Updates}
 use Rattle.std.specs.List.{AllZip, find}
-use Rattle.std.specs.Option.{option_or}
 use Rattle.std.specs.Map.{keys_of, lookup, update_all}
 use Rattle.std.proofs.lemmas.List.{map-append}
 use Rattle.std.proofs.lemmas.List.Folds.{find-append}
@@ -85,9 +84,7 @@ module _ {A B : Type 0} (w : Width) (k v : ElementSpec) (key : List ℕ → ℕ 
       pairs = on.pairs ++ (a, x) ∷ [];
       read = read_push (PairRepresents k v key value archive.now) on.before on.pairs key_pos (a, x) on.read represents;
       inserted = λ q. inserted q ∙ update_all_push equal (λ _. None) found on.pairs (a, x) q (on.inserted q);
-      first_kept = λ q.
-          adds q ∙ find-append (equal q) stored (a ∷ []) ∙ ap (λ (o : Option A). option_or o (find (equal q) (a ∷ []))) (on.first_kept q)
-          ∙ sym (find-append (equal q) (keys_of on.pairs) (a ∷ [])) ∙ ap (find (equal q)) (sym (map-append (λ (e : A × B). e.0) on.pairs ((a, x) ∷ [])));
+      first_kept = grind (arith, common_steps, find-append, map-append);
     }
 
     -- the error of the next key or value

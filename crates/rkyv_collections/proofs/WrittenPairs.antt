@@ -1,4 +1,5 @@
 -- The positions of the pairs of a written map, in a walk and in a lookup.
+use Rattle.std.proofs.lemmas.Grind.{common_steps}
 use Rattle.std.proofs.Common.{◌≡◌, ℕ, ◌^◌, ◌<◌, ◌∙◌, inl, inr, sym, ap, arith, subst, List, Bool, true, length, map, slice_index}
 use Rattle.std.specs.Int.{Width}
 use Rattle.std.specs.List.{Contains, find, list_all}
@@ -66,10 +67,7 @@ module _ (w : Width) (k v : ElementSpec) (kl : IsElement k) (vl : IsElement v) (
   walked_pair : (bucket : ℕ) → Contains (walk (table_controls w b p) (cap_at w b p)) bucket → Contains homes bucket
   unfolding hashes positions
   walked_pair bucket at = elim written.placed [
-    | inl none ↦
-        let count = walk_count w (entry_spec k v) (entry_element k v kl vl) b p view in
-        let z : length homes ≡ 0 = ap length none.1 in
-        absurd (omega (arith, at.1, count, len_is_count, z))
+    | inl none ↦ grind (arith, common_steps, walk_count w (entry_spec k v) (entry_element k v kl vl) b p view, entry_element k v kl vl, len_is_count)
     | inr placed ↦ ((walked_homes (cap_at w b p) hashes homes (table_controls w b p) placed.0 written.fit placed.1).members bucket).0 at
   ]
 

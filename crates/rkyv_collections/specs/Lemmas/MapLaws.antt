@@ -1,4 +1,5 @@
 -- Written maps are valid in each archive with their bytes, and so are copies of their bytes.
+use Rattle.std.proofs.Common.{rules}
 use Rattle.std.proofs.Common.{◌≡◌, ℕ, ◌+◌, ◌-◌, ◌*◌, ◌<◌, ◌≤◌, refl, sym, ap, subst, ◌∙◌, arith}
 use Rattle.std.proofs.Common.{inl, inr, List, [], ◌∷◌, map, length, slice_get, slice_index, Some}
 use Rattle.std.proofs.lemmas.Grind.{common_steps}
@@ -12,9 +13,9 @@ use Rattle.rkyv_base.specs.Lemmas.Bytes.{agree_on_part}
 use Rattle.rkyv_base.specs.Lemmas.Entry.{entry_element, same_key}
 use Rattle.rkyv_base.specs.Lemmas.Pairs.{pair_is_format, pair_local}
 use Rattle.rkyv_base.specs.Lemmas.ElementSpec.{valid_at}
-use Rattle.rkyv_table.specs.{AreWrittenControls, IsValidTable, IsValidWithin, IsWrittenOf}
-use Rattle.rkyv_table.specs.{TableRepresents, ValidPart, WrittenAt, cap_at, capacity, hashes_of}
-use Rattle.rkyv_table.specs.{home_positions, item_at, items_of, table_controls}
+use Rattle.rkyv_table.specs.{IsValidTable, IsValidWithin, IsWrittenOf}
+use Rattle.rkyv_table.specs.{TableRepresents, ValidPart, WrittenAt, capacity, hashes_of}
+use Rattle.rkyv_table.specs.{home_positions, item_at, items_of}
 use Rattle.rkyv_table.specs.Lemmas.TableSound.{table_is_format}
 use Rattle.rkyv_table.specs.Lemmas.ItemPositions.{item_is_valid, valid_part}
 use Rattle.rkyv_table.specs.Lemmas.SameHeader.{cap_same, len_same, pos_same}
@@ -60,12 +61,7 @@ module _ (k v : ElementSpec) (kl : IsElement k) (vl : IsElement v) (w : Width) w
         let walked = home_walked w b p hashes homes written i below in
         let t = valid_part w S law b p lo hi l h (omega (arith, walked.0)) in
         let r = item_is_valid w S law b p lo hi l h (slice_index homes i) walked t in
-        let e = sym (home_pos w S.size b p homes i below) in (
-          t,
-          subst (λ q. IsValidWithin S b q lo t.begin t.begin) e r.0,
-          subst (λ q. t.begin ≤ q) e r.1,
-          subst (λ q. q + S.size ≤ l) e r.2,
-        )
+        search (rules, home_pos)
 
   module _ {A B : Type 0} (key : List ℕ → ℕ → A → Type 0) (value : List ℕ → ℕ → B
       → Type 0) (hash : List ℕ → ℕ → ℕ) (factor : ℕ × ℕ) where
@@ -121,9 +117,14 @@ module _ (k v : ElementSpec) (kl : IsElement k) (vl : IsElement v) (w : Width) w
           ∙ sym (length-map hc (hash c)))
           (λ i below.
           let n : i < length st.homes = omega (arith, below, length-map hb (hash b), nb) in
-          get_or-map (hash b) hb i 0 0 (omega (arith, n, nb)) ∙ same_hash i n
-          ∙ ap (λ (xs : List ℕ). hash c (slice_index xs i)) same_positions
-          ∙ sym (get_or-map (hash c) hc i 0 0 (omega (arith, n, nc))))
+          grind (
+            arith,
+            common_steps,
+            get_or-map (hash b) hb i 0 0 (omega (arith, n, nb)),
+            get_or-map (hash c) hc i 0 0 (omega (arith, n, nc)),
+            same_hash i n,
+            same_positions,
+          ))
 
       written_again : WrittenAt w c p hashes st.homes
       written_again = record {
@@ -131,14 +132,13 @@ module _ (k v : ElementSpec) (kl : IsElement k) (vl : IsElement v) (w : Width) w
         fit = st.written.fit;
         placed = elim st.written.placed [
           | inl e ↦ inl e
-          | inr e ↦ inr (
-            subst (λ n. length hashes < n) (cap_same w b c p fixed) e.0,
-            subst (λ n. AreWrittenControls n hashes st.homes (table_controls w c p))
-                (cap_same w b c p fixed)
-                (subst (λ (xs : List ℕ). AreWrittenControls (cap_at w b p) hashes st.homes xs)
-                (same_controls w S law b c p lo hi l o h fixed part
-                (omega (arith, e.0))) e.1),
-          )
+          | inr e ↦
+              grind (
+                arith,
+                common_steps,
+                cap_same w b c p fixed,
+                same_controls w S law b c p lo hi l o h fixed part (omega (arith, e.0)),
+              )
         ];
       }
 
@@ -219,9 +219,7 @@ module _ (k v : ElementSpec) (kl : IsElement k) (vl : IsElement v) (w : Width) w
             ext_get_or 0 under (map (hash c) positions) (under_count ∙ sym homes_count ∙ sym n
             ∙ sym (length-map positions (hash c)))
             (λ i below.
-            let inside : i < length pairs = omega (arith, below, under_count) in
-            hash_there i inside ∙ sym (get_or-map (hash c) positions i 0 0
-            (omega (arith, inside, n, homes_count))))
+            grind (arith, common_steps, under_count, hash_there, get_or-map, homes_count))
 
         pub pairs_represent : MapRepresents w k v key value hash factor c p pairs
         pairs_represent = record {

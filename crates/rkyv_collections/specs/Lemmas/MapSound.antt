@@ -1,6 +1,7 @@
 -- The laws of an archived list of pairs as a map.
+use Rattle.std.proofs.lemmas.Grind.{common_steps}
 use Rattle.std.specs.Prelude.{◌≡◌, ℕ, Bool, true, List}
-use Rattle.std.proofs.Common.{ap}
+use Rattle.std.proofs.Common.{ap, arith, rules}
 use Rattle.std.specs.Int.{Width}
 use Rattle.rkyv_base.specs.{ElementSpec, Format, IsArchiveWord, IsElement, IsFormat}
 use Rattle.rkyv_base.specs.{RepresentsLocally}
@@ -40,9 +41,12 @@ module _ {State : Type 0} (hasher : Hasher State) (w : Width) {k v : ElementSpec
   map_sound kind {can_read} {calls} {fits} {equal} {R} {Q} {kf} {vf} query native itself reads kw
       vw =
       map_is_format k v kl vl w key value (hash_at hasher key_calls) factor (hash_of hasher calls)
-      (λ a b q valid there. ap (hash_of_calls hasher)
-      (hashes_as_written k same key_calls can_read calls fits key equal itself query native a b
-      q (reads a) valid there))
+      (λ a b q valid there. grind (
+        arith,
+        common_steps,
+        hashes_as_written k same key_calls can_read calls fits key equal itself query native a b
+            q (reads a) valid there,
+      ))
       kind kf vf kw vw
 
   -- the same for a list, written by a call that takes exactly its pairs
@@ -56,8 +60,4 @@ module _ {State : Type 0} (hasher : Hasher State) (w : Width) {k v : ElementSpec
       → IsFormat (map_spec w k v) (MapRepresents w k v key value (hash_at hasher key_calls) factor)
       (listed max factor (map_format w k v kf vf (hash_of hasher calls) factor))
   listed_map_sound max kind {can_read} {calls} {fits} {equal} {R} {Q} {kf} {vf} query native itself
-      reads kw vw =
-      listed-format max factor (map_spec w k v)
-      (MapRepresents w k v key value (hash_at hasher key_calls) factor)
-      (map_format w k v kf vf (hash_of hasher calls) factor)
-      (map_sound kind query native itself reads kw vw)
+      reads kw vw = search (rules, listed-format, map_sound)

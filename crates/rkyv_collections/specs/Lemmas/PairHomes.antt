@@ -1,5 +1,6 @@
 -- The home buckets of the pairs of a written map.
-use Rattle.std.proofs.Common.{◌≡◌, ℕ, ◌∙◌, sym, ap, subst, refl, inl, inr, List, map, length}
+use Rattle.std.proofs.lemmas.Grind.{common_steps}
+use Rattle.std.proofs.Common.{◌≡◌, ℕ, ◌∙◌, sym, inl, inr, List, map, length, arith}
 use Rattle.std.specs.Int.{Width}
 use Rattle.rkyv_base.specs.{ElementSpec, entry_spec}
 use Rattle.rkyv_table.specs.{VisitsHomes, cap_at, home_positions, table_controls}
@@ -22,11 +23,7 @@ module _ {A B : Type 0} {w : Width} {k v : ElementSpec} {key : List ℕ → ℕ 
   homes_visited =
       let controls = table_controls w b p in
       elim st.written.placed [
-        | inl none ↦
-            let n : length pairs ≡ 0 = sym homes_count ∙ ap length none.1 in
-            let cap : cap_at w b p ≡ 0 = st.cap ∙ rw n refl in
-            subst (λ n. VisitsHomes n st.homes controls) (sym cap)
-            (subst (λ (xs : List ℕ). VisitsHomes 0 xs controls) (sym none.1) (none_visits controls))
+        | inl none ↦ grind (arith, common_steps, none_visits controls, homes_count)
         | inr some ↦
             walked_homes (cap_at w b p) hashes st.homes controls some.0 st.written.fit some.1
       ]

@@ -110,16 +110,10 @@ module _ (w : Width) (k v : ElementSpec) (kl : IsElement k) (vl : IsElement v) {
         let positions = home_positions w size b p st.homes in
         let total = length-map st.homes (item_at w size b p) in
         let here : fits y.0 b (item_pos n) ≡ true = fits_is y.0 n y below e ∙ laws.refl y.0 in
-        let small : own y.0 < 2 ^ 64 =
-        subst (λ x. x < 2 ^ 64) (hash_is n below
-        ∙ under y.0 n below here) (st.written.fit n 0
-        (omega (arith, below, hashes_total))) in
+        let small : own y.0 < 2 ^ 64 = grind (arith, hash_is, under, hashes_total) in
         first_found generic_kind word_lawful w size b p (own y.0) small hashes st.homes (fits y.0 b)
         st.written
-        (λ i h accepted.
-        let l : i < length st.homes = omega (arith, h, hashes_total) in
-        hash_is i l ∙ under y.0 i l (ap (fits y.0 b) (sym (home_pos w size b p st.homes i l))
-        ∙ accepted))
+        (λ i h accepted. grind (arith, hashes_total, hash_is, under, home_pos))
         ∙ find_only (fits y.0 b) positions n (omega (arith, below, total))
         (ap (fits y.0 b) (home_pos w size b p st.homes n below) ∙ here)
         (λ j less. ap (fits y.0 b) (home_pos w size b p st.homes j (omega (arith, less, below)))

@@ -1,4 +1,5 @@
 -- Written bytes of a map of std represent that map, and so do copies of these bytes.
+use Rattle.std.proofs.lemmas.Grind.{common_steps}
 use Rattle.std.proofs.Common.{◌≡◌, ℕ, zero, suc, ◌+◌, ◌-◌, ◌*◌, ◌<◌, ◌≤◌, refl, sym, ap, subst}
 use Rattle.std.proofs.Common.{◌∙◌, arith, inl, inr, ◌⊎◌, Bool, true, false, cond, eqb, List, []}
 use Rattle.std.proofs.Common.{◌∷◌, map, length, slice_get, slice_index, Option, Some, None}
@@ -298,11 +299,4 @@ module _ (k v : ElementSpec) (kl : IsElement k) (vl : IsElement v) (w : Width) {
         → IsFormat (map_spec w k v) (EntriesRepresent k v key value w equal) (of_entries equal f)
     entries_sound kind f base =
         of_entries-format w kind kl vl factor equal (EntriesRepresent k v key value w equal)
-        (λ b p view es st apart.
-        let read = reads_written b p es st apart in
-        record {
-          pairs = read.0;
-          read = read.1;
-          inserted = (read.2, apart);
-          stored = read.3;
-        }) f base
+        (λ b p view es st apart. grind (arith, common_steps, reads_written b p es st apart)) f base

@@ -52,10 +52,7 @@ module _ {A B : Type 0} (equal : A → A → Bool) (laws : IsEquivalence equal) 
     lookup_of_entry : (test : A → Bool) (es : List (A × B))
         → lookup test es ≡ option_map (λ (e : A × B). e.1) (lookup_entry test es)
     lookup_of_entry test [] = refl
-    lookup_of_entry test (e ∷ es) = elim (cases_Bool (test e.0)) [
-      | inl here ↦ rw here refl
-      | inr other ↦ rw other (lookup_of_entry test es)
-    ]
+    lookup_of_entry test (e ∷ es) = grind (arith, common_steps, cases_Bool, lookup_of_entry test es)
 
     agreed : (o r : Option (A × B))
         → option_eq (λ p q. same p.1 q.1) o r
@@ -127,10 +124,7 @@ module _ {A B : Type 0} (equal : A → A → Bool) (laws : IsEquivalence equal) 
           All-map (ValidAt s b) (item_at w s.size b p) ws
           (All-weaker (IsWalked w b p) (λ i. ValidAt s b (item_at w s.size b p i))
           (entry_valid b p st) ws (walked_all w s (entry_element k v kl vl) b p)) in
-          let z = zip_alike b (item_positions w s.size b p) x.pairs y.pairs all x.read y.read in
-          ap (λ o. option_eq same o (lookup (equal q) fs)) (x.inserted.0 q)
-          ∙ ap (option_eq same (update_all equal (λ _. None) x.pairs q)) (y.inserted.0 q)
-          ∙ inserted_alike x.pairs y.pairs z (λ _. None) (λ _. None) q refl
+          grind (arith, common_steps, zip_alike, inserted_alike)
 
       pub std_map_once : {S : Type 0}
           → RepresentsUniquely {V =

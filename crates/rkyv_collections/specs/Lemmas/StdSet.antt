@@ -1,6 +1,7 @@
 -- Lemmas: sets of std, as their keys, each with the unit value.
+use Rattle.std.proofs.lemmas.Grind.{common_steps}
 use Rattle.std.specs.Prelude.{◌≡◌, ℕ, Bool, List, [], ◌∷◌, length}
-use Rattle.std.proofs.Common.{refl, ap, ◌∙◌, inl, inr, arith, cond, Some, None}
+use Rattle.std.proofs.Common.{refl, ap, ◌∙◌, arith, cond, Some, None}
 use Rattle.std.specs.List.{All, list_any}
 use Rattle.std.proofs.lemmas.Bool.{cases_Bool}
 use Rattle.std.proofs.lemmas.List.{length-map}
@@ -19,10 +20,7 @@ keys_with_units {A} (x ∷ xs) = ap (λ (t : List A). x ∷ t) (keys_with_units 
 pub unit_lookup : {A : Type 0} (test : A → Bool) (keys : List A)
     → lookup test (with_units keys) ≡ cond (list_any test keys) (Some tt) None
 unit_lookup test [] = refl
-unit_lookup test (x ∷ xs) = elim (cases_Bool (test x)) [
-  | inl here ↦ rw here refl
-  | inr other ↦ rw other (unit_lookup test xs)
-]
+unit_lookup test (x ∷ xs) = grind (arith, common_steps, cases_Bool, unit_lookup test xs)
 
 all_units : {A : Type 0} (P : A × Unit {0} → Type 0) (keys : List A) → All P (with_units keys)
     → All (λ key. P (key, tt)) keys

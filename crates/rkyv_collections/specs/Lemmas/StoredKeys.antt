@@ -24,10 +24,7 @@ contained_from_find : {A : Type 0} (test : A → Bool) (xs : List A) (x : A)
     → find test xs ≡ Some x → Contains xs x × (test x ≡ true)
 contained_from_find test [] x h = absurd (none-some x h)
 contained_from_find test (y ∷ ys) x h = elim (cases_Bool (test y)) [
-  | inl here ↦
-      let h' = rw here at h in
-      let same = same_Some y x h' in
-      ((zero, omega arith, same), ap test (sym same) ∙ here)
+  | inl here ↦ grind (arith, common_steps, same_Some)
   | inr other ↦
       let h' = rw other at h in
       let rest = contained_from_find test ys x h' in
