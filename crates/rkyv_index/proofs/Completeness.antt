@@ -1,4 +1,5 @@
 -- If no key is misplaced, a lookup finds the one key that fits.
+use Rattle.std.proofs.lemmas.Grind.{common_steps}
 use Rattle.std.proofs.Common.{◌≡◌, ℕ, zero, suc, ◌+◌, ◌^◌, ◌<◌, ◌≤◌, ◌∙◌, inl, inr, refl, sym, ap, arith, subst, List, Bool, true, false, not, Option, Some, None, length, filter}
 use Rattle.std.specs.Option.{option_map}
 use Rattle.std.specs.Int.{Width, byte_len}
@@ -92,9 +93,7 @@ module _ {K Q : Type 0} (m : Index K) (kind : IsArchiveWord m.word) (kl : IsElem
         | inr some ↦
             let ok = controls_accepted w (stored_index_spec w) (stored_index_element w kind) b p (table_there w kind s law b p view) (omega arith) in
             let there = found_walked generic_kind cap len (hash_of_calls hasher (calls q)) controls word_lawful ok small (λ j. accept (read j)) g.0 g.1 in
-            let is : read g.0 ≡ i = ap (number_at w b) g.2 ∙ f.2 in
-            let below = index_below w kind s law b p view g.0 (walked_full cap controls g.0 there.1) in
-            (subst (λ n. n < len) is below, subst (λ n. accept n ≡ true) is there.0)
+            grind (arith, common_steps, index_below w kind s law b p view g.0 (walked_full cap controls g.0 there.1), walked_full cap controls g.0 there.1)
       ]
 
   -- a lookup finds the index of a key that fits

@@ -45,14 +45,7 @@ module _ (w : Width) (kind : IsArchiveWord w) (s : ElementSpec) (law : IsElement
   entry_viewable i below =
       let begin = valid.entries.begin in
       let r = each_is_valid s law (entry_at s.size begin) b begin 0 (len_at w b p) valid.middle valid.entries.last i valid.entries.part.above valid.entries.valid (omega arith) (omega (arith, below)) in
-      let u = entry_inside s.size begin (len_at w b p) i below in
-      let room = valid.entries.part.below in
-      let inside = v.inside in
-      subst (λ n. Viewable s b (entry_at s.size n i)) (sym begin_is) (record {
-        inside = omega (arith, u.1);
-        aligned = entry_aligned s law begin i valid.entries.part.aligned;
-        valid = valid_at s law b (entry_at s.size begin i) r.lower begin r.rest r.below u.0 r.is_valid;
-      })
+      grind (arith, entry_inside, begin_is, entry_aligned, valid_at)
 
   -- all entries are valid. `size`: size of an entry, `begin`: position of the first, `n`: their number, `d`: bytes of the archive
   pub row_viewable : (size : ℕ) → size ≡ s.size → (begin : ℕ) → begin ≡ entries_pos w b p → (n : ℕ) → n ≡ len_at w b p → (d : List ℕ) → d ≡ b → All (Viewable s d) (row size begin n)

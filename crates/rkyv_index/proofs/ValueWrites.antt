@@ -1,6 +1,6 @@
 -- A write of one value in place keeps the index map, and its list but for that value.
 use Rattle.std.proofs.lemmas.Grind.{common_steps}
-use Rattle.std.proofs.Common.{◌≡◌, ◌≢◌, ℕ, suc, ◌+◌, ◌-◌, ◌*◌, ◌<◌, ◌≤◌, ◌^◌, inl, inr, refl, sym, ap, subst, arith, Bool, List, Some, rules}
+use Rattle.std.proofs.Common.{◌≡◌, ◌≢◌, ℕ, suc, ◌+◌, ◌-◌, ◌*◌, ◌<◌, ◌≤◌, ◌^◌, inl, inr, sym, ap, subst, arith, Bool, List, Some, rules}
 use Rattle.std.specs.Prelude.{slice_get, slice_set, unsigned_abs}
 use Rattle.std.specs.Int.{Width, byte_len}
 use Rattle.std.proofs.Math.Nat.{mul-le-mul_right}
@@ -106,10 +106,7 @@ module _ (w : Width) (kind : IsArchiveWord w) (k v : ElementSpec) (kl : IsElemen
 
     key_fixed : (j : ℕ) → j < len_at w b p → AgreeOn b c (at j) (at j + k.size)
     key_fixed j there = elim (cases_eq j i) [
-      | inl e ↦
-          let inside = key_and_value_inside k v in
-          let own : AgreeOn b c (at i) (at i + k.size) = same_outside b (value_pos k v (at i)) v.size c writes.sealed (at i) (at i + k.size) (omega arith) (inl (omega (arith, inside.0))) in
-          subst (λ n. AgreeOn b c (at n) (at n + k.size)) (sym e) own
+      | inl e ↦ grind (arith, common_steps, key_and_value_inside, same_outside)
       | inr ne ↦ same_key k v kl vl b c (at j) (entry j there).valid.1.0 (entry_same j ne)
     ]
 
@@ -189,13 +186,7 @@ module _ (w : Width) (kind : IsArchiveWord w) (k v : ElementSpec) (kl : IsElemen
   pub pair_position : (i : ℕ) → i < len_at w b p → IsPairPos w k v b p i (at i)
   pair_position i below =
       let here = entry i below in
-      record {
-        below = below;
-        pos = refl;
-        key = viewable_key k v kl vl b (at i) here;
-        value = viewable_value k v kl vl b (at i) here;
-        kept = λ c writes. entries_kept c i below writes;
-      }
+      search (rules, viewable_key, viewable_value, entries_kept)
 
 -- a comparison that depends only on the keys depends only on each key and its parts
 pub rests_on_parts : {Q : Type 0} (k : ElementSpec) (can_read : Q → Type 0) (fits : Q → List ℕ → ℕ → Bool) → RestsOnKeys k can_read fits → (q : Q) → can_read q → RestsOnParts k (fits q)

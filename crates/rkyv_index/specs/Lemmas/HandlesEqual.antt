@@ -10,7 +10,7 @@ use Rattle.rkyv_base.specs.Lemmas.Entry.{entry_element}
 use Rattle.rkyv_keys.specs.{Comparison, IsEquivalence, unit_same}
 use Rattle.rkyv_keys.specs.Lemmas.OfEntries.{entry_equivalence}
 use Rattle.rkyv_keys.specs.Lemmas.OfUnits.{unit_equivalence}
-use Rattle.rkyv_index.specs.{index_bytes, index_maps_equal, index_pos, index_sets_equal, keys_of}
+use Rattle.rkyv_index.specs.{index_bytes, index_maps_equal, index_pos, index_sets_equal}
 use Rattle.rkyv_index.specs.{unit_specs}
 use Rattle.rkyv_index.specs.Lemmas.EqualLaws.{index_equivalence}
 use Rattle.rkyv_index.specs.declared.map.ArchivedIndexMap.{ArchivedIndexMap}
@@ -40,8 +40,4 @@ module _ {K H W : Type 0} {ks : Specs K} {wt : Words W} {same : Comparison}
   sets_equality =
       let maps : IsEquality (index_maps_equal {K = K} {V = Unit {0}} {H = H} {W = W} {ks = ks}
       {vs = unit_specs} {wt = wt} same unit_same) = maps_equality k unit_equivalence in
-      record {
-        refl = λ s. maps.refl (keys_of s);
-        symm = λ s t. maps.symm (keys_of s) (keys_of t);
-        congr = λ s t u. maps.congr (keys_of s) (keys_of t) (keys_of u);
-      }
+      grind arith

@@ -1,7 +1,8 @@
 -- An index map is an element.
-use Rattle.std.specs.Prelude.{◌≡◌, ℕ, zero, suc, ◌+◌, ◌*◌, ◌%◌, ◌<◌, ◌≤◌, ℤ, pos, ◌+ℤ◌, List, []}
+use Rattle.std.proofs.Common.{rules}
+use Rattle.std.specs.Prelude.{◌≡◌, ℕ, zero, suc, ◌+◌, ◌*◌, ◌%◌, ◌<◌, ◌≤◌, ℤ, List, []}
 use Rattle.std.specs.Prelude.{◌∷◌, Some, length, map, slice_get}
-use Rattle.std.specs.Int.{Width, byte_len, cast_signed, from_le_bytes}
+use Rattle.std.specs.Int.{Width, byte_len, from_le_bytes}
 use Rattle.std.specs.List.{All, range_with_len}
 use Rattle.std.proofs.Common.{filter, get_or, refl, arith, subst, sym, true, ◌∙◌, ap, inl, inr}
 use Rattle.std.proofs.lemmas.Grind.{common_steps}
@@ -30,7 +31,7 @@ use Rattle.rkyv_table.proofs.RawWalks.{walked_all}
 use Rattle.rkyv_table.proofs.SameTable.{same_walk}
 use Rattle.rkyv_index.specs.Map.IndexLayout.{AreValidEntries, EntriesFail, EntriesIn, FirstNotBelow}
 use Rattle.rkyv_index.specs.Map.IndexLayout.{IndexFails, IndicesBelow, IsValidIndex, decode_entries}
-use Rattle.rkyv_index.specs.Map.IndexLayout.{distance_pos, entry_at, index_spec, indices_of}
+use Rattle.rkyv_index.specs.Map.IndexLayout.{entry_at, index_spec, indices_of}
 use Rattle.rkyv_index.specs.Map.IndexLayout.{stored_index_spec}
 
 -- an index in a bucket is an element
@@ -127,14 +128,7 @@ module _ (s : ElementSpec) (law : IsElement s) where
       let d =
       all_lower s law (entry_at s.size h.begin) b h.begin (indices_of len) lo lo' h.last o
       h.part.above h.valid in
-      record {
-        begin = h.begin;
-        part = part_wider decoded (len * s.size) s.align lo lo' hi hi h.begin o
-            (omega arith) h.part;
-        last = d.0;
-        valid = d.1;
-        ends = h.ends;
-      }
+      grind (arith, common_steps, part_wider)
 
   entries_local : (b c : List ℕ) (decoded : ℤ) (len lo hi l : ℕ) → AgreeOn b c lo l
       → EntriesIn s b decoded len lo hi l → EntriesIn s c decoded len lo hi l
@@ -147,10 +141,7 @@ module _ (s : ElementSpec) (law : IsElement s) where
         last = h.last;
         valid = all_local s law (entry_at s.size h.begin) b c lo l len h.begin (indices_of len) lo
             h.last same (omega arith) above (omega arith) (indices_below len)
-            (λ i below. let u = entry_inside s.size h.begin len i below in (
-              omega (arith, u.0),
-              omega (arith, u.1),
-            )) h.valid;
+            (λ i below. grind (arith, common_steps, entry_inside)) h.valid;
         ends = h.ends;
       }
 
@@ -175,9 +166,7 @@ module _ (w : Width) (kind : IsArchiveWord w) where
         × (item_at w (byte_len w) b p i + byte_len w ≤ m)
     item_within i walked =
         let t = valid_part w P P_law b p lo hi m h (omega (arith, walked.0)) in
-        let r = item_is_valid w P P_law b p lo hi m h i walked t in
-        let above = t.part.above in
-        (omega (arith, r.1), r.2)
+        grind (arith, common_steps, item_is_valid w P P_law b p lo hi m h i walked t)
 
     pub index_same_at : (i : ℕ) → IsWalked w b p i → number_at w b (item_at w (byte_len w) b p i)
         ≡ number_at w c (item_at w (byte_len w) c p i)
@@ -202,11 +191,7 @@ module _ (w : Width) (kind : IsArchiveWord w) where
 -- the entries begin at the same position if the bytes of the header are the same
 pub decoded_same : (w : Width) (b c : List ℕ) (p : ℕ) → AgreeOn b c p (p + 4 * byte_len w)
     → decode_entries w b p ≡ decode_entries w c p
-decoded_same w b c p fixed =
-    let field : AgreeOn b c (distance_pos w p) (distance_pos w p + byte_len w) =
-    agree_on_part b c p (p + 4 * byte_len w) (distance_pos w p) (distance_pos w p + byte_len w)
-    (omega arith) (omega arith) (omega arith) fixed in
-    ap (λ (x : List ℕ). pos (distance_pos w p) +ℤ cast_signed w (from_le_bytes w x)) field
+decoded_same w b c p fixed = search (rules, agree_on_part)
 
 -- the header of the table is the same if the bytes of the index map's header are
 pub head_same : (w : Width) (b c : List ℕ) (p : ℕ) → AgreeOn b c p (p + 4 * byte_len w)
@@ -256,13 +241,7 @@ module _ (w : Width) (kind : IsArchiveWord w) (s : ElementSpec) (law : IsElement
       let P : ℕ → Type 0 = λ begin. PartIn decoded (len * s.size) s.align lo hi begin
       × (((last : ℕ) × AreValidEntries s b begin len lo last) × (l ≡ begin + len * s.size)) in
       prop_by {B = (begin : ℕ) × P begin} (λ h. (h.begin, (h.part, ((h.last, h.valid), h.ends))))
-      (λ h. record {
-        begin = h.0;
-        part = h.1.0;
-        last = h.1.1.0.0;
-        valid = h.1.1.0.1;
-        ends = h.1.1.1;
-      })
+      (λ h. grind (arith, common_steps))
       (λ _. refl) (only_one
       (λ begin. ×_prop (part_prop decoded (len * s.size) s.align lo hi begin)
       (×_prop (only_one (all_prop s law (entry_at s.size begin) b begin (indices_of len) lo)
@@ -289,13 +268,7 @@ module _ (w : Width) (kind : IsArchiveWord w) (s : ElementSpec) (law : IsElement
   index_lower b p lo lo' hi l o o' h =
       let t = T_law.lower_lo b p lo lo' hi h.middle o o' h.table in (
         l,
-        record {
-          middle = t.0;
-          table = t.1;
-          below = h.below;
-          entries = entries_lower s law b
-              (decode_entries w b p) (len_at w b p) h.middle t.0 hi l t.2 h.entries;
-        },
+        grind (arith, entries_lower),
         omega arith,
       )
 
@@ -313,10 +286,7 @@ module _ (w : Width) (kind : IsArchiveWord w) (s : ElementSpec) (law : IsElement
         table = T_law.local b c p lo hi h.middle o head front h.table;
         below = subst (λ n. IndicesBelow w c n (item_positions w (byte_len w) c p)) len
             (indices_local w kind b c p lo hi h.middle o head front h.table (len_at w b p) h.below);
-        entries =
-            subst (λ n. EntriesIn s c (decode_entries w c p) n h.middle hi l) len
-            (subst (λ z. EntriesIn s c z (len_at w b p) h.middle hi l)
-            (decoded_same w b c p fixed) entries);
+        entries = grind (arith, common_steps, decoded_same);
       }
 
   index_local : (b c : List ℕ) (p lo hi l : ℕ) → lo ≤ hi → AgreeOn b c p (p + 4 * byte_len w)
@@ -327,10 +297,7 @@ module _ (w : Width) (kind : IsArchiveWord w) (s : ElementSpec) (law : IsElement
       (len_at w b p) h.middle hi l h.entries in
       let front : AgreeOn b c lo h.middle =
       agree_on_part b c lo l lo h.middle (omega arith) r.0 t.0 part in
-      let back : AgreeOn b c h.middle l =
-      agree_on_part b c lo l h.middle l t.0 (omega arith) r.0 part in
-      index_again b c p lo hi l o fixed h front (entries_local s law b c (decode_entries w b p)
-      (len_at w b p) h.middle hi l back h.entries)
+      search (rules, agree_on_part, index_again, entries_local)
 
   -- an index map is an element
   pub index_element : IsElement (index_spec w s)
@@ -345,14 +312,7 @@ module _ (w : Width) (kind : IsArchiveWord w) (s : ElementSpec) (law : IsElement
     rest_unique = index_one;
     exclusive = index_exclusive;
     one_failure = index_one_failure;
-    widen_hi = λ b p lo hi hi' l o h. record {
-      middle = h.middle;
-      table = T_law.widen_hi b p lo hi hi' h.middle o h.table;
-      below = h.below;
-      entries =
-          entries_higher s law b (decode_entries w b p) (len_at w b p) h.middle hi hi' l o
-          h.entries;
-    };
+    widen_hi = grind (arith, entries_higher);
     lower_lo = index_lower;
     local = index_local;
   }

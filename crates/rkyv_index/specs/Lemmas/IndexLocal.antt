@@ -1,7 +1,7 @@
 -- Index maps in two archives that have the same bytes.
 use Rattle.std.proofs.Common.{◌≡◌, ℕ, ◌+◌, ◌*◌, ◌<◌, ◌≤◌, sym, ap, subst, ◌∙◌, arith}
 use Rattle.std.proofs.lemmas.Grind.{common_steps}
-use Rattle.std.proofs.Common.{List, get_or, length, map, slice_index}
+use Rattle.std.proofs.Common.{List, length, map, slice_index}
 use Rattle.std.specs.Prelude.{unsigned_abs}
 use Rattle.std.specs.Int.{Width, byte_len}
 use Rattle.std.proofs.lemmas.List.{ext_get_or, get_or-map, length-map}
@@ -51,10 +51,13 @@ module _ (w : Width) (size : ℕ) (key_hash hash_after : List ℕ → ℕ → �
       ext_get_or 0 (map f is) (map g is) (length-map is f ∙ sym (length-map is g))
       (λ i below.
       let inside : i < n = omega (arith, below, length-map is f, count) in
-      let here : i < length is = omega (arith, inside, count) in
-      let at : get_or is i 0 ≡ i = get_or-range_with_len 0 n i 0 inside ∙ omega arith in
-      get_or-map f is i 0 0 here ∙ ap f at ∙ same_hash i inside ∙ ap g (sym at)
-      ∙ sym (get_or-map g is i 0 0 here))
+      grind (
+        arith,
+        common_steps,
+        get_or-range_with_len 0 n i 0 inside,
+        same_hash i inside,
+        get_or-map,
+      ))
       ∙ ap (λ m. map g (indices_of m)) len_is
 
   same_indices : (homes : List ℕ) → IndexWrittenAt w size key_hash b p homes
@@ -125,15 +128,15 @@ module _ (w : Width) (kind : IsArchiveWord w) (k v : ElementSpec) (kl : IsElemen
         → IsValidWithin S b (pair_pos w S.size b p i) h.middle h.entries.begin h.entries.last
         × (h.entries.begin ≤ pair_pos w S.size b p i) × (pair_pos w S.size b p i + S.size ≤ l)
     entry_there i below =
-        let r = each_is_valid S law (entry_at S.size h.entries.begin) b h.entries.begin 0
-        (len_at w b p) h.middle h.entries.last i h.entries.part.above h.entries.valid
-        (omega arith) (omega arith) in
-        let u = entry_inside S.size h.entries.begin (len_at w b p) i below in
-        let e = h.entries.ends in
-        subst (λ n. IsValidWithin S b (entry_at S.size n i) h.middle h.entries.begin h.entries.last
-        × (h.entries.begin ≤ entry_at S.size n i) × (entry_at S.size n i + S.size ≤ l))
-        (sym begin_is)
-        (r, u.0, omega (arith, u.1, e))
+        grind (
+          arith,
+          common_steps,
+          each_is_valid S law (entry_at S.size h.entries.begin) b h.entries.begin 0 (len_at w b p)
+              h.middle h.entries.last i h.entries.part.above h.entries.valid (omega arith)
+              (omega arith),
+          entry_inside S.size h.entries.begin (len_at w b p) i below,
+          begin_is,
+        )
 
     module _ (i : ℕ) (below : i < len_at w b p) where
       abbrev q : ℕ
@@ -171,11 +174,7 @@ module _ (w : Width) (kind : IsArchiveWord w) (k v : ElementSpec) (kl : IsElemen
           (omega (arith, within, last_ends, ends)) x.0 part) there
 
     table_local : AgreeOn b c lo h.middle
-    table_local =
-        let ends = h.entries.ends in
-        let above = h.entries.part.above in
-        agree_on_part b c lo l lo h.middle (omega arith) (omega
-        (arith, above, ends)) table_ends.0 part
+    table_local = grind (arith, agree_on_part, table_ends)
 
     represents_again : IndexRepresents w k v key value hash factor c p pairs
     represents_again = record {

@@ -1,5 +1,5 @@
 -- A written index map is valid and represents its list, in any archive that has its bytes.
-use Rattle.std.proofs.Common.{arith, get_or, refl, sym, ◌∙◌, ap, subst, inl, inr, zero}
+use Rattle.std.proofs.Common.{arith, get_or, refl, sym, ◌∙◌, ap, subst, inl, inr, zero, rules}
 use Rattle.std.proofs.Common.{length-append}
 use Rattle.std.proofs.lemmas.Grind.{common_steps}
 use Rattle.std.proofs.lemmas.Int.{ints}
@@ -7,13 +7,13 @@ use Rattle.std.proofs.lemmas.List.{ext_get_or, get_or-map, get_or_default, lengt
 use Rattle.std.proofs.lemmas.List.FromFn.{get_or-range_with_len, length-range_with_len}
 use Rattle.std.specs.Int.{Width, byte_len, cast_unsigned, to_le_bytes}
 use Rattle.std.specs.List.{range_with_len}
-use Rattle.std.specs.Prelude.{◌≡◌, ℕ, suc, ◌+◌, ◌*◌, ◌%◌, ◌<◌, ◌≤◌, pos, ◌+ℤ◌, ◌-ℤ◌}
+use Rattle.std.specs.Prelude.{◌≡◌, ℕ, suc, ◌+◌, ◌*◌, ◌%◌, ◌<◌, ◌≤◌, pos}
 use Rattle.std.specs.Prelude.{unsigned_abs, FitsSigned, Bool, true, List, [], ◌∷◌, ◌++◌, length}
 use Rattle.std.specs.Prelude.{Some, map, slice_get, slice_index}
 use Rattle.rkyv_base.specs.{ElementSpec, Encoding, Format, IsArchiveWord, IsElement, IsFormat}
 use Rattle.rkyv_base.specs.{IsIndexEncoding, IsScalar, OccursAt, PairRepresents}
 use Rattle.rkyv_base.specs.{ScalarRepresents, ValidAt, entry_spec, number_at, padding, pair_format}
-use Rattle.rkyv_base.specs.{round_up, scalar_format, zeros}
+use Rattle.rkyv_base.specs.{scalar_format, zeros}
 use Rattle.rkyv_base.specs.Lemmas.Bytes.{occurs_back, occurs_front}
 use Rattle.rkyv_base.specs.Lemmas.Entry.{entry_element, round_up-multiple}
 use Rattle.rkyv_base.specs.Lemmas.Pairs.{pair_is_format}
@@ -99,9 +99,7 @@ module _ {P X R : Type 0} (w : Width) (kind : IsArchiveWord w) (ps : ElementSpec
           let q = slice_index (home_positions w (byte_len e.word) c p tw.homes) j in
           let there : e.value (number_at e.word c q) ≡ e.value j = tw.at j (e.value j)
           (index_there own e.value 0 xs j h ∙ ap (λ n. Some (e.value n)) z) in
-          let decoded : number_at e.word c q ≡ j = sym (back (number_at e.word c q))
-          ∙ ap e.code there
-          ∙ back j in
+          let decoded : number_at e.word c q ≡ j = grind (arith, common_steps) in
           subst (λ v. number_at v c
           (slice_index (home_positions w (byte_len v) c p tw.homes) j) ≡ j) index.word decoded
 
@@ -109,11 +107,7 @@ module _ {P X R : Type 0} (w : Width) (kind : IsArchiveWord w) (ps : ElementSpec
       walked_below : (i : ℕ) → IsWalked w c p i
           → number_at w c (item_at w (byte_len w) c p i) < length xs
       walked_below i walked = elim tw.written.placed [
-        | inl none ↦
-            let n : length xs ≡ 0 = sym hashes_count ∙ ap length none.0 in
-            let z : cap_at w c p ≡ 0 = table_represents.cap
-            ∙ ap (λ k. capacity k factor) (count ∙ n) in
-            absurd (omega (arith, walked.0, z))
+        | inl none ↦ grind (arith, common_steps, hashes_count, table_represents, count)
         | inr some ↦
             let visits = walked_homes (cap_at w c p) (hashes_of Indices) tw.homes _ some.0
             tw.written.fit some.1 in
@@ -197,11 +191,7 @@ module _ {P X R : Type 0} (w : Width) (kind : IsArchiveWord w) (ps : ElementSpec
       row_length = images_length s laws represents f fl xs t.resolvers begin row t.images
 
       begin_aligned : begin % s.align ≡ 0
-      begin_aligned =
-          let k : begin ≡ round_up (p0 + length t.before.head) s.align = t.at
-          ∙ omega (arith, front_length) in
-          subst (λ n. n % s.align ≡ 0) (sym k)
-          (round_up-multiple (p0 + length t.before.head) s.align laws.align_is)
+      begin_aligned = grind (arith, front_length, round_up-multiple)
 
       table_length : length i.table ≡ 3 * byte_len w
       table_length = ap length i.header.is ∙ header_length w kind i.header.distance r.table.len
@@ -215,9 +205,7 @@ module _ {P X R : Type 0} (w : Width) (kind : IsArchiveWord w) (ps : ElementSpec
           let d = distances_read_back w kind i.distance c (distance_pos w p) i.fits
           (subst (λ k. OccursAt c (p + k) (to_le_bytes w (cast_unsigned w i.distance))) table_length
           (occurs_back c p i.table (to_le_bytes w (cast_unsigned w i.distance)) header_sits)) in
-          let k : pos (distance_pos w p) +ℤ (pos begin -ℤ pos (distance_pos w p)) ≡ pos begin =
-          omega (arith, ints) in
-          ap (λ z. pos (distance_pos w p) +ℤ z) (d ∙ i.distance_value) ∙ k
+          search (rules, ints)
 
       begin_is : entries_pos w c p ≡ begin
       begin_is = ap unsigned_abs decoded
@@ -307,13 +295,7 @@ module _ {P X R : Type 0} (w : Width) (kind : IsArchiveWord w) (ps : ElementSpec
                 begin = begin;
                 part = record {
                   begins = sym decoded;
-                  above = omega (
-                    arith,
-                    b.1,
-                    t.at,
-                    front_length,
-                    head_length,
-                  );
+                  above = grind (arith, common_steps, front_length, head_length);
                   below = omega (arith, t.at, part_length, row_length, size);
                   aligned = begin_aligned;
                 };
@@ -332,10 +314,7 @@ module _ {P X R : Type 0} (w : Width) (kind : IsArchiveWord w) (ps : ElementSpec
   header_exclusive : (r : IndexResolver) (p : ℕ) (out : List ℕ) → IsIndexHeader w r.table.len
       (resolved_capacity r.table) r p out
       → IndexOverflows w r.table.len r p → ⊥
-  header_exclusive r p out i (inl overflow) = elim i.header.distance_value [
-    | inl h ↦ omega (arith, h.0, overflow.0)
-    | inr h ↦ overflow.1 (subst (FitsSigned w) h.1 i.header.fits)
-  ]
+  header_exclusive r p out i (inl overflow) = grind (arith, common_steps)
   header_exclusive r p out i (inr overflow) =
       overflow (subst (FitsSigned w) i.distance_value i.fits)
 

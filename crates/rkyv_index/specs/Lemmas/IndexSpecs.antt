@@ -1,7 +1,7 @@
 -- A table of the indices of a width is a table of words.
 use Rattle.std.specs.Prelude.{◌≡◌, ℕ, ℤ, List, [], ◌∷◌}
 use Rattle.std.specs.Int.{Width, byte_len}
-use Rattle.std.proofs.Common.{inl, inr, subst, sym, arith}
+use Rattle.std.proofs.Common.{inl, inr, subst, sym, arith, rules}
 use Rattle.std.proofs.lemmas.Grind.{common_steps}
 use Rattle.rkyv_base.specs.declared.errors.VerifyError.{VerifyError}
 use Rattle.rkyv_base.specs.{ElementSpec, Encoding, IsIndexEncoding, IsScalar, Viewable}
@@ -116,8 +116,4 @@ module _ {V : Type 0} (w : Width) (s : ElementSpec) (e : Encoding V) (laws : IsS
   -- a table of words at `p` is also a table of the width's numbers
   pub number_table_viewable : (b : List ℕ) (p : ℕ)
       → Viewable (table_spec w (stored_index_spec w)) b p → Viewable (table_spec w s) b p
-  number_table_viewable b p v = record {
-    inside = v.inside;
-    aligned = v.aligned;
-    valid = (v.valid.0, number_table_is_valid b p 0 p v.valid.0 v.valid.1);
-  }
+  number_table_viewable b p v = search (rules, number_table_is_valid)

@@ -43,13 +43,7 @@ module _ {X R : Type 0} (s : ElementSpec) (laws : IsElement s) (represents : Lis
     more_represent : (n : ℕ) (y : X) (xs : List X) → ValidAt s c (at n) → represents c (at n) y
         → RowRepresent
         (n + 1) xs → RowRepresent n (y ∷ xs)
-    more_represent n y xs a b h zero x e =
-        let k : n ≡ n + 0 = omega arith in
-        subst (λ j. ValidAt s c (at j) × represents c (at j) x) k (
-          a,
-          subst (λ v. represents c (at n) v)
-              (same_Some y x e) b,
-        )
+    more_represent n y xs a b h zero x e = grind (arith, common_steps, same_Some)
     more_represent n y xs a b h (suc i) x e =
         let k : (n + 1) + i ≡ n + suc i = omega arith in
         subst (λ j. ValidAt s c (at j) × represents c (at j) x) k (h i x e)
