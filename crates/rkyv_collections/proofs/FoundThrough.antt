@@ -5,9 +5,8 @@ use Rattle.std.proofs.Common.{◌≡◌, ℕ, ◌<◌, ◌^◌, ◌∙◌, Bool,
 use Rattle.std.proofs.lemmas.Grind.{common_steps}
 use Rattle.std.specs.Borrow.{Bor}
 use Rattle.std.specs.Prelude.{IfSome}
-use Rattle.std.proofs.lemmas.Option.{IfSome_then}
 use Rattle.rkyv_scan.specs.{Hasher, HasherCall, hash_of_calls}
-use Rattle.rkyv_base.specs.{ElementSpec, IsElement, IsValidView, entry_spec}
+use Rattle.rkyv_base.specs.{ElementSpec, IsElement}
 use Rattle.rkyv_base.specs.declared.entry.Entry.{Entry}
 use Rattle.rkyv_base.specs.declared.view.View.{View}
 use Rattle.rkyv_keys.specs.{Comparison, IsQuery, KeyLookup, hash_at, query_of}
@@ -50,10 +49,6 @@ module _ {K V H W : Type 0} {ks : Specs K} {vs : Specs V} {wt : Words W} (m : Ar
       }
 
 module _ {K V H W : Type 0} {ks : Specs K} {vs : Specs V} {wt : Words W} (m : ArchivedHashMap K V H W ks vs wt) where
-  -- an entry of the map is valid
-  pub entry_viewable : (found : Option (View (Entry K V))) → IfSome found (IsEntryIn m) → IfSome found (IsValidView (entry_spec ks.spec vs.spec))
-  entry_viewable found walked = IfSome_then found walked (λ entry there. there.1)
-
   -- the pair of an entry of the map is a pair of the map
   pair_walked : (found : Option (View (Entry K V))) (result : Option (View K × View V)) → IsPairOfEntry ks.spec vs.spec result found → IfSome found (IsEntryIn m) → IfSome result (IsPairIn m)
   pair_walked None result is walked = subst (λ r. IfSome r (IsPairIn m)) (sym is) tt

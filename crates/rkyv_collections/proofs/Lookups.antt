@@ -1,21 +1,20 @@
 -- The entries and keys of a map, and their hashes.
 use Rattle.rkyv_base.specs.declared.element.HasSpec.{Ghosts as Specs}
 use Rattle.rkyv_base.specs.declared.width.Word.{Ghosts as Words}
-use Rattle.std.proofs.Common.{◌≡◌, ℕ, ap, sym, arith, Bool, map, subst, List, Option}
+use Rattle.std.proofs.Common.{ℕ, ap, sym, arith, Bool, map, subst, List}
 use Rattle.std.proofs.lemmas.Grind.{common_steps}
-use Rattle.std.specs.Option.{is_some}
 use Rattle.std.proofs.lemmas.List.{get_or-map, length-map}
 use Rattle.rkyv_scan.specs.{Hasher, HasherCall, hash_of_calls}
 use Rattle.rkyv_base.specs.{IsAt, IsElement, IsValidView, ValidAt, archive_of, entry_spec, entry_specs, pos_of}
 use Rattle.rkyv_base.specs.Lemmas.Entry.{entry_element}
 use Rattle.rkyv_base.specs.declared.view.View.{View}
 use Rattle.rkyv_base.specs.declared.entry.Entry.{Entry}
-use Rattle.rkyv_keys.specs.{Comparison, IsFoundAt, IsQuery, hash_at}
+use Rattle.rkyv_keys.specs.{Comparison, IsQuery, hash_at}
 use Rattle.rkyv_keys.specs.Lemmas.OfEntries.{valid_key}
 use Rattle.rkyv_table.specs.{IsItem, IsUnderHash, home_positions}
 use Rattle.rkyv_table.specs.declared.table.ArchivedHashTable.{ArchivedHashTable}
 use Rattle.rkyv_table.proofs.ValidTable.{item_viewable}
-use Rattle.rkyv_collections.specs.{AreUnderHash, IsEntryIn, IsKeyIn, IsMap, IsViewAt, MapWrittenAt, map_archive, map_bytes, map_pos}
+use Rattle.rkyv_collections.specs.{AreUnderHash, IsEntryIn, IsKeyIn, IsMap, MapWrittenAt, map_archive, map_bytes, map_pos}
 use Rattle.rkyv_collections.specs.declared.map.ArchivedHashMap.{ArchivedHashMap}
 use Rattle.rkyv_table.proofs.WrittenTables.{home_count, home_pos, home_walked}
 
@@ -47,7 +46,3 @@ module _ {K V H W : Type 0} {ks : Specs K} {vs : Specs V} {wt : Words W} (m : Ar
       let item = item_viewable wt.word (entry_spec ks.spec vs.spec) (entry_element ks.spec vs.spec kl vl) b (map_pos m) is key.0 key.1 in
       let valid : ValidAt ks.spec b key_pos = valid_key kl vl b key_pos (subst (ValidAt (entry_spec ks.spec vs.spec) b) (sym key.2) item.valid) in
       ap (hash_of_calls hasher) (sym (query.same_calls q b key_pos ready valid accepted))
-
--- an entry is found if and only if it has a position
-pub some_at : {E : Type 0} (found : Option (View E)) (key_pos : Option ℕ) (result : Bool) → result ≡ is_some found → IsViewAt found key_pos → IsFoundAt result key_pos
-some_at found key_pos result e at = grind (arith, common_steps)

@@ -1,12 +1,12 @@
 -- From a lookup in the map that is read to one in the map at the seal.
 use Rattle.rkyv_base.specs.declared.element.HasSpec.{Ghosts as Specs}
 use Rattle.rkyv_base.specs.declared.width.Word.{Ghosts as Words}
-use Rattle.std.proofs.Common.{arith, ◌≡◌, ℕ, sym, subst, Bool, List, None, Option, Some}
+use Rattle.std.proofs.Common.{arith, ◌≡◌, ℕ, sym, subst, Bool, List, Option, Some}
 use Rattle.std.proofs.lemmas.Grind.{common_steps}
 use Rattle.std.proofs.lemmas.Option.{IfSome_then}
 use Rattle.std.specs.Int.{Width}
 use Rattle.std.specs.Prelude.{IfSome}
-use Rattle.rkyv_base.specs.{ElementSpec, IsElement, Viewable, entry_spec, pos_of, value_pos}
+use Rattle.rkyv_base.specs.{ElementSpec, IsElement, Viewable, entry_spec, pos_of}
 use Rattle.rkyv_base.specs.Lemmas.Entry.{entry_element, viewable_key, viewable_value}
 use Rattle.rkyv_base.specs.declared.view.View.{View}
 use Rattle.rkyv_table.proofs.ValidTable.{item_viewable}
@@ -42,11 +42,6 @@ module _ (w : Width) (k v : ElementSpec) (kl : IsElement k) (vl : IsElement v) (
 
   pub found_entry : (found : Option ℕ) (q : ℕ) → found ≡ Some q → IfSome found (IsKeyPosAt w k v b p) → Viewable (entry_spec k v) b q
   found_entry found q is walked = entry_viewable q (subst (λ (o : Option ℕ). IfSome o (IsKeyPosAt w k v b p)) is walked)
-
-  -- a value behind a key is valid
-  pub value_viewable : (pos : Option ℕ) → IfSome pos (λ q. (key : ℕ) × IsKeyPosAt w k v b p key × (q ≡ value_pos k v key)) → IfSome pos (λ q. Viewable v b q)
-  value_viewable None h = tt
-  value_viewable (Some q) h = subst (λ n. Viewable v b n) (sym h.2) (pair_pos h.0 h.1).value
 
 -- a property of a found value, by its position
 found_pos_satisfies : {E : Type 0} (P : View E → Type 0) (Q : ℕ → Type 0) → ((x : View E) → P x → Q (pos_of x)) → (result : Option (View E)) (pos : Option ℕ) → IsViewAt result pos → IfSome result P → IfSome pos Q

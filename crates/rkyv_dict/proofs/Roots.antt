@@ -1,9 +1,8 @@
 -- The root of an archive of a map, and its values.
-use Rattle.std.proofs.Common.{arith, ◌≡◌, ℕ, ◌+◌, refl, ap, ◌∙◌, List, Option, Some, None, IfSome}
+use Rattle.std.proofs.Common.{arith, ◌≡◌, ℕ, ◌+◌, List, Option, IfSome}
 use Rattle.std.proofs.lemmas.Grind.{common_steps}
 use Rattle.std.specs.Borrow.{Bor}
 use Rattle.std.specs.Option.{option_map}
-use Rattle.std.proofs.lemmas.Option.{same_Some}
 use Rattle.rkyv_base.specs.{IsAt, IsValidArchive, Viewable, bytes_of, pos_of, pos_of_found}
 use Rattle.rkyv_base.specs.Lemmas.Access.{root_viewable}
 use Rattle.rkyv_base.specs.declared.view.View.{View}
@@ -17,14 +16,6 @@ module _ (k : MapTypes) (b : List ℕ) where
 
   pub map_root_viewable : IsMapArchive k b → Viewable (header_spec k) b (root k b)
   map_root_viewable h = root_viewable k.limit (header_spec k) b (accepted h)
-
--- the text of a value that may be found, by the position of its key
-text_found : {V : Type 0} (text : List ℕ → ℕ → List ℕ) (b : List ℕ) (off : ℕ) (value : Option (View V)) (key_pos : Option ℕ) → IfSome value (λ v. bytes_of v ≡ b)
-    → pos_of_found value ≡ option_map (λ q. q + off) key_pos → option_map (at_view text) value ≡ option_map (λ q. text b (q + off)) key_pos
-text_found text b off None None same e = refl
-text_found text b off None (Some q) same e = absurd cc
-text_found text b off (Some v) None same e = absurd cc
-text_found text b off (Some v) (Some q) same e = ap Some (ap (λ a. text a v.pos) same ∙ ap (text b) (same_Some v.pos (q + off) e))
 
 -- the text of a value that may be found, by the position of the map's view
 pub text_read : {T V : Type 0} (text : List ℕ → ℕ → List ℕ) (off : ℕ) (v : View T) (archive : Bor (List ℕ)) (p : ℕ) → IsAt v archive p

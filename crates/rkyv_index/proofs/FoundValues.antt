@@ -1,7 +1,7 @@
 -- From the value that a lookup finds in the index map that is read to its position in the archive.
 use Rattle.rkyv_base.specs.declared.element.HasSpec.{Ghosts as Specs}
 use Rattle.rkyv_base.specs.declared.width.Word.{Ghosts as Words}
-use Rattle.std.proofs.Common.{◌≡◌, ℕ, ◌<◌, ◌∙◌, Bool, None, Some, List, Option, ap, subst, sym, arith}
+use Rattle.std.proofs.Common.{◌≡◌, ℕ, ◌∙◌, Bool, None, Some, List, Option, ap, subst, sym, arith}
 use Rattle.std.proofs.lemmas.Grind.{common_steps}
 use Rattle.std.specs.Borrow.{Bor}
 use Rattle.std.specs.Option.{option_map}
@@ -9,8 +9,7 @@ use Rattle.std.specs.Prelude.{IfSome}
 use Rattle.rkyv_base.specs.{Viewable, pos_of_found}
 use Rattle.rkyv_base.specs.declared.view.View.{View}
 use Rattle.rkyv_keys.specs.{KeyLookup}
-use Rattle.rkyv_table.specs.{len_at}
-use Rattle.rkyv_index.specs.{FoundByHas, FoundKeyHas, FoundValueHas, GetsKey, Index, IsIndex, IsStored, IsStoredIndex, IsValueOf, MatchesAt, index_bytes, index_over, index_pos, value_part, value_pos_of}
+use Rattle.rkyv_index.specs.{FoundByHas, FoundKeyHas, FoundValueHas, GetsKey, Index, IsIndex, IsStored, IsValueOf, MatchesAt, index_bytes, index_over, index_pos, value_part, value_pos_of}
 use Rattle.rkyv_index.specs.declared.map.ArchivedIndexMap.{ArchivedIndexMap}
 use Rattle.rkyv_index.proofs.SealedIndex.{as_read, found_key_read}
 
@@ -40,11 +39,6 @@ module _ {K V H W : Type 0} {ks : Specs K} {vs : Specs V} {wt : Words W} (m : Ar
 
   pub value_found : (a : KeyLookup) (r : Option (View V)) (found : Option ℕ) → found ≡ pos_of_found r → GetsKey value_part m a r → FoundValueHas (index_over wt ks vs b p) a (λ q. found ≡ q)
   value_found a r found e got = found_implied (λ index at. e ∙ value_at_index r index at) (found_key_read m b p bytes pos value_part got)
-
-  -- a found index is below the length
-  pub index_below : (found : Option ℕ) → IfSome found (IsStoredIndex m) → IfSome found (λ i. i < len_at wt.word b p)
-  index_below None walked = tt
-  index_below (Some i) walked = as_read m b p bytes pos (λ d q. i < len_at wt.word d q) walked.1
 
   -- a found value is valid
   pub value_viewable : (r : Option (View V)) (found : Option ℕ) → found ≡ pos_of_found r → IfSome r (λ x. (i : ℕ) × IsStored m i × IsValueOf m i x) → IfSome found (λ q. Viewable vs.spec b q)

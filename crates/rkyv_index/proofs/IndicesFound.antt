@@ -1,12 +1,12 @@
 -- A found item of a table of indices, and the index in it.
 use Rattle.rkyv_base.specs.declared.element.HasSpec.{Ghosts as Specs}
 use Rattle.rkyv_base.specs.declared.width.Word.{Ghosts as Words}
-use Rattle.std.proofs.Common.{◌≡◌, ℕ, ◌+◌, ◌≤◌, ◌∙◌, ap, refl, subst, sym, true, Bool, List, None, Option, Some, length, arith}
-use Rattle.std.specs.Int.{Width, byte_len}
+use Rattle.std.proofs.Common.{◌≡◌, ℕ, ◌∙◌, ap, refl, subst, sym, true, Bool, List, None, Option, Some, arith}
+use Rattle.std.specs.Int.{Width}
 use Rattle.std.specs.Option.{option_map}
 use Rattle.std.specs.Prelude.{IfSome}
 use Rattle.rkyv_scan.specs.{generic_kind}
-use Rattle.rkyv_base.specs.{Encoding, IsAt, IsIndexEncoding, IsScalar, bytes_of, number_at, pos_of, pos_of_found}
+use Rattle.rkyv_base.specs.{Encoding, IsAt, IsIndexEncoding, IsScalar, bytes_of, number_at, pos_of_found}
 use Rattle.rkyv_base.specs.declared.view.View.{View}
 use Rattle.rkyv_table.specs.{CountsStrides, FindsItem, IsItem}
 use Rattle.rkyv_table.specs.declared.table.ArchivedHashTable.{ArchivedHashTable}
@@ -37,11 +37,6 @@ module _ {K V H W P N : Type 0} {ks : Specs K} {vs : Specs V} {ts : Specs P} {wt
       → option_map (stored_index w) found ≡ option_map (number_at w (index_bytes m)) (pos_of_found found)
   stored_index_found None item = refl
   stored_index_found (Some h) item = ap Some (ap (λ (x : List ℕ). number_at w x h.pos) (read_there m e pk index t at h item))
-
-  -- a found item is inside the archive
-  pub index_inside : (found : Option (View P)) → IfSome found (IsItem t) → IfSome found (λ item. pos_of item + byte_len w ≤ length (bytes_of item))
-  index_inside None item = item
-  index_inside (Some h) item = (item_index m e pk index t at h item).0
 
   -- a full bucket has the index, and it is below the length
   pub index_stored : (found : Option (View P)) → IfSome found (IsItem t) → IfSome (option_map (stored_index w) found) (IsStoredIndex m)

@@ -65,7 +65,3 @@ marks_below g width marks e = subst (AllBelow width) (sym e) (range_below (λ j.
 pub below_head : (width j : ℕ) (marks : List ℕ) → AllBelow width marks → Some j ≡ slice_get marks 0 → j < width
 below_head width j [] h e = absurd (none-some j (sym e))
 below_head width j (x ∷ xs) h e = subst (λ k. k < width) (sym (same_Some j x e)) h.0
-
-pub fewer : (marks : List ℕ) (j : ℕ) → Some j ≡ slice_get marks 0 → length (drop 1 marks) < length marks
-fewer [] j e = absurd (none-some j (sym e))
-fewer (x ∷ xs) j e = omega arith

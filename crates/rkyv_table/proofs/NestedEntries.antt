@@ -1,5 +1,5 @@
 -- An entry whose value is written among its parts, and unchanged entries.
-use Rattle.std.proofs.Common.{ℕ, ◌+◌, ◌-◌, ◌≤◌, refl, arith, Bool, List}
+use Rattle.std.proofs.Common.{ℕ, ◌+◌, ◌-◌, ◌≤◌, arith, Bool, List}
 use Rattle.rkyv_base.specs.Lemmas.Bytes.{agree_on_part}
 use Rattle.rkyv_base.specs.{ElementSpec, IsElement, ModifiesOnly, RepresentsLocally, entry_spec, value_pos}
 use Rattle.rkyv_base.specs.Lemmas.Entry.{same_key, same_value}
@@ -70,10 +70,6 @@ module _ (k v : ElementSpec) (kl : IsElement k) (vl : IsElement v) (b c : List �
 -- unchanged bytes represent the same value
 pub represents_on : {V : Type 0} (s : ElementSpec) (represents : List ℕ → ℕ → V → Type 0) → RepresentsLocally s represents → (x : V) (b c : List ℕ) (q : ℕ) → StaysAt s b c q → represents b q x → represents c q x
 represents_on s represents local x b c q h st = local x b c q h.valid.lower h.valid.upper h.valid.rest h.valid.order h.valid.is_valid h.fixed h.parts st
-
--- without a write, nothing changes
-pub unwritten : (s : ElementSpec) (b : List ℕ) (p : ℕ) → WritesAmongParts s b b p
-unwritten s b p = record { is_valid = λ lo hi l o o' h. h; sealed = λ lo hi l o o' h. record { same_length = refl; before = refl; after = refl } }
 
 -- a comparison that depends only on a key and its parts depends only on the key
 pub rests_on_key : (k : ElementSpec) (fits : List ℕ → ℕ → Bool) → RestsOnParts k fits → RestsOnKey k fits

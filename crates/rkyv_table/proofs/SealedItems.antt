@@ -1,7 +1,7 @@
 -- The steps of a cursor that writes items in place.
 use Rattle.rkyv_base.specs.declared.element.HasSpec.{Ghosts as Specs}
 use Rattle.rkyv_base.specs.declared.width.Word.{Ghosts as Words}
-use Rattle.std.proofs.Common.{◌≡◌, ℕ, ◌+◌, ◌*◌, ◌<◌, ◌≤◌, inl, inr, sym, ap, subst, ◌∙◌, arith, List, ◌∷◌, length, slice_index, slice_range, take, get_or-take}
+use Rattle.std.proofs.Common.{◌≡◌, ℕ, ◌+◌, ◌*◌, ◌<◌, ◌≤◌, inl, inr, sym, ap, subst, ◌∙◌, arith, List, ◌∷◌, length, slice_index, slice_range}
 use Rattle.std.proofs.lemmas.Grind.{common_steps}
 use Rattle.std.specs.Int.{Width}
 use Rattle.std.proofs.lemmas.Bool.{cases_eq, le-ltb, lt-ltb}
@@ -26,10 +26,6 @@ full_taken controls cap b h full = grind (arith, lt-ltb)
 pub full_skipped : (controls : List ℕ) (cap b : ℕ) → b < cap → 128 ≤ slice_index controls b → full_from controls cap b ≡ full_from controls cap (b + 1)
 unfolding full_from
 full_skipped controls cap b h empty = grind (arith, le-ltb)
-
--- the control bytes of the buckets are the front of all control bytes
-front_same : (xs : List ℕ) (n m i : ℕ) → i < n → i < m → slice_index (take n xs) i ≡ slice_index (take m xs) i
-front_same xs n m i h k = get_or-take n xs i 0 h ∙ sym (get_or-take m xs i 0 k)
 
 module _ {T : Type 0} (w : Width) (s : ElementSpec) (law : IsElement s) (p : ℕ) (r : RawIterSeal T) (is : IsSealIter w s p r) where
   abbrev bytes : List ℕ

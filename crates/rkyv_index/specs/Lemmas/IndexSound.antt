@@ -13,7 +13,7 @@ use Rattle.std.specs.Prelude.{Some, map, slice_get, slice_index}
 use Rattle.rkyv_base.specs.{ElementSpec, Encoding, Format, IsArchiveWord, IsElement, IsFormat}
 use Rattle.rkyv_base.specs.{IsIndexEncoding, IsScalar, OccursAt, PairRepresents}
 use Rattle.rkyv_base.specs.{ScalarRepresents, ValidAt, entry_spec, number_at, padding, pair_format}
-use Rattle.rkyv_base.specs.{scalar_format, zeros}
+use Rattle.rkyv_base.specs.{scalar_format}
 use Rattle.rkyv_base.specs.Lemmas.Bytes.{occurs_back, occurs_front}
 use Rattle.rkyv_base.specs.Lemmas.Entry.{entry_element, round_up-multiple}
 use Rattle.rkyv_base.specs.Lemmas.Pairs.{pair_is_format}
@@ -161,9 +161,6 @@ module _ {P X R : Type 0} (w : Width) (kind : IsArchiveWord w) (ps : ElementSpec
 
       abbrev zb : BeforeZeros w ps e s f own factor xs p0 t.before.head r.table t.resolvers
       zb = t.before.serialized
-
-      abbrev pad : List ℕ
-      pad = zeros (padding s.align (p0 + length t.before.head))
 
       abbrev begin : ℕ
       begin = r.entries
