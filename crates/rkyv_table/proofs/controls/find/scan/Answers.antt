@@ -1,5 +1,6 @@
+use Rattle.std.proofs.lemmas.Grind.{common_steps}
 use Rattle.std.proofs.Common.{arith, ◌≡◌, ◌+◌, ◌*◌, ◌≤◌, ℕ, sym, ap, ◌∙◌, take, drop, List, leb, get_or, None}
-use Rattle.std.specs.List.{find, list_any, range_with_len}
+use Rattle.std.specs.List.{list_any, range_with_len}
 use Rattle.rkyv_scan.specs.{Kind}
 use Rattle.rkyv_table.proofs.Groups.{all_candidates, all_empty, candidates_in, empty_in, found_more, found_whole, group_fits, group_of, groups_end, indices_are, mark_is_any, more_empty, no_candidates, no_empty, or_no, width_divides}
 use Rattle.rkyv_table.proofs.Search.{width_some}
@@ -25,10 +26,7 @@ pub loop-i-init : goal.loop-i-init
 loop-i-init g c =
     let kind : Kind = g.G.GroupKind.kind in
     let z : 0 * g.G.GroupKind.kind.width ≡ 0 = omega arith in
-    record {
-      shown = λ controls e. sym (ap (empty_in controls c.args.pos) z ∙ no_empty controls c.args.pos);
-      none = λ controls e accept compares. ap (λ n. find accept (candidates_in kind controls c.args.cap c.args.tag c.args.pos n)) z ∙ ap (find accept) (no_candidates kind controls c.args.cap c.args.tag c.args.pos);
-    }
+    grind (arith, common_steps, empty_in, no_empty, candidates_in, no_candidates)
 
 pub returns-in-Some-first_accepted-clause-outcome : goal.returns-in-Some-first_accepted-clause-outcome
 returns-in-Some-first_accepted-clause-outcome g c = λ controls e accept compares.

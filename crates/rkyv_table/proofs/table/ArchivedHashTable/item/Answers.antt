@@ -1,3 +1,4 @@
+use Rattle.std.proofs.lemmas.Grind.{common_steps}
 use Rattle.std.proofs.Common.{◌≡◌, ◌∙◌, ◌<◌, ◌-◌, ◌*◌, ◌+◌, ap, arith}
 use Rattle.rkyv_table.specs.{item_at}
 use Rattle.rkyv_table.proofs.ValidTable.{item_before, item_viewable}
@@ -6,10 +7,7 @@ use Rattle.rkyv_table.proofs.table.ArchivedHashTable.item.Goals as goal
 pub overflow_mul-pos : goal.overflow_mul-pos
 overflow_mul-pos g c =
     let t = c.args.self.view in
-    let h = c.args.self.decoded in
-    let some : 0 < c.args.self.header.cap = omega (arith, h.cap, c.requires.0) in
-    let before = item_before g.W.Word.word g.T.HasSpec.spec g.T.HasSpec.laws t.archive.now t.pos c.args.self.valid c.args.bucket c.requires.0 in
-    record { fits = rw c.size.ensures (omega (arith, before, h.controls_pos some)) }
+    grind (arith, common_steps, item_before g.W.Word.word g.T.HasSpec.spec g.T.HasSpec.laws t.archive.now t.pos c.args.self.valid c.args.bucket c.requires.0)
 
 pub overflow_sub-pos : goal.overflow_sub-pos
 overflow_sub-pos g c = grind (arith, item_before)
@@ -17,10 +15,7 @@ overflow_sub-pos g c = grind (arith, item_before)
 pub new-requires : goal.new-requires
 new-requires g c =
     let t = c.args.self.view in
-    let h = c.args.self.decoded in
-    let some : 0 < c.args.self.header.cap = omega (arith, h.cap, c.requires.0) in
-    let v = item_viewable g.W.Word.word g.T.HasSpec.spec g.T.HasSpec.laws t.archive.now t.pos c.args.self.valid c.args.bucket c.requires in
-    rw (c.size.ensures, c.bytes.ensures, h.controls_pos some) v
+    grind (arith, common_steps, item_viewable g.W.Word.word g.T.HasSpec.spec g.T.HasSpec.laws t.archive.now t.pos c.args.self.valid c.args.bucket c.requires)
 
 pub returns : goal.returns
 returns g c =

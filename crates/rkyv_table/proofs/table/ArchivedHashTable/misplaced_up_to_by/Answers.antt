@@ -1,3 +1,4 @@
+use Rattle.std.proofs.lemmas.Grind.{common_steps}
 use Rattle.std.proofs.Common.{◌≡◌, ◌∙◌, ◌+◌, ◌<◌, ◌^◌, ◌⊎◌, arith, sym, ap, subst, zero-add, length, filter, rules}
 use Rattle.std.specs.List.{All, sum_by}
 use Rattle.rkyv_scan.specs.{generic_kind}
@@ -25,9 +26,7 @@ loop-bucket-init g c =
       few = omega (arith, l, all);
       counting = λ hash_of same hash_as same_as.
           zero-add _ ∙ ap (λ xs. length (filter (bucket_misplaced generic_kind c.args.self hash_of same) xs)) e;
-      spent = λ hash_of same hash_as same_as.
-          let f = bucket_strides generic_kind c.args.self hash_of same in
-          ap (λ n. n + sum_by f (walk (table_controls w b p) (cap_at w b p))) c.count-before.ensures ∙ ap (λ xs. c.args.strides.now + sum_by f xs) (sym e);
+      spent = grind (arith, common_steps);
       within = omega (arith, c.count-before.ensures, c.requires.room);
     }
 

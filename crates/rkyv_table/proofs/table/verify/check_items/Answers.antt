@@ -1,4 +1,4 @@
-use Rattle.std.proofs.Common.{◌≡◌, ◌∙◌, ◌+◌, ◌≤◌, ◌∷◌, List, arith, drop, ℕ}
+use Rattle.std.proofs.Common.{◌≡◌, ◌∙◌, ◌+◌, ◌≤◌, ◌∷◌, List, arith, drop, ℕ, rules}
 use Rattle.std.proofs.lemmas.Grind.{common_steps}
 use Rattle.std.proofs.lemmas.Result.{err_from_is_err_and}
 use Rattle.rkyv_table.specs.{full_from}
@@ -51,9 +51,7 @@ returns-in_err-low-clause-fails g c =
 pub overflow_add-count : goal.overflow_add-count
 overflow_add-count g c =
     let arm = (goal.at.overflow_add-count g c).In-Some in
-    let small = checked_small g.T.HasSpec.spec c.args.begin c.args.cap c.args.bytes.now c.args.controls.now c.args.lo (c.loop-base.base + c.in-Some.j) (rest g arm) c.loop-j.low c.loop-j.count (here g arm) in
-    let r = c.ranges.cap.fits in
-    record { fits = omega arith }
+    grind (arith, common_steps, checked_small g.T.HasSpec.spec c.args.begin c.args.cap c.args.bytes.now c.args.controls.now c.args.lo (c.loop-base.base + c.in-Some.j) (rest g arm) c.loop-j.low c.loop-j.count (here g arm), here g arm)
 
 pub loop-base-preserved : goal.loop-base-preserved
 loop-base-preserved g c = grind (arith, common_steps, checked_same, rest_none)
@@ -66,9 +64,7 @@ overflow_add-count-then-controls-bucket-lt128 g c =
     let i = c.loop-bucket.bucket in
     let here = checked_same g.T.HasSpec.spec c.args.begin c.args.cap c.args.bytes.now c.args.controls.now c.args.lo _ _ c.loop-bucket.low c.loop-bucket.count
     (full_taken c.args.controls.now c.args.cap i c.loop-bucket-test.true c.if-controls-bucket-lt128.true) c.loop-bucket.invariant.checked in
-    let small = checked_small g.T.HasSpec.spec c.args.begin c.args.cap c.args.bytes.now c.args.controls.now c.args.lo i (full_from c.args.controls.now c.args.cap (i + 1)) c.loop-bucket.low c.loop-bucket.count here in
-    let r = c.ranges.cap.fits in
-    record { fits = omega arith }
+    search (rules, checked_small, here)
 
 pub loop-bucket-preserved : goal.loop-bucket-preserved
 loop-bucket-preserved g c = grind (arith, common_steps, here, checked_same, full_taken, checked_step, full_skipped)

@@ -47,11 +47,4 @@ pub loop-self-preserved : goal.loop-self-preserved
 loop-self-preserved c =
     let p = c.loop-self.self-inside in
     let inv = c.loop-self.invariant in
-    let turn = (goal.at.loop-self-preserved c).In-loop-self in
-    let e : pos turn ≡ _ = rw (modulus_is turn) (probe_index_is p.cap p.start p.offset p.index inv.begun inv.is) in
-    record {
-      is = rw (modulus_is turn) (stepped p.cap p.start p.offset p.index inv.begun inv.is);
-      begun = omega arith;
-      cap = inv.cap;
-      same = inv.same ∙ skips p.cap p.start p.index (pos turn) (rw (modulus_is turn) at c.loop-self-test.true) e (rw (limit_is turn) at c.if-pos-limit.false);
-    }
+    grind (arith, common_steps, probe_index_is p.cap p.start p.offset p.index inv.begun inv.is, stepped p.cap p.start p.offset p.index inv.begun inv.is, modulus_is, skips, limit_is)
