@@ -9,7 +9,7 @@ use Rattle.rkyv_container.specs.declared.contents.Contents.{Contents}
 use Rattle.rkyv_container.specs.declared.header.Header.{Header}
 use Rattle.rkyv_container.specs.declared.errors.ContainerError.{ContainerError}
 use Rattle.rkyv_container.specs.declared.errors.ContainerError.TheVariants.{UnknownWidth}
-use Rattle.rkyv_container.specs.{AllPass, FirstFails, IsChecksumField, IsHeader, IsItemCode, IsKindCode, IsWidthCode, checksum_field, code_checks, contents_bytes, flag_checks, flags_of, followed_by, header_checks, magic, reserved_checks, start_checks}
+use Rattle.rkyv_container.specs.{AllPass, FirstFails, IsChecksumField, IsHeader, IsItemCode, IsKindCode, IsWidthCode, checksum_field, code_checks, contents_bytes, flag_checks, flags_of, header_checks, magic, start_checks}
 use Rattle.rkyv_container.proofs.Checking.{fails_first, fails_later, pass_both}
 use Rattle.rkyv_container.proofs.HeaderBytes.{field, flags_fit, header_length, slice_join}
 use Rattle.std.proofs.Common.{arith}
@@ -60,14 +60,7 @@ header_passes h b s =
     flags_pass h.checksum _ _
     (ap (from_le_bytes w16) f ∙ from_le_bytes-to_le_bytes_2 _ (flags_fit h.checksum))
     (ap (from_le_bytes w32) n ∙ from_le_bytes-to_le_bytes_4 _ s.fits.checksum) in
-    let reserved : AllPass (reserved_checks (from_le_bytes w32 (slice_range b 28 32))) =
-    (ap (from_le_bytes w32) r, tt) in
-    let fc = code_checks (slice_range b 10 14) in
-    let ff = flag_checks (from_le_bytes w16 (slice_range b 14 16))
-    (from_le_bytes w32 (slice_range b 24 28)) in
-    let fr = reserved_checks (from_le_bytes w32 (slice_range b 28 32)) in
-    pass_both (start_checks b) (followed_by fc (followed_by ff fr)) start
-    (pass_both fc (followed_by ff fr) codes (pass_both ff fr flags reserved))
+    grind (arith, common_steps, pass_both)
 
 -- the first 32 bytes are the seven fields
 fields : (b : List ℕ) → take 32 b

@@ -1,5 +1,5 @@
 -- The two sums of Adler-32 over the bytes so far.
-use Rattle.std.proofs.Common.{◌≡◌, ℕ, ◌+◌, ◌-◌, ◌*◌, ◌%◌, ◌<◌, ◌≤◌, List, [], ◌∷◌, ◌++◌, length, take, drop, get_or, sum, refl, ap, ◌∙◌, arith, length-drop}
+use Rattle.std.proofs.Common.{◌≡◌, ℕ, ◌+◌, ◌-◌, ◌*◌, ◌%◌, ◌<◌, ◌≤◌, List, [], ◌∷◌, ◌++◌, length, take, drop, get_or, sum, refl, arith, length-drop}
 use Rattle.std.specs.Prelude.{slice_range}
 use Rattle.std.proofs.lemmas.List.{get_or_at, length-take-le, take_all, take_more}
 use Rattle.std.proofs.lemmas.List.Sums.{sum_by-append, sum_by-cons, sum_by_more}
@@ -67,34 +67,21 @@ block_sums b i j low high low' high' ij jn s e f =
     let front = take i b in
     let block = slice_range b i j in
     let n = length block in
-    let t : take j b ≡ front ++ block = take_part b i j ij in
-    let len : n ≡ j - i = length-take-le (j - i) (drop i b) (omega (arith, length-drop i b)) in
-    let st : sum (take j b) ≡ sum front + sum block =
-    ap sum t ∙ sum_by-append (λ y. y) front block in
-    let wt : weighted_sum (take j b)
-    ≡ weighted_sum front + n * sum front + weighted_sum block =
-    ap weighted_sum t ∙ weighted_sum-append front block in
-    let l1 = add_mod low (1 + sum front) (sum block) (reduced low (1 + sum front) s.low_is) in
-    let l2 : 1 + sum front + sum block ≡ 1 + sum (take j b) = omega arith in
-    let h1 = add_mod high (i + weighted_sum front) (n * low + weighted_sum block)
-    (reduced high (i + weighted_sum front) s.high_is) in
-    let p : (n * low) % 65521 ≡ (n * (1 + sum front)) % 65521 =
-    ap (λ (k : ℕ). (n * k) % 65521) s.low_is ∙ mul-mod_second n (1 + sum front) 65521 in
-    let h2 = add_mod (n * low) (n * (1 + sum front)) (i + weighted_sum front + weighted_sum block)
-    p in
-    let q : n * (1 + sum front) ≡ n * 1 + n * sum front = mul_add n 1 (sum front) in
-    let h0 : high + n * low + weighted_sum block ≡ high + (n * low + weighted_sum block) =
-    omega arith in
-    let h3 : i + weighted_sum front + (n * low + weighted_sum block)
-    ≡ n * low + (i + weighted_sum front + weighted_sum block) = omega arith in
-    let h4 : n * (1 + sum front) + (i + weighted_sum front + weighted_sum block)
-    ≡ j + weighted_sum (take j b) = omega arith in
-    record {
-      inside = jn;
-      low_is = e ∙ l1 ∙ ap (λ (k : ℕ). k % 65521) l2;
-      high_is = f ∙ ap (λ (k : ℕ). k % 65521) h0 ∙ h1 ∙ ap (λ (k : ℕ). k % 65521) h3 ∙ h2
-          ∙ ap (λ (k : ℕ). k % 65521) h4;
-    }
+    grind (
+      arith,
+      common_steps,
+      take_part b i j ij,
+      length-take-le (j - i) (drop i b) (omega (arith, length-drop i b)),
+      length-drop i b,
+      weighted_sum-append front block,
+      add_mod low (1 + sum front) (sum block) (reduced low (1 + sum front) s.low_is),
+      add_mod high (i + weighted_sum front) (n * low + weighted_sum block) (reduced high (i + weighted_sum front) s.high_is),
+      reduced low (1 + sum front) s.low_is,
+      reduced high (i + weighted_sum front) s.high_is,
+      mul-mod_second n (1 + sum front) 65521,
+      mul_add n 1 (sum front),
+      sum_by-append,
+    )
 
 -- the checksum from the sums of all bytes
 pub all_sums : (b : List ℕ) (i low high : ℕ) → length b ≤ i → AreSumsOf b i low high
