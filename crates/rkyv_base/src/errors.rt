@@ -21,11 +21,12 @@ use std::alloc::{AllocError, AllocFailed};
 use thiserror::Error;
 
 /// The error for a distance from a position to a part that doesn't fit in the width.
-#[derive(Debug, Drop)]
+#[derive(Clone, Copy, Debug, PartialEq, Eq, Error)]
+#[error("distance too large")]
 pub struct DistanceTooLarge;
 
 /// The error for an iterator that yields another number of items than it claimed.
-#[derive(Debug, Drop, Error)]
+#[derive(Clone, Copy, Debug, PartialEq, Eq, Error)]
 #[error("iterator claimed that it contained {expected} elements, but yielded {actual} items during iteration")]
 pub struct IteratorLengthMismatch {
     /// The number of items that the iterator claimed.
@@ -35,7 +36,7 @@ pub struct IteratorLengthMismatch {
 }
 
 /// The error of a write. `F` is the type of the writer's fault.
-#[derive(Debug, Drop, Error)]
+#[derive(Clone, Copy, Debug, PartialEq, Eq, Error)]
 pub enum WriteError<F> {
     /// A part of the load factor is 0, or the numerator is greater than the denominator.
     #[error("invalid load factor {numerator} / {denominator}, load factor must be a fraction in the range (0, 1]")]
@@ -112,7 +113,7 @@ impl<F> From<IteratorLengthMismatch> for WriteError<F> {
 }
 
 /// The error of a validation: the first fault in the bytes.
-#[derive(Debug, Drop, Error)]
+#[derive(Clone, Copy, Debug, PartialEq, Eq, Error)]
 pub enum VerifyError {
     /// A part or the root isn't inside its range of bytes, or the archive is longer than the limit.
     ///
@@ -148,7 +149,7 @@ pub enum VerifyError {
 }
 
 /// The error of a deserialization.
-#[derive(Debug, Drop, Error)]
+#[derive(Clone, Copy, Debug, PartialEq, Eq, Error)]
 pub enum ReadError {
     /// Memory could not be allocated for the value.
     #[error("no memory")]
@@ -177,7 +178,7 @@ impl<T: Drop> From<AllocFailed<T>> for ReadError {
 }
 
 /// The error of a round trip: a value is written to memory, and deserialized from its archive.
-#[derive(Debug, Drop, Error)]
+#[derive(Clone, Copy, Debug, PartialEq, Eq, Error)]
 pub enum RoundTripError {
     /// The value could not be written.
     #[error("{0}")]

@@ -9,13 +9,16 @@ ghost use Rattle.rkyv_base.specs.{Appends, Counts, Faults, InnerFaults, InnerToo
 ghost use Rattle.rkyv_base.specs.{end_of, limited};
 
 use crate::writer::Writer;
+use thiserror::Error;
 
 /// The fault of a writer with a limit.
-#[derive(Debug, Drop)]
+#[derive(Clone, Copy, Debug, PartialEq, Eq, Error)]
 pub enum LimitFault<F> {
     /// The piece doesn't fit in the rest of the limit. The prefix that fits was written.
+    #[error("limit reached")]
     Full,
     /// The inner writer failed.
+    #[error("inner writer fault")]
     Inner(F),
 }
 

@@ -14,6 +14,7 @@ use crate::width::{Narrow, Width};
 use std::alloc::Global;
 use std::fmt::Debug;
 use std::marker::Model;
+use thiserror::Error;
 
 /// A destination that takes the bytes of an archive, in pieces.
 pub trait Writer {
@@ -50,7 +51,8 @@ pub trait Writer {
 }
 
 /// The fault of an allocation that failed.
-#[derive(Debug, Drop)]
+#[derive(Clone, Copy, Debug, PartialEq, Eq, Error)]
+#[error("no memory")]
 pub struct NoMemory;
 
 /// A writer to memory, from position 0.
