@@ -33,16 +33,11 @@ pub fn part_in(begin: i128, size: u128, align: u64, range: PartRange) -> Result<
         (PartIn begin size align range.lo range.hi)
         (PartFails begin size align range.lo range.hi) }
 {
-    if begin < i128::from(range.lo) {
-        return Err(VerifyError::OutOfRange { pos: begin, size });
-    }
-    if i128::from(range.hi) < begin {
+    let (lo, hi) = (i128::from(range.lo), i128::from(range.hi));
+    if begin < lo || hi < begin || u128::from(range.hi - begin as u64) < size {
         return Err(VerifyError::OutOfRange { pos: begin, size });
     }
     let at = begin as u64;
-    if u128::from(range.hi - at) < size {
-        return Err(VerifyError::OutOfRange { pos: begin, size });
-    }
     if at % align != 0 {
         return Err(VerifyError::Unaligned { pos: at, align });
     }

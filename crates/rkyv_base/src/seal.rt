@@ -266,12 +266,23 @@ impl<'a, T> ArchiveSeal<'a, T> {
         requires { Viewable U.spec (archive_in self) pos }
         ensures at { SealAt result self.entry.archive pos }
     {
-        let ArchiveSeal {
-            archive,
-            pos: _,
-            kind: _,
-        } = self;
+        let (archive, _) = self.into_parts();
         Seal::over(archive, pos as usize)
+    }
+
+    /// Returns the seal of the value of an entry.
+    ///
+    /// # Requires
+    ///
+    /// - The value of an entry at `entry_pos` lies inside the archive.
+    #[inline]
+    pub fn value_seal<K: Element, V: Element>(self, entry_pos: u64) -> Seal<'a, V>
+        requires { value_pos K.spec V.spec entry_pos + V.spec.size ≤ length (archive_in self) }
+        ensures at { SealAt result self.entry.archive (value_pos K.spec V.spec entry_pos) }
+        ensures inside { LiesIn V.spec result }
+    {
+        let (archive, _) = self.into_parts();
+        Seal::over(archive, entry_pos as usize + value_offset::<K, V>())
     }
 
     /// Returns a view of the key of an entry, and a seal of its value.
@@ -308,11 +319,7 @@ impl<'a, T> ArchiveSeal<'a, T> {
         ensures inside { LiesIn V.spec result.1 }
         ensures kept { EntryStaysValid K.spec V.spec (archive_in self.entry) entry_pos }
     {
-        let ArchiveSeal {
-            archive,
-            pos: _,
-            kind: _,
-        } = self;
+        let (archive, _) = self.into_parts();
         let begin = entry_pos as usize + value_offset::<K, V>();
         let (front, back) = archive.split_at_mut(begin);
         (View::new(front, entry_pos), Seal::over(back, 0))

@@ -17,7 +17,6 @@ ghost use Rattle.rkyv_keys.specs.{hash_at, hash_of, query_of};
 
 use crate::map::{ArchivedHashMap, HashMapOf};
 use rkyv_base::element::Element;
-use rkyv_base::entry::value_offset;
 use rkyv_base::seal::{ArchiveSeal, Seal};
 use rkyv_base::view::{View, found_pos};
 use rkyv_base::width::Width;
@@ -35,20 +34,6 @@ fn map_in<'s, K: Element, V: Element, H, W: Width>(
     ensures pos { map_pos result ≡ pos_in this.now }
 {
     ArchivedHashMap::of(this.as_view())
-}
-
-/// Returns a seal of the value behind the key at `pos`.
-#[inline]
-fn value_seal<'a, K: Element, V: Element, H, W>(
-    this: ArchiveSeal<'a, HashMapOf<K, V, H, W>>,
-    pos: u64,
-) -> Seal<'a, V>
-    requires { value_pos K.spec V.spec pos + V.spec.size ≤ length (archive_in this) }
-    ensures at { SealAt result this.entry.archive (value_pos K.spec V.spec pos) }
-    ensures inside { LiesIn V.spec result }
-{
-    let (archive, _) = this.into_parts();
-    Seal::over(archive, pos as usize + value_offset::<K, V>())
 }
 
 // Every sealed lookup is a call of one of the first two functions, and then of one of the others.
@@ -117,7 +102,7 @@ impl<'a, K: KeyElement, V: Element, H: KeyHasher, W: Width> ArchivedHashMap<'a, 
         ensures walked { IfSome result (IsValueSeal W.word K.spec V.spec this.entry) }
         ensures at { IsValueSealAt K.spec V.spec result found }
     {
-        Some(value_seal(this, found?))
+        Some(this.value_seal::<K, V>(found?))
     }
 }
 
