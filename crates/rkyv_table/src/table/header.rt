@@ -8,6 +8,7 @@ ghost use Rattle.rkyv_base.specs.{signed_at};
 ghost use Rattle.rkyv_table.specs.{bucket_at, cap_at, control_count, len_at, part_size};
 
 use crate::controls::numbers::control_count;
+use rkyv_base::part::distance_target;
 use rkyv_base::width::Width;
 
 /// The three numbers of a header.
@@ -66,7 +67,7 @@ pub(crate) fn decode_begin(pos: u64, header: Header, size: usize) -> i128
     requires { size ≤ 1073741824 }
     ensures { result ≡ (int pos +ℤ header.distance) -ℤ int (header.cap * size) }
 {
-    i128::from(pos) + i128::from(header.distance) - buckets_size(header.cap, size) as i128
+    distance_target(pos, header.distance) - buckets_size(header.cap, size) as i128
 }
 
 /// Returns the position of a bucket of a table whose buckets begin at `begin`.
@@ -85,7 +86,7 @@ pub(crate) fn controls_pos(pos: u64, header: Header) -> usize
     requires { (at : ℕ) × (int at ≡ int pos +ℤ header.distance) × (at < 2 ^ 64) }
     ensures { result ≡ unsigned_abs (int pos +ℤ header.distance) }
 {
-    (i128::from(pos) + i128::from(header.distance)) as usize
+    distance_target(pos, header.distance) as usize
 }
 
 /// Returns the control bytes of `cap` buckets, from position `at` on.

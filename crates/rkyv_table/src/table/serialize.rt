@@ -122,18 +122,18 @@ fn serialize_source<
 {
     let cap = capacity(len, load_factor, W::MAX_CAPACITY)?;
     if len == 0 {
-        return match given.expect_none() {
-            Ok(()) => Ok(HashTableResolver {
-                pos: 0,
-                len,
-                load_factor,
-                width: PhantomData,
-            }),
-            Err(actual) => Err(WriteError::IteratorLengthMismatch(IteratorLengthMismatch {
+        given
+            .expect_none()
+            .map_err(|actual| IteratorLengthMismatch {
                 expected: len,
                 actual,
-            })),
-        };
+            })?;
+        return Ok(HashTableResolver {
+            pos: 0,
+            len,
+            load_factor,
+            width: PhantomData,
+        });
     }
     let pos = serialize_nonempty::<W, G, _, U, _, _>(alloc, given, len, cap, serializer)?;
     Ok(HashTableResolver {

@@ -72,13 +72,11 @@ pub(crate) fn take_pairs<G: GroupKind, X: Drop, I: Iterator<Item = (u64, X)>>(
     let mut rest = pairs;
     let reciprocal = Reciprocal::new(cap as u64);
     for count in 0..len {
-        match next_item(&mut rest) {
-            Some((hash, item)) => {
-                let start = reciprocal.rest(hash) as usize;
-                place_item::<G, X>(controls, slots, cap, start, hash, item);
-            }
-            None => return Err(count),
-        }
+        let Some((hash, item)) = next_item(&mut rest) else {
+            return Err(count);
+        };
+        let start = reciprocal.rest(hash) as usize;
+        place_item::<G, X>(controls, slots, cap, start, hash, item);
     }
     match next_item(&mut rest) {
         Some(_) => Err(len + 1),

@@ -20,9 +20,8 @@ where
 {
     let mut others = rest;
     for count in before..len + 1 {
-        match next_item(&mut others) {
-            Some(_) => {}
-            None => return count,
+        if next_item(&mut others).is_none() {
+            return count;
         }
     }
     len + 1
