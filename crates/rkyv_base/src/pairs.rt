@@ -17,6 +17,7 @@ use std::alloc::Global;
 
 /// The resolver of an entry: those of its key and of its value.
 #[derive(Drop)]
+#[must_use]
 pub struct EntryResolver<K, V> {
     /// The resolver of the key.
     pub key: K,

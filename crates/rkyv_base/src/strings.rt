@@ -18,6 +18,7 @@ use std::alloc::Global;
 
 /// The resolver of a text: the position of its bytes, or 0 if it is inline.
 #[derive(Clone, Copy, Debug)]
+#[must_use]
 pub struct TextResolver {
     /// The position of the bytes, or 0.
     pub pos: u64,

@@ -66,6 +66,7 @@ struct NextItem {
 /// return each item once. They return as many items as `len` says, and then `None`. The cursor
 /// is unspecified after `next_seal` has returned a seal, and after `bytes_mut`.
 #[derive(Drop)]
+#[must_use]
 pub struct RawIterSeal<'a, T> {
     archive: &'a mut [u8],
     // The position of the first control byte, at which the buckets end.

@@ -18,6 +18,7 @@ use std::marker::{Model, PhantomData};
 
 /// The resolver of a written table: the position of its control bytes, its length and load factor.
 #[derive(Drop)]
+#[must_use]
 pub struct HashTableResolver<W: Width = Narrow> {
     pub(crate) pos: u64,
     pub(crate) len: usize,

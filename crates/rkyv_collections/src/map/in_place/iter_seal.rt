@@ -68,6 +68,7 @@ fn behind<K: Element, V: Element>(bytes: &[u8], pos: u64) -> u64
 /// `iter_seal` and `iter_over` return it. While the archive has a valid map,
 /// `next_pos` and `next_with` return each pair once, and then `None`.
 #[derive(Drop)]
+#[must_use]
 pub struct IterMut<'a, K, V, H = FxHasher64, W = Narrow> {
     entries: RawIterSeal<'a, Entry<K, V>>,
     hasher: PhantomData<H>,
@@ -180,6 +181,7 @@ impl<'a, K: Element, N: Scalar, H, W> IterMut<'a, K, N, H, W> {
 /// `values_seal` and `values_over` return it. While the archive has a valid map,
 /// `next_pos` and `next_with` return each value once, and then `None`.
 #[derive(Drop)]
+#[must_use]
 pub struct ValuesMut<'a, K, V, H = FxHasher64, W = Narrow> {
     pairs: IterMut<'a, K, V, H, W>,
 }

@@ -15,6 +15,7 @@ use std::marker::Model;
 
 /// The resolver of a written index map: that of its table, and the position of its entries.
 #[derive(Drop)]
+#[must_use]
 pub struct IndexMapResolver<W: IndexWidth = Narrow> {
     pub(crate) table: HashTableResolver<W>,
     pub(crate) entries: u64,
