@@ -117,11 +117,10 @@ fn check_entries<T: Element>(
         (indices_of len) lo) }
 {
     let mut low = lo;
-    let mut at = begin;
     for i in 0..len {
+        let at = begin + (i * T::size()) as u64;
         let rest = T::check(bytes, at, PartRange { lo: low, hi: begin })?;
         low = rest.lo;
-        at += T::size() as u64;
     }
     Ok(())
 }

@@ -31,7 +31,9 @@ ghost use Rattle.rkyv_index.specs.{index_over, index_spec, pair_at};
 mod sealed;
 pub mod text;
 
-use crate::map::ArchivedIndexMap;
+use crate::map::read::accessors::begin;
+use crate::map::read::entries::entry_in;
+use crate::map::{ArchivedIndexMap, IndexMapOf};
 use crate::width::IndexWidth;
 use rkyv_base::element::{Element, Represents};
 use rkyv_base::scalars::Scalar;
@@ -53,8 +55,8 @@ fn value_pos_at<K: Element, V: Element, H, W: IndexWidth>(
         (pair_at W.word K.spec V.spec archive.now root index) }
     ensures inside { result + V.spec.size ≤ length archive.now }
 {
-    let map = ArchivedIndexMap::<K, V, H, W>::of(View::new(archive, root));
-    map.entry(index).value().pos()
+    let map = View::<'_, IndexMapOf<K, V, H, W>>::new(archive, root);
+    entry_in(map, begin(map), index).value().pos()
 }
 
 impl<'a, K: KeyElement, V: Element, H: KeyHasher, W: IndexWidth> ArchivedIndexMap<'a, K, V, H, W> {

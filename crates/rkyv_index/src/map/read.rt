@@ -1,7 +1,7 @@
 //! Reading an index map: its length, lookups, iterators, comparisons, the count of misplaced keys,
 //! and lists of its pairs.
 
-mod accessors;
+pub(crate) mod accessors;
 mod debug;
 pub mod deserialize;
 pub(crate) mod entries;

@@ -19,30 +19,17 @@ ghost use Rattle.rkyv_index.specs.{IsFullSealAt, IsIndex, IsIndexSeal, IsPairPos
 ghost use Rattle.rkyv_index.specs.{IsStoredIn, IsValueSeal, SealsPair, SealsValue, SealsValueAt};
 ghost use Rattle.rkyv_index.specs.{index_bytes, index_in, index_pos};
 
+use crate::map::read::accessors::begin;
+use crate::map::read::entries::entry_in;
 use crate::map::{ArchivedIndexMap, IndexMapOf};
 use crate::width::IndexWidth;
 use rkyv_base::element::Element;
-use rkyv_base::entry::value_offset;
 use rkyv_base::seal::{ArchiveSeal, Seal};
 use rkyv_base::view::View;
 use rkyv_keys::hash::KeyHash;
 use rkyv_keys::keys::{KeyElement, Query};
 use rkyv_scan::hash::KeyHasher;
 use rkyv_table::Strides;
-
-/// Returns a seal of the value behind the key at `pos`.
-#[inline]
-fn value_seal<'a, K: Element, V: Element, H, W>(
-    this: ArchiveSeal<'a, IndexMapOf<K, V, H, W>>,
-    pos: u64,
-) -> Seal<'a, V>
-    requires { value_pos K.spec V.spec pos + V.spec.size ≤ length (archive_in this) }
-    ensures at { SealAt result this.entry.archive (value_pos K.spec V.spec pos) }
-    ensures inside { LiesIn V.spec result }
-{
-    let (archive, _) = this.into_parts();
-    Seal::over(archive, pos as usize + value_offset::<K, V>())
-}
 
 // Every sealed lookup finds an index, and then returns a seal of the pair or value at it.
 impl<'a, K: KeyElement, V: Element, H: KeyHasher, W: IndexWidth> ArchivedIndexMap<'a, K, V, H, W> {
@@ -101,7 +88,8 @@ impl<'a, K: KeyElement, V: Element, H: KeyHasher, W: IndexWidth> ArchivedIndexMa
         ensures at { IsPairPosIn W.word K.spec V.spec this.now index result }
         ensures entry { Viewable (entry_spec K.spec V.spec) (archive_in this.now) result }
     {
-        Self::read(this).entry(index).pos()
+        let map = this.as_view();
+        entry_in(map, begin(map), index).pos()
     }
 
     /// Returns a view of the key at `index` and a seal of its value.
@@ -130,7 +118,7 @@ impl<'a, K: KeyElement, V: Element, H: KeyHasher, W: IndexWidth> ArchivedIndexMa
         ensures lent { SealsValueAt W.word K.spec V.spec this.entry index result }
     {
         let pos = Self::pair_pos_in(&this, index);
-        value_seal(this, pos)
+        this.value_seal::<K, V>(pos)
     }
 
     /// Returns a found index, a view of its key and a seal of its value.

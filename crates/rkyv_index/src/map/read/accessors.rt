@@ -38,7 +38,9 @@ fn decode<K: Element, V: Element, H, W: IndexWidth>(
 
 // Returns the position of the first entry of a map.
 #[inline]
-fn begin<K: Element, V: Element, H, W: IndexWidth>(view: View<'_, IndexMapOf<K, V, H, W>>) -> u64
+pub(crate) fn begin<K: Element, V: Element, H, W: IndexWidth>(
+    view: View<'_, IndexMapOf<K, V, H, W>>,
+) -> u64
     requires { IsValidView (index_spec W.word (entry_spec K.spec V.spec)) view }
     ensures { result ≡ entries_pos W.word (bytes_of view.entry) (pos_of view.entry) }
 {

@@ -28,7 +28,7 @@ fn entry_pos(begin: u64, i: usize, size: usize) -> u64
 
 /// Returns a view of the entry at `index` of the map at `view`, with the entries from `begin` on.
 #[inline]
-fn entry_in<'a, K: Element, V: Element, H, W: IndexWidth>(
+pub(crate) fn entry_in<'a, K: Element, V: Element, H, W: IndexWidth>(
     view: View<'a, IndexMapOf<K, V, H, W>>,
     begin: u64,
     index: usize,

@@ -65,10 +65,10 @@ pub(crate) fn take_entries<
 {
     let mut rest = iter;
     for count in 0..len {
-        match next_item(&mut rest) {
-            Some((key, value)) => entries.push_reserved(EntryAdapter::new(key, value)),
-            None => return Err(count),
-        }
+        let Some((key, value)) = next_item(&mut rest) else {
+            return Err(count);
+        };
+        entries.push_reserved(EntryAdapter::new(key, value));
     }
     match next_item(&mut rest) {
         Some(_) => Err(len + 1),

@@ -6,12 +6,12 @@ use Rattle.rkyv_index.proofs.EntrySteps.{entries_yield_more}
 use Rattle.rkyv_table.proofs.PlacingSteps.{yields_more}
 use Rattle.rkyv_index.proofs.map.write.source.take_entries.Goals as goal
 
-pub returns-in-None : goal.returns-in-None
-returns-in-None g c =
+pub returns-in_default : goal.returns-in_default
+returns-in_default g c =
     let i = c.loop-count.invariant in
     let n = length-map {B = g.row.BK.Denot × g.row.BV.Denot} c.loop-count.entries.items (λ e. (e.key, e.value)) in
     let t = c.loop-count-test.true in
-    ((pairs_of c.loop-count.entries.items, omega (arith, n, i.count), inl (omega arith, (_, (_, i.taken, c.in-None.ensures.steps)))), λ z. omega (arith, z, t))
+    ((pairs_of c.loop-count.entries.items, omega (arith, n, i.count), inl (omega arith, (_, (_, i.taken, c.in_default.ensures.steps)))), λ z. omega (arith, z, t))
 
 pub loop-count-preserved : goal.loop-count-preserved
 loop-count-preserved g c = grind (arith, common_steps, entries_yield_more, length_push)
