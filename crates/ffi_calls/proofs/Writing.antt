@@ -31,12 +31,12 @@ module _ {N : Type 0} (w : Width) (k v : ElementSpec) (e : Encoding N) (key_hash
   -- the map is valid after the overwrite
   viewable_after_set : (target : Option ℕ) → SetsFound w k v e key_hash b p value result c target → Viewable (map_spec w k v) b p → Viewable (map_spec w k v) c p
   viewable_after_set None h there = subst (λ x. Viewable (map_spec w k v) x p) (sym h.1) there
-  viewable_after_set (Some q) h there = h.2.1.valid
+  viewable_after_set (Some q) h there = h.2.3.valid
 
   -- the decoded header of the map is that of the map after the overwrite
   header_after_set : (target : Option ℕ) → SetsFound w k v e key_hash b p value result c target → (header : Decoded) → IsDecoded w b p header → IsDecoded w c p header
   header_after_set None h header is = subst (λ x. IsDecoded w x p header) (sym h.1) is
-  header_after_set (Some q) h header is = decoded_again w b c p h.2.1.table.header header is
+  header_after_set (Some q) h header is = decoded_again w b c p h.2.3.table.header header is
 
 -- bytes of the same length with a valid root are a valid archive
 pub accepted_again : (limit : ℕ) (s : ElementSpec) (b c : List ℕ) (p : ℕ) → IsValidArchive limit s b → p ≡ length b - s.size → length c ≡ length b → Viewable s c p → IsValidArchive limit s c

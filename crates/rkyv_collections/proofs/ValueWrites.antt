@@ -15,7 +15,7 @@ use Rattle.rkyv_table.specs.{IsWalked, KeepsTable, RestsOnKey, RestsOnParts, Sam
 use Rattle.rkyv_table.proofs.SameLookups.{pos_found_same}
 use Rattle.rkyv_table.proofs.ValidTable.{item_viewable}
 use Rattle.rkyv_table.proofs.SealedTable.{item_stays, value_kept, written_kept}
-use Rattle.rkyv_collections.specs.{IsKeyPosAt, KeepsMap, MapRepresents, MapWrittenAt, entry_at, map_spec}
+use Rattle.rkyv_collections.specs.{IsKeyPosAt, KeepsMap, KeepsMapAt, MapRepresents, MapWrittenAt, entry_at, map_spec}
 use Rattle.rkyv_collections.proofs.NewValues.{home, new_value_represents, own_pos, own_walked, written_again}
 
 module _ (k v : ElementSpec) (kl : IsElement k) (vl : IsElement v) where
@@ -90,10 +90,10 @@ rests_on_parts k can_read fits rests q ready b c p h = rests q b c p h.valid.low
 
 -- the same for a key at `q` and its value at `pos`
 pub map_kept_at : (k v : ElementSpec) (kl : IsElement k) (vl : IsElement v) (w : Width) (key_hash : List ℕ → ℕ → ℕ) → HashLocal k key_hash → (b c : List ℕ) (p q pos : ℕ) → Viewable (map_spec w k v) b p
-    → (at : IsKeyPosAt w k v b p q) → pos ≡ value_pos k v q → ModifiesOnly b pos v.size c → StaysValid v b c pos → KeepsMap w k v key_hash b c p at.0
+    → (at : IsKeyPosAt w k v b p q) → pos ≡ value_pos k v q → ModifiesOnly b pos v.size c → StaysValid v b c pos → KeepsMapAt w k v key_hash b c p pos
 map_kept_at k v kl vl w key_hash local b c p q pos view at is sealed keeps =
     let there : pos ≡ value_pos k v (entry_at w k v b p at.0) = is ∙ ap (value_pos k v) at.2 in
-    map_kept k v kl vl w key_hash local b c p at.0 view at.1 (record { sealed = subst (λ n. ModifiesOnly b n v.size c) there sealed; keeps = subst (StaysValid v b c) there keeps })
+    (at.0, at.1, there, map_kept k v kl vl w key_hash local b c p at.0 view at.1 (record { sealed = subst (λ n. ModifiesOnly b n v.size c) there sealed; keeps = subst (StaysValid v b c) there keeps }))
 
 module _ (k v : ElementSpec) (kl : IsElement k) (vl : IsElement v) (w : Width) (key_hash : List ℕ → ℕ → ℕ) (local : HashLocal k key_hash) {A B : Type 0} (key : List ℕ → ℕ → A → Type 0) (value : List ℕ → ℕ → B → Type 0)
     (kn : RepresentsLocally k key) (vn : RepresentsLocally v value) (b c : List ℕ) (p n : ℕ) (factor : ℕ × ℕ) (pairs : List (A × B)) (pair : A × B) (new : B) (view : Viewable (map_spec w k v) b p)

@@ -52,7 +52,7 @@ unfoldable pub use Map.SealedPairs.{LendsFirstValue, MayWritePair, MayWriteValue
 unfoldable pub use Map.SealedPairs.{YieldsValuePos, entries_in, entries_of}
 pub use Map.SealedPairs.{HasAllPairs, IsDone, IsSplitPair, StepsAndWritesPair, StepsAndWritesValue}
 pub use Map.SealedPairs.{YieldsPairAt}
-unfoldable pub use Map.ValueWrites.{ValueWritesKeepLookups, ValueWritesKeepMaps}
+unfoldable pub use Map.ValueWrites.{KeepsMapAt, ValueWritesKeepLookups, ValueWritesKeepMaps}
 unfoldable pub use Map.ValueWrites.{ValuesWrittenRepresent, entry_at}
 pub use Map.ValueWrites.{KeepsMap}
 unfoldable pub use Map.ListedLookups.{AgreesOnKeys, IsPosOfPair, LookupsFindListed}

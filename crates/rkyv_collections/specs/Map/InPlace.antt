@@ -6,7 +6,7 @@ use Rattle.rkyv_base.specs.{ElementSpec, Encoding, ScalarRepresents, with_value}
 use Rattle.rkyv_keys.specs.{KeyLookup, first_pair, with_first}
 use Rattle.rkyv_collections.specs.Map.MapAt.{FoundValueHasAt, MapAt, ValueQuery}
 use Rattle.rkyv_collections.specs.Map.MapFormat.{MapRepresents}
-use Rattle.rkyv_collections.specs.Map.ValueWrites.{KeepsMap}
+use Rattle.rkyv_collections.specs.Map.ValueWrites.{KeepsMapAt}
 
 module _ {N : Type 0} (w : Width) (k v : ElementSpec) (e : Encoding N) where
   -- No value is found, and the archive is unchanged. Or the value at the position is the new one,
@@ -14,7 +14,7 @@ module _ {N : Type 0} (w : Width) (k v : ElementSpec) (e : Encoding N) where
   abbrev pub SetsFound : (List ℕ → ℕ → ℕ) → List ℕ → ℕ → N → Bool → List ℕ → Option ℕ → Type 0
   SetsFound key_hash b p value result c key_pos = MatchOption key_pos ((result ≡ false) × (c ≡ b))
       (λ q. (result ≡ true) × (c ≡ with_value e b q value)
-      × ((i : ℕ) × KeepsMap w k v key_hash b c p i))
+      × KeepsMapAt w k v key_hash b c p q)
 
 -- the value that a lookup finds is written, if it finds one. `result`: it finds one, `c`: bytes
 -- afterwards

@@ -10,7 +10,7 @@ use Rattle.rkyv_keys.specs.{KeyLookup, first_pair, list_after_uppercase}
 use Rattle.rkyv_collections.specs.Map.MapAt.{FoundValueHasAt, MapAt, ValueQuery}
 use Rattle.rkyv_collections.specs.Map.MapSpec.{map_spec}
 use Rattle.rkyv_collections.specs.Map.MapFormat.{MapRepresents}
-use Rattle.rkyv_collections.specs.Map.ValueWrites.{KeepsMap}
+use Rattle.rkyv_collections.specs.Map.ValueWrites.{KeepsMapAt}
 
 -- the element of a map to texts
 abbrev pub map_to_texts_spec : Width → ElementSpec → ElementSpec
@@ -24,7 +24,7 @@ module _ (w : Width) (k : ElementSpec) where
   UppercasesFound key_hash b p result c None = (result ≡ None) × (c ≡ b)
   UppercasesFound key_hash b p result c (Some q) =
       (inline : Bool) × (result ≡ Some inline) × Uppercases w b q c inline
-      × ((i : ℕ) × KeepsMap w k (text_spec w) key_hash b c p i)
+      × KeepsMapAt w k (text_spec w) key_hash b c p q
 
 -- the map of keys `ks` to texts in an archive of the word `wt`, with its header at `pos`
 abbrev pub map_to_texts_at : {K W : Type 0} → Words W → Specs K → List ℕ → ℕ → MapAt

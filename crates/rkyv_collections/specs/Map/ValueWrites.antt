@@ -30,6 +30,12 @@ module _ (w : Width) (k v : ElementSpec) where
     pub written : (homes : List ℕ) → MapWrittenAt w (entry_spec k v) key_hash b p homes
         → MapWrittenAt w (entry_spec k v) key_hash c p homes
 
+  -- the map at `p` in `b`, after a write of the value at `pos`, is a map in `c`
+  abbrev pub KeepsMapAt : (List ℕ → ℕ → ℕ) → List ℕ → List ℕ → ℕ → ℕ → Type 0
+  KeepsMapAt key_hash b c p pos =
+      (i : ℕ) × IsWalked w b p i × (pos ≡ value_pos k v (entry_at b p i))
+      × KeepsMap key_hash b c p i
+
   -- a write of one value in place keeps the map
   abbrev pub ValueWritesKeepMaps : (List ℕ → ℕ → ℕ) → Type 0
   ValueWritesKeepMaps key_hash =

@@ -18,7 +18,7 @@ returns-in-Some-clause-sets g c =
     let kept = map_kept_at g.K.HasSpec.spec g.N.HasSpec.spec g.K.HasSpec.laws g.N.HasSpec.laws g.W.Word.word key_hash
     (hash_local g.H.KeyHasher.hasher g.met.K.KeyElement.key)
     c.args.archive.now c.set_at.new.bytes c.args.root t.0 c.in-Some.pos c.requires.map t.1 t.2 c.set_at.ensures.sealed c.set_at.ensures.is_valid in
-    satisfies_implied _ _ _ _ (λ key_pos at. subst (SetsFound g.W.Word.word g.K.HasSpec.spec g.N.HasSpec.spec e key_hash c.args.archive.now c.args.root c.args.value true c.set_at.new.bytes) at (refl, c.set_at.ensures.written, (t.1.0, kept))) c.in-Some.ensures.finds
+    satisfies_implied _ _ _ _ (λ key_pos at. subst (SetsFound g.W.Word.word g.K.HasSpec.spec g.N.HasSpec.spec e key_hash c.args.archive.now c.args.root c.args.value true c.set_at.new.bytes) at (refl, c.set_at.ensures.written, kept)) c.in-Some.ensures.finds
 
 pub returns-in-Some-clause-listed : goal.returns-in-Some-clause-listed
 returns-in-Some-clause-listed g c = λ factor pairs st.

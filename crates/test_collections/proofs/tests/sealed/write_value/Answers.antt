@@ -16,9 +16,8 @@ set_at-requires g c =
 pub returns-clause-kept : goal.returns-clause-kept
 returns-clause-kept g c =
     let h = g.H.KeyHasher in
-    let t = c.requires.key_pos in (
-      t.1.0,
-      map_kept_at g.K.HasSpec.spec g.N.HasSpec.spec g.K.HasSpec.laws g.N.HasSpec.laws g.W.Word.word (hash_at h.hasher g.K.KeyElement.key_calls)
-          (λ x y q lo hi l o is_valid fixed part. ap (hash_of_calls h.hasher) (g.met.K.KeyElement.key.local x y q lo hi l o is_valid fixed part))
-          c.args.bytes.now c.set_at.new.bytes c.args.root t.0 c.args.pos c.requires.map t.1 t.2 c.set_at.ensures.sealed c.set_at.ensures.is_valid,
-    )
+    let t = c.requires.key_pos in
+    let kept = map_kept_at g.K.HasSpec.spec g.N.HasSpec.spec g.K.HasSpec.laws g.N.HasSpec.laws g.W.Word.word (hash_at h.hasher g.K.KeyElement.key_calls)
+    (λ x y q lo hi l o is_valid fixed part. ap (hash_of_calls h.hasher) (g.met.K.KeyElement.key.local x y q lo hi l o is_valid fixed part))
+    c.args.bytes.now c.set_at.new.bytes c.args.root t.0 c.args.pos c.requires.map t.1 t.2 c.set_at.ensures.sealed c.set_at.ensures.is_valid in
+    (kept.0, kept.3)

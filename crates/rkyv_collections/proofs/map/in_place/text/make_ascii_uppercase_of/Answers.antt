@@ -22,7 +22,7 @@ returns-clause-uppercases g c =
     let kept = map_kept_at g.K.HasSpec.spec (text_spec w) g.K.HasSpec.laws (text_element w g.met.W.Width.layout.kind) w key_hash
     (hash_local g.H.KeyHasher.hasher g.met.K.KeyElement.key)
     c.args.archive.now c.uppercase_at.new.bytes c.args.root t.0 c.in_ok-pos.pos c.requires.map t.1 t.2 sealed is_valid in
-    satisfies_implied _ _ _ _ (λ key_pos at. subst (UppercasesFound w g.K.HasSpec.spec key_hash c.args.archive.now c.args.root (Some c.uppercase_at.result) c.uppercase_at.new.bytes) at (c.uppercase_at.result, refl, raised, (t.1.0, kept))) c.in_ok-pos.ensures.finds
+    satisfies_implied _ _ _ _ (λ key_pos at. subst (UppercasesFound w g.K.HasSpec.spec key_hash c.args.archive.now c.args.root (Some c.uppercase_at.result) c.uppercase_at.new.bytes) at (c.uppercase_at.result, refl, raised, kept)) c.in_ok-pos.ensures.finds
 
 pub returns-clause-listed : goal.returns-clause-listed
 returns-clause-listed g c = λ factor pairs st.
