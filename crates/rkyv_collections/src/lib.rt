@@ -36,3 +36,5 @@ pub use rkyv_keys::keys::{KeyElement, NativeKey, NativeQuery, Query};
 pub use rkyv_scan::hash::{FxHasher64, FxHasher64Wide, KeyHasher};
 pub use set::write::HashSetResolver;
 pub use set::{ArchivedHashSet, HashSetOf};
+pub use std_maps::equality::EqArchived;
+pub use std_maps::hashed::Hashed;

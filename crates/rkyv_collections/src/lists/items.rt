@@ -39,16 +39,18 @@ pub struct SetItems<'a, A, H = FxHasher64> {
     hasher: PhantomData<H>,
 }
 
-impl<'a, A, H> SetItems<'a, A, H> {
-    /// Returns the list under the load factor 7 / 8.
+impl<'a, A> SetItems<'a, A> {
+    /// Returns the list under the usual hasher and the load factor 7 / 8.
     #[inline]
-    pub fn new(items: &'a [A]) -> SetItems<'a, A, H>
+    pub fn new(items: &'a [A]) -> SetItems<'a, A>
         ensures items { result.items.now ≡ items.now }
         ensures load_factor { result.load_factor ≡ (7, 8) }
     {
         SetItems::with_load_factor(items, (7, 8))
     }
+}
 
+impl<'a, A, H> SetItems<'a, A, H> {
     /// Returns the list under a load factor: a numerator and a denominator.
     ///
     /// Archiving fails with `InvalidLoadFactor` unless the load factor is above 0 and at most 1.

@@ -37,16 +37,18 @@ pub struct MapPairs<'a, A, B, H = FxHasher64> {
     hasher: PhantomData<H>,
 }
 
-impl<'a, A, B, H> MapPairs<'a, A, B, H> {
-    /// Returns the list under the load factor 7 / 8.
+impl<'a, A, B> MapPairs<'a, A, B> {
+    /// Returns the list under the usual hasher and the load factor 7 / 8.
     #[inline]
-    pub fn new(pairs: &'a [(A, B)]) -> MapPairs<'a, A, B, H>
+    pub fn new(pairs: &'a [(A, B)]) -> MapPairs<'a, A, B>
         ensures pairs { result.pairs.now ≡ pairs.now }
         ensures load_factor { result.load_factor ≡ (7, 8) }
     {
         MapPairs::with_load_factor(pairs, (7, 8))
     }
+}
 
+impl<'a, A, B, H> MapPairs<'a, A, B, H> {
     /// Returns the list under a load factor: a numerator and a denominator.
     ///
     /// Archiving fails with `InvalidLoadFactor` unless the load factor is above 0 and at most 1.

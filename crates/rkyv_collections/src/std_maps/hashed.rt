@@ -3,6 +3,8 @@
 //! std's types have no hasher of archived maps, so `Hashed` names it.
 
 ghost use Rattle.std.specs.Prelude.{◌≡◌};
+ghost use Rattle.std.specs.Borrow.{Lends, sem};
+ghost use Rattle.rkyv_collections.specs.contracts.std_maps.hashed.Hashed.{the_row};
 
 use rkyv_scan::hash::FxHasher64;
 use std::fmt::{self, Debug, Formatter, Write};
@@ -51,6 +53,16 @@ impl<M, H> Hashed<M, H> {
         ensures { result.now ≡ self.now.map }
     {
         &self.map
+    }
+
+    /// Returns a mutable reference to the map or set.
+    #[inline]
+    pub fn get_mut(&mut self) -> &mut M
+        ensures value { result.now ≡ self.old.map }
+        ensures* writes_back { sem 𝓛 (Lends (the_row M.row H.row) M.row self.entry result
+            (λ map. record { map = map; hasher = self.old.hasher })) }
+    {
+        &mut self.map
     }
 
     /// Returns the map or set itself.
