@@ -61,22 +61,16 @@ fn strides_of<K: KeyElement, V: Element, H: KeyHasher, W: IndexWidth>(
 }
 
 /// Returns the histogram of the strides that lookups of all keys of a map read.
-///
-/// # Requires
-///
-/// - `capacity` is the number of buckets.
 fn strides_histogram<K: KeyElement, V: Element, H: KeyHasher, W: IndexWidth>(
     alloc: Global,
     map: ArchivedIndexMap<'_, K, V, H, W>,
-    capacity: usize,
 ) -> Result<Vec<usize>, AllocError>
-    requires { capacity ≡ cap_at W.word (index_bytes map) (index_pos map) }
     ensures { let m = keyed_map W.word
         (key_type K.spec K.same (hash_at H.hasher K.key_calls)) V.spec (index_bytes map.entry)
         (index_pos map.entry) in
         IfOk result (λ counts. CountsIndexStrides m counts.items) }
 {
-    let mut counts = zeros(alloc, most_strides(capacity) + 1)?;
+    let mut counts = zeros(alloc, most_strides(map.capacity()) + 1)?;
     for index in 0..map.len() {
         count_one(&mut counts, strides_of(map, index));
     }
@@ -84,17 +78,11 @@ fn strides_histogram<K: KeyElement, V: Element, H: KeyHasher, W: IndexWidth>(
 }
 
 /// Looks up each key of a map, unless the lookups read more than `limit` strides.
-///
-/// # Requires
-///
-/// - `capacity` is the number of buckets.
 fn index_lookups<K: KeyElement, V: Element, H: KeyHasher, W: IndexWidth>(
     alloc: Global,
     map: ArchivedIndexMap<'_, K, V, H, W>,
-    capacity: usize,
     limit: u64,
 ) -> Result<Option<Lookups>, AllocError>
-    requires { capacity ≡ cap_at W.word (index_bytes map) (index_pos map) }
     ensures { let keys = key_type K.spec K.same (hash_at H.hasher K.key_calls) in
         let m = keyed_map W.word keys V.spec (index_bytes map.entry) (index_pos map.entry) in
         IfOk result (LooksUpIndices m limit) }
@@ -102,7 +90,7 @@ fn index_lookups<K: KeyElement, V: Element, H: KeyHasher, W: IndexWidth>(
     let Some(misplaced) = map.misplaced_up_to(limit) else {
         return Ok(None);
     };
-    let strides = strides_histogram(alloc, map, capacity)?;
+    let strides = strides_histogram(alloc, map)?;
     Ok(Some(Lookups { misplaced, strides }))
 }
 
@@ -129,7 +117,7 @@ pub fn index_summary<K: KeyElement, V: Element, H: KeyHasher, W: IndexWidth>(
 {
     let map = ArchivedIndexMap::of(root);
     let header = map.header();
-    let lookups = index_lookups(alloc, map, header.capacity(), limit)?;
+    let lookups = index_lookups(alloc, map, limit)?;
     Ok(Summary {
         len: header.len(),
         capacity: header.capacity(),

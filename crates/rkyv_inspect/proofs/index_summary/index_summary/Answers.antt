@@ -12,8 +12,8 @@ returns g c =
     let header = subst (λ v. IsDecoded g.W.Word.word (bytes_of v) (pos_of v) c.header-header.result) c.of-map.ensures.view c.header-header.ensures in
     record {
       len_is = c.len.ensures ∙ header.len;
-      capacity_is = c.capacity-2.ensures ∙ header.cap;
+      capacity_is = c.capacity.ensures ∙ header.cap;
       header_is = c.pos.ensures;
-      controls_are = c.controls_of.ensures ∙ same_controls _ _ _ _ _ _ c.capacity-3.ensures header.cap c.controls_pos.ensures header.controls_pos;
+      controls_are = c.controls_of.ensures ∙ same_controls _ _ _ _ _ _ c.capacity-2.ensures header.cap c.controls_pos.ensures header.controls_pos;
       lookups_are = subst (λ v. LooksUpIndices (keyed_map g.W.Word.word keys g.V.HasSpec.spec (bytes_of v) (pos_of v)) c.args.limit c.in_ok-lookups.lookups) c.of-map.ensures.view c.in_ok-lookups.ensures;
     }

@@ -14,7 +14,7 @@ loop-index-init g c =
     let zeros : c.in_ok-counts.counts.items ≡ replicate most 0 = c.in_ok-counts.ensures in
     record {
       counted = partial_none _ _ _ _ most (all_left (index_len c.args.map)) zeros;
-      long = ap length zeros ∙ length-replicate {A = ℕ} most 0 ∙ ap (λ n. n + 1) (c.most_strides.ensures ∙ ap (λ n. probe_capacity n / 16) c.requires);
+      long = ap length zeros ∙ length-replicate {A = ℕ} most 0 ∙ ap (λ n. n + 1) (c.most_strides.ensures ∙ ap (λ n. probe_capacity n / 16) c.capacity.ensures);
     }
 
 pub count_one-requires-clause-room : goal.count_one-requires-clause-room
