@@ -1,5 +1,6 @@
-//! Tests of the texts of each error, and of the conversions between errors.
+//! Tests of the texts of each error, of the conversions between errors, and of their comparison.
 
+use rkyv_base::access::access;
 use rkyv_base::errors::RoundTripError;
 use rkyv_base::{
     DistanceTooLarge, IteratorLengthMismatch, LimitFault, NoMemory, ReadError, VerifyError,
@@ -185,6 +186,28 @@ fn other_errors_have_texts(rt: HostRuntime) {
     expect_eq!(rt; (debugged, messages), ([true; 7], [true; 4]));
 }
 
+#[test]
+fn faults_have_texts(rt: HostRuntime) {
+    let alloc = rt.alloc();
+    let messages = [
+        has_message(alloc, DistanceTooLarge, "distance too large"),
+        has_message(alloc, NoMemory, "no memory"),
+        has_message::<LimitFault<NoMemory>>(alloc, LimitFault::Full, "limit reached"),
+        has_message(alloc, LimitFault::Inner(NoMemory), "inner writer fault"),
+    ];
+    expect_eq!(rt; messages, [true; 4]);
+}
+
+#[test]
+fn errors_are_compared(rt: HostRuntime) {
+    let error = access::<u32>(&[0; 2]).err();
+    let other = Some(VerifyError::OutOfRange { pos: -1, size: 4 });
+    expect_eq!(rt;
+        (error, error == other),
+        (Some(VerifyError::OutOfRange { pos: -2, size: 4 }), false)
+    );
+}
+
 // Returns the number of items in a list to which one is pushed.
 fn pushed(alloc: Global) -> Result<usize, WriteError<NoMemory>> {
     let mut list = Vec::new(alloc);
@@ -196,17 +219,14 @@ fn pushed(alloc: Global) -> Result<usize, WriteError<NoMemory>> {
 fn errors_are_converted(rt: HostRuntime) {
     laws::errors_are_converted::<NoMemory, u8>();
     let alloc = rt.alloc();
-    let length =
-        "iterator claimed that it contained 3 elements, but yielded 2 items during iteration";
     let too_long: WriteError<NoMemory> = WriteError::TextTooLong;
-    let from_memory: WriteError<NoMemory> = WriteError::from(AllocError);
-    let from_distance: WriteError<NoMemory> = WriteError::from(DistanceTooLarge);
-    let from_length: WriteError<NoMemory> = WriteError::from(mismatch(3, 2));
+    let write_errors: [WriteError<NoMemory>; 3] = [
+        WriteError::from(AllocError),
+        WriteError::from(DistanceTooLarge),
+        WriteError::from(mismatch(3, 2)),
+    ];
+    let read_error = ReadError::from(AllocError);
     let shown = [
-        has_message(alloc, from_memory, "no memory"),
-        has_message(alloc, from_distance, "distance too large"),
-        has_message(alloc, from_length, length),
-        has_message(alloc, ReadError::from(AllocError), "no memory"),
         has_message(alloc, RoundTripError::from(too_long), "text too long"),
         has_message(
             alloc,
@@ -214,5 +234,17 @@ fn errors_are_converted(rt: HostRuntime) {
             "refused 5",
         ),
     ];
-    expect_eq!(rt; (shown, pushed(alloc).ok()), ([true; 6], Some(1)));
+    expect_eq!(rt;
+        (write_errors, read_error, shown, pushed(alloc).ok()),
+        (
+            [
+                WriteError::Memory,
+                WriteError::DistanceTooLarge,
+                WriteError::IteratorLengthMismatch(mismatch(3, 2))
+            ],
+            ReadError::Memory,
+            [true; 2],
+            Some(1)
+        )
+    );
 }

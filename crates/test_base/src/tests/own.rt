@@ -1,4 +1,4 @@
-//! Tests of a user's own types that implement the traits.
+//! Tests of user-defined types that implement the traits.
 ghost use Rattle.std.specs.Prelude.{[], length, ⊤, ◌≡◌};
 ghost use Rattle.std.specs.Int.{w32};
 ghost use Rattle.std.proofs.Common.{inl, inr, lit≤, refl};
@@ -7,7 +7,7 @@ ghost use Rattle.rkyv_base.specs.{any_bytes, no_overflow, nothing_next, scalar_s
 ghost use Rattle.rkyv_base.specs.Lemmas.Numbers.{unsigned_codes};
 ghost use Rattle.rkyv_base.specs.Lemmas.Scalar.{scalar_element, scalar_laws};
 
-use crate::tests::access_failures::{Failure, access_failure};
+use crate::tests::access_failures::access_failure;
 use rkyv_base::access::access;
 use rkyv_base::element::HasSpec;
 use rkyv_base::{
@@ -17,7 +17,7 @@ use rkyv_base::{
 use std::alloc::Global;
 use test_support::written::is_archived_as;
 
-// A user's own scalar.
+// A user-defined scalar.
 #[derive(Clone, Copy, Debug, PartialEq, Eq)]
 struct Grams(u32);
 
@@ -55,7 +55,7 @@ impl Scalar for Grams {
     ghost laws = { scalar_laws _ (inr (inr (inl refl))) };
 }
 
-// A user's own element, of the greatest size. All bytes are valid for it.
+// A user-defined element, of the greatest size. All bytes are valid for it.
 struct Huge;
 
 impl HasSpec for Huge {
@@ -152,8 +152,8 @@ fn rejects_entries_that_are_too_large(rt: HostRuntime) {
         (
             [1_073_741_824, 1_073_741_826, 0, 2],
             [
-                Some(Failure::OutOfRange(-1_073_741_824, 1_073_741_824)),
-                Some(Failure::Refused(0))
+                Some(VerifyError::OutOfRange { pos: -1_073_741_824, size: 1_073_741_824 }),
+                Some(VerifyError::Refused(0))
             ],
             [true; 2]
         )

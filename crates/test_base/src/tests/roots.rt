@@ -1,10 +1,10 @@
 //! Tests of whole archives of numbers and pairs.
 ghost use Rattle.std.specs.Prelude.{IfOk, ◌≡◌};
 
-use crate::tests::access_failures::{Failure, access_failure};
+use crate::tests::access_failures::access_failure;
 use rkyv_base::access::access;
 use rkyv_base::entry::Entry;
-use rkyv_base::errors::WriteError;
+use rkyv_base::errors::{VerifyError, WriteError};
 use rkyv_base::laws;
 use rkyv_base::root::to_bytes;
 use rkyv_base::width::Narrow;
@@ -60,10 +60,10 @@ fn rejects_invalid_roots(rt: HostRuntime) {
     expect_eq!(rt;
         failure,
         [
-            Some(Failure::InvalidValue(0)),
-            Some(Failure::InvalidValue(0)),
-            Some(Failure::OutOfRange(-1, 4)),
-            Some(Failure::Unaligned(1, 4))
+            Some(VerifyError::InvalidValue { pos: 0 }),
+            Some(VerifyError::InvalidValue { pos: 0 }),
+            Some(VerifyError::OutOfRange { pos: -1, size: 4 }),
+            Some(VerifyError::Unaligned { pos: 1, align: 4 })
         ]
     );
 }

@@ -1,8 +1,8 @@
 //! Tests of scalars, widths and entries at their limits.
-use crate::tests::access_failures::{Failure, access_failure};
+use crate::tests::access_failures::access_failure;
 use rkyv_base::{
-    Element, Entry, Narrow, Scalar, Wide, Width, access_in, laws, to_bytes_in, value_offset,
-    whole_size,
+    Element, Entry, Narrow, Scalar, VerifyError, Wide, Width, access_in, laws, to_bytes_in,
+    value_offset, whole_size,
 };
 use std::alloc::Global;
 
@@ -86,7 +86,7 @@ fn bool_and_char_at_their_limits(rt: HostRuntime) {
     ];
     expect_eq!(rt;
         (right, failure),
-        ([true; 6], [Some(Failure::InvalidValue(0)); 3])
+        ([true; 6], [Some(VerifyError::InvalidValue { pos: 0 }); 3])
     );
 }
 

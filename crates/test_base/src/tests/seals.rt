@@ -5,7 +5,7 @@ ghost use Rattle.std.specs.Int.{w32, w64};
 ghost use Rattle.rkyv_base.specs.{Viewable, entry_spec, number_at, scalar_spec, signed, unsigned};
 ghost use Rattle.rkyv_base.specs.{with_value};
 
-use crate::tests::access_failures::{Failure, access_mut_failure};
+use crate::tests::access_failures::access_mut_failure;
 use rkyv_base::access::access;
 use rkyv_base::seal_text::uppercase_at;
 use rkyv_base::{
@@ -166,9 +166,9 @@ fn access_mut_rejects_invalid_roots(rt: HostRuntime) {
         (failure, bytes),
         (
             [
-                Some(Failure::InvalidValue(0)),
-                Some(Failure::Unaligned(1, 4)),
-                Some(Failure::OutOfRange(-3, 8))
+                Some(VerifyError::InvalidValue { pos: 0 }),
+                Some(VerifyError::Unaligned { pos: 1, align: 4 }),
+                Some(VerifyError::OutOfRange { pos: -3, size: 8 })
             ],
             [2]
         )

@@ -1,5 +1,5 @@
 //! Tests of text: its bytes, its errors, and reading it in place.
-use crate::tests::access_failures::{Failure, access_failure};
+use crate::tests::access_failures::access_failure;
 use rkyv_base::{
     Archive, Entry, Narrow, Text, TextResolver, VerifyError, Wide, Width, access_in, laws,
     to_bytes_in,
@@ -86,7 +86,7 @@ fn two_texts_are_one_behind_the_other(rt: HostRuntime) {
     let failure = access_failure::<Narrow, Entry<Text, Text>>(&bytes);
     expect_eq!(rt;
         (archived, read, failure),
-        (true, true, Some(Failure::OutOfRange(0, 9)))
+        (true, true, Some(VerifyError::OutOfRange { pos: 0, size: 9 }))
     );
 }
 
@@ -101,14 +101,14 @@ fn rejects_invalid_texts(rt: HostRuntime) {
         access_failure::<Narrow, Text>(&bytes),
         access_failure::<Narrow, Text>(b"\xc3\xff\xff\xff\xff\xff\xff\xff"),
     ];
-    let invalid = Some(Failure::InvalidValue(0));
+    let invalid = Some(VerifyError::InvalidValue { pos: 0 });
     expect_eq!(rt;
         failure,
         [
-            Some(Failure::OutOfRange(-12, 9)),
+            Some(VerifyError::OutOfRange { pos: -12, size: 9 }),
             invalid,
             invalid,
-            Some(Failure::InvalidValue(12)),
+            Some(VerifyError::InvalidValue { pos: 12 }),
             invalid
         ]
     );

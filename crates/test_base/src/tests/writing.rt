@@ -183,31 +183,30 @@ fn limit_keeps_a_prefix_of_the_archive(rt: HostRuntime) {
     let root = write_whole(rt.alloc(), &mut writer).ok();
     let state = (writer.pos(), writer.failures());
     let nothing = append(&mut writer, &[]).is_ok();
-    let full = matches!(
-        append(&mut writer, &[1]),
-        Err(WriteError::Writer(LimitFault::Full))
-    );
+    let full = append(&mut writer, &[1]).err();
     let inner = writer.into_inner();
     expect_eq!(rt;
         (right, root, state, nothing, full, inner.bytes()),
-        (true, Some(4), (12, 0), true, true, WHOLE.as_slice())
+        (
+            true,
+            Some(4),
+            (12, 0),
+            true,
+            Some(WriteError::Writer(LimitFault::Full)),
+            WHOLE.as_slice()
+        )
     );
-}
-
-// Returns `true` if the fault is that of an inner writer that is full.
-fn is_full_within(outcome: Result<(), LimitFault<LimitFault<NoMemory>>>) -> bool {
-    matches!(outcome, Err(LimitFault::Inner(LimitFault::Full)))
 }
 
 #[test]
 fn errors_of_the_inner_writer_are_returned(rt: HostRuntime) {
     let mut writer = LimitWriter::new(LimitWriter::new(VecWriter::new(rt.alloc()), 3), 5);
     // The piece fits in the outer limit, and the inner writer takes three of its bytes.
-    let first = is_full_within(writer.write(&[1, 2, 3, 4]));
+    let first = writer.write(&[1, 2, 3, 4]).err();
     let state = (writer.pos(), writer.failures());
     // The inner writer takes none of the two bytes that still fit in the outer limit.
-    let second = is_full_within(writer.write(&[4, 5, 6]));
-    let third = is_full_within(writer.write(&[4, 5]));
+    let second = writer.write(&[4, 5, 6]).err();
+    let third = writer.write(&[4, 5]).err();
     let nothing = writer.write(&[]).is_ok();
     let next_state = (writer.pos(), writer.failures());
     let inner = writer.into_inner();
@@ -215,13 +214,21 @@ fn errors_of_the_inner_writer_are_returned(rt: HostRuntime) {
     let inmost = inner.into_inner();
     expect_eq!(rt;
         (
-            [first, second, third, nothing],
+            [first, second, third],
+            nothing,
             state,
             next_state,
             failures,
             inmost.bytes()
         ),
-        ([true; 4], (3, 1), (3, 3), 3, [1, 2, 3].as_slice())
+        (
+            [Some(LimitFault::Inner(LimitFault::Full)); 3],
+            true,
+            (3, 1),
+            (3, 3),
+            3,
+            [1, 2, 3].as_slice()
+        )
     );
 }
 

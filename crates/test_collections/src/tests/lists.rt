@@ -4,11 +4,11 @@ use crate::tests::opened::key_set;
 use rkyv_base::errors::{VerifyError, WriteError};
 use rkyv_base::root::to_bytes;
 use rkyv_base::writer::NoMemory;
-use rkyv_collections::SetItems;
 use rkyv_collections::lists::laws::{item_clones_are_the_same, pair_clones_are_the_same};
+use rkyv_collections::{MapPairs, SetItems};
 use rkyv_scan::hash::FxHasher64;
 use std::alloc::Global;
-use test_support::archives::{archive, three_keys};
+use test_support::archives::{archive, one_pair, three_keys};
 
 // Returns the archive of a list of items, as a set.
 fn archive_of(alloc: Global, items: SetItems<'_, u8>) -> Result<Vec<u8>, WriteError<NoMemory>> {
@@ -50,6 +50,26 @@ fn a_list_is_archived_as_a_set(rt: HostRuntime) {
     let items = [1, 2, 3];
     let read = written_and_read(rt.alloc(), SetItems::new(&items), &three_keys());
     expect_eq!(rt; read, Some((true, (3, 3, [true, false]))));
+}
+
+// Returns the archives of a list of one pair and of three items, whose types are inferred.
+fn archives_without_annotations(alloc: Global) -> Result<[Vec<u8>; 2], WriteError<NoMemory>> {
+    let map = to_bytes(alloc, &MapPairs::new(&[(1i8, 2i8)]))?;
+    let set = to_bytes(alloc, &SetItems::new(&[1u8, 2, 3]))?;
+    Ok([map, set])
+}
+
+#[test]
+fn lists_need_no_annotation(rt: HostRuntime) {
+    let archives = archives_without_annotations(rt.alloc()).ok();
+    let equal = match &archives {
+        Some([map, set]) => [
+            map.as_slice() == &one_pair()[..],
+            set.as_slice() == &three_keys()[..],
+        ],
+        None => [false; 2],
+    };
+    expect_eq!(rt; equal, [true; 2]);
 }
 
 #[test]

@@ -219,6 +219,20 @@ fn a_fare_of_a_season(rt: HostRuntime) -> Result<(), Fail> {
 
 type Deep = EntriesRelation<FareRelation>;
 
+// Adds a pair to a map in its wrapper. Returns the length, and the value of the new key.
+fn pair_added(alloc: Global) -> Result<(usize, Option<i8>), Fail> {
+    let mut map: Hashed<HashMap<i8, i8>> = Hashed::new(HashMap::new(alloc));
+    map.get_mut().insert(3, 4)?;
+    Ok((map.get().len(), map.get().get(&3).copied()))
+}
+
+#[test]
+fn a_wrapped_map_is_changed(rt: HostRuntime) -> Result<(), Fail> {
+    let added = pair_added(rt.alloc())?;
+    expect_eq!(rt; added, (1, Some(4)));
+    Ok(())
+}
+
 #[test]
 fn laws_of_deeper_maps(_rt: HostRuntime) {
     nested_maps_are_looked_up::<u32, Narrow, FxHasher64, u32, CityMap, RandomState, Deep>();

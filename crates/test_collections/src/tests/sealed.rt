@@ -10,13 +10,13 @@ ghost use Rattle.test_collections.specs.InMaps.{FindsIn, KeepsIn};
 use crate::tests::archives::{four_with, map_archive};
 use crate::tests::opened::{is_text, number_seal, small_seal, text_seal};
 use crate::tests::query_results::{number_of, small};
-use rkyv_base::access::{access_in, access_mut};
+use rkyv_base::access::{access_in, access_mut, access_mut_in};
 use rkyv_base::element::Element;
 use rkyv_base::errors::VerifyError;
 use rkyv_base::scalars::Scalar;
 use rkyv_base::seal::set_at;
 use rkyv_base::view::View;
-use rkyv_base::width::{Narrow, Width};
+use rkyv_base::width::{Narrow, Wide, Width};
 use rkyv_collections::map::laws::in_place::{
     value_writes_keep_lookups, value_writes_keep_maps, values_written_represent,
 };
@@ -24,7 +24,7 @@ use rkyv_collections::map::{ArchivedHashMap, HashMapOf};
 use rkyv_keys::keys::{KeyElement, Query};
 use rkyv_scan::hash::{FxHasher64, KeyHasher};
 use std::alloc::Global;
-use test_support::archives::{four_pairs, one_number};
+use test_support::archives::{four_pairs, one_number, one_wide_number};
 
 type Numbers = HashMapOf<u32, u32>;
 
@@ -187,6 +187,31 @@ fn sealed_pair_has_its_key(rt: HostRuntime) {
     let mut bytes = one_number();
     let before = replace_beside_key(&mut bytes, 1, 7).ok();
     expect_eq!(rt; (before, bytes[4]), (Some(Some((1, 2))), 7));
+}
+
+// Writes a number over the value of a key of a wide map. Returns the key, and the value before.
+fn replace_wide(bytes: &mut [u8], key: u32, value: u32) -> Result<Option<(u32, u32)>, VerifyError> {
+    let whole = access_mut_in::<Wide, HashMapOf<u32, u32, FxHasher64, Wide>>(bytes)?;
+    match ArchivedHashMap::get_key_value_seal(whole, &key) {
+        Some((found, mut seal)) => {
+            let before = (found.to_native(), seal.to_native());
+            seal.set(value);
+            Ok(Some(before))
+        }
+        None => Ok(None),
+    }
+}
+
+#[test]
+fn a_value_of_a_wide_map_is_written_in_place(rt: HostRuntime) {
+    let mut bytes = one_wide_number();
+    let replaced = [
+        replace_wide(&mut bytes, 1, 16_909_060).ok(),
+        replace_wide(&mut bytes, 2, 7).ok(),
+    ];
+    let mut expected = one_wide_number();
+    expected[4..8].copy_from_slice(&[4, 3, 2, 1]);
+    expect_eq!(rt; (replaced, bytes == expected), ([Some(Some((1, 2))), Some(None)], true));
 }
 
 // Writes a number over the value that is found by a comparison that always returns `accepts`.

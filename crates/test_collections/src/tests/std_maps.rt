@@ -414,6 +414,19 @@ fn units_to_numbers_and_to_units(rt: HostRuntime) {
     );
 }
 
+// Does the same as `set_of_unit`, under the hasher that feeds all bits.
+fn set_of_unit_by_all_bits(alloc: Global) -> Option<(bool, Option<bool>)> {
+    let set: Hashed<HashSet<()>, FxHasher64Wide> = Hashed::new(set_of_one(alloc, ()).ok()?);
+    let written = is_archived_as(alloc, &set, &one_unit());
+    let back = round_trips_equal::<Narrow, Hashed<HashSet<()>, FxHasher64Wide>>(alloc, &set);
+    Some((written, back.ok()))
+}
+
+#[test]
+fn a_set_under_the_hasher_that_feeds_all_bits(rt: HostRuntime) {
+    expect_eq!(rt; set_of_unit_by_all_bits(rt.alloc()), Some((true, Some(true))));
+}
+
 // Returns the length of the archived map, the number of its pairs that std's map has, and of std's
 // pairs that the archived map has. Then comes whether the two maps are equal.
 fn found_both_ways(

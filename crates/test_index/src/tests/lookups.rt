@@ -16,7 +16,7 @@ use rkyv_index::map::laws::{
 use rkyv_index::{
     ArchivedIndexMap, IndexMapOf, IndexSetOf, Iter, Keys, OrderedItems, OrderedPairs, Values,
 };
-use rkyv_scan::hash::FxHasher64;
+use rkyv_scan::hash::{FxHasher64, FxHasher64Wide};
 use rkyv_table::Strides;
 use std::alloc::Global;
 use std::cell::Cell;
@@ -60,6 +60,20 @@ fn found_by_header(bytes: &[u8], key: i8) -> Result<Option<(usize, i8)>, VerifyE
 fn a_decoded_header_leads_to_the_same_pair(rt: HostRuntime) {
     let found = found_by_header(&four_entries(), 7).ok();
     expect_eq!(rt; found, Some(Some((3, 8))));
+}
+
+// Returns the index, the key and the value of a key, under the hasher that feeds all bits.
+fn found_by_all_bits(bytes: &[u8], key: i8) -> Result<Option<(usize, i8, i8)>, VerifyError> {
+    let map = ArchivedIndexMap::of(access::<IndexMapOf<i8, i8, FxHasher64Wide>>(bytes)?);
+    match map.get_full(&key) {
+        Some((index, key, value)) => Ok(Some((index, key.to_native(), value.to_native()))),
+        None => Ok(None),
+    }
+}
+
+#[test]
+fn lookup_under_the_hasher_that_feeds_all_bits(rt: HostRuntime) {
+    expect_eq!(rt; found_by_all_bits(&one_pair(), 1).ok(), Some(Some((0, 1, 2))));
 }
 
 #[test]
@@ -240,13 +254,17 @@ fn of_equal_keys_the_first_is_found(rt: HostRuntime) -> Result<(), Fail> {
         Some((index, _, value)) => (index, value.to_native()),
         None => (9, 0),
     };
+    let value = match map.get(&1) {
+        Some(value) => value.to_native(),
+        None => 0,
+    };
     let second = match map.get_index(1) {
         Some((key, value)) => (key.to_native(), value.to_native()),
         None => (0, 0),
     };
     expect_eq!(rt;
-        (map.len(), found, second, map.misplaced()),
-        (2, (0, 2), (1, 9), 1)
+        (map.len(), found, value, second, map.misplaced()),
+        (2, (0, 2), 2, (1, 9), 1)
     );
     Ok(())
 }

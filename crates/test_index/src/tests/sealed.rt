@@ -4,14 +4,14 @@ ghost use Rattle.rkyv_base.specs.{Viewable, entry_spec};
 ghost use Rattle.rkyv_table.specs.{len_at};
 ghost use Rattle.rkyv_index.specs.{index_spec};
 
-use crate::tests::archives::{map_in_a_map, one_pair};
+use crate::tests::archives::{map_in_a_map, one_pair, wide_pair};
 use crate::tests::opened::{small_map, small_seal};
-use rkyv_base::access::{access, access_in, access_mut};
+use rkyv_base::access::{access, access_in, access_mut, access_mut_in};
 use rkyv_base::element::{Element, Represents};
 use rkyv_base::errors::VerifyError;
 use rkyv_base::scalars::Scalar;
 use rkyv_base::view::{View, found_pos};
-use rkyv_base::width::Narrow;
+use rkyv_base::width::{Narrow, Wide};
 use rkyv_index::map::in_place::set_value_at;
 use rkyv_index::map::laws::nested::{
     nested_writes_keep_index_maps, nested_writes_keep_lookups, nested_writes_represent,
@@ -151,6 +151,35 @@ fn a_found_value_is_written_in_place(rt: HostRuntime) {
         (replaced, found, bytes == expected),
         (Some(Some((0, 1, 2))), Some(Some(-1)), true)
     );
+}
+
+// Does the same as `replace`, in a wide map.
+fn replace_wide(
+    bytes: &mut [u8],
+    key: i8,
+    value: i8,
+) -> Result<Option<(usize, i8, i8)>, VerifyError> {
+    let whole = access_mut_in::<Wide, IndexMapOf<i8, i8, FxHasher64, Wide>>(bytes)?;
+    match ArchivedIndexMap::get_full_seal(whole, &key) {
+        Some((index, stored, mut seal)) => {
+            let before = (index, stored.to_native(), seal.to_native());
+            seal.set(value);
+            Ok(Some(before))
+        }
+        None => Ok(None),
+    }
+}
+
+#[test]
+fn a_value_of_a_wide_map_is_written_in_place(rt: HostRuntime) {
+    let mut bytes = wide_pair();
+    let replaced = [
+        replace_wide(&mut bytes, 1, -1).ok(),
+        replace_wide(&mut bytes, 2, 7).ok(),
+    ];
+    let mut expected = wide_pair();
+    expected[48] = 0xff;
+    expect_eq!(rt; (replaced, bytes == expected), ([Some(Some((0, 1, 2))), Some(None)], true));
 }
 
 #[test]

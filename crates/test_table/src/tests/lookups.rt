@@ -13,6 +13,7 @@ use rkyv_base::width::{Narrow, Width};
 use rkyv_scan::hash::{FxHasher64, FxHasher64Wide};
 use rkyv_scan::simd::{GroupKind, bytewise, generic, lanes, paired};
 use rkyv_table::controls::find::Strides;
+use rkyv_table::controls::numbers::start;
 use rkyv_table::table::{ArchivedHashTable, TableOf, laws};
 use std::alloc::Global;
 use std::cell::Cell;
@@ -130,7 +131,7 @@ fn a_pair_is_found_in_another_bucket_than_its_start(rt: HostRuntime) {
         (8, None),
     ];
     expect_eq!(rt;
-        (counts, hash_of_i8(5) % 5, pos, leads(bytes, &pairs)),
+        (counts, start(hash_of_i8(5), 5), pos, leads(bytes, &pairs)),
         (Some((4, 5)), 4, Some(Some(8)), true)
     );
 }
@@ -150,6 +151,18 @@ fn first_pos_by_header<T: Element, W: Width>(
 fn a_decoded_header_leads_to_the_same_item(rt: HostRuntime) {
     let pos = first_pos_by_header::<Entry<i8, i8>, Narrow>(&four_pairs(), hash_of_i8(5)).ok();
     expect_eq!(rt; pos, Some(Some(8)));
+}
+
+// Returns the length, the capacity and the position of the first control byte, from the decoded
+// header of a table.
+fn decoded(bytes: &[u8]) -> Result<(usize, usize, usize), VerifyError> {
+    let header = ArchivedHashTable::of(access::<TableOf<Entry<i8, i8>>>(bytes)?).header();
+    Ok((header.len(), header.capacity(), header.controls_pos()))
+}
+
+#[test]
+fn a_decoded_header_has_the_numbers_of_the_table(rt: HostRuntime) {
+    expect_eq!(rt; decoded(&four_pairs()).ok(), Some((4, 5, 10)));
 }
 
 #[test]
