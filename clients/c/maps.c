@@ -7,15 +7,37 @@
  * command is a line `get KEY`, `set KEY VALUE`, `count` or `list`, and for an index map `at INDEX`.
  * Each but `list` prints its status and, if that is RKYV_OK, its result on a line. `list` prints a line
  * for each pair. An unknown command prints RKYV_NOT_FOUND. A key of 32 bits is taken modulo
- * 4294967296. `set` writes numbers, and doesn't change the file.
+ * 4294967296. `set` writes numbers, and doesn't change the file. A line has at most 65,535 bytes, and
+ * none is zero. A longer line prints RKYV_TOO_LONG, and no further line is read.
  *
- * The program exits with 1 if the file can't be read, with 2 if the arguments are wrong, and else with
- * 0. */
+ * The program exits with 1 if the file or the lines can't be read, with 2 if the arguments are wrong,
+ * and else with 0. */
 #include "rkyv.h"
 
 #include <stdio.h>
 #include <stdlib.h>
 #include <string.h>
+
+static char line[1 << 16];
+
+/* Reads the next line, without its end. Returns RKYV_END if none remains or it can't be read, and
+ * RKYV_TOO_LONG if `line` has no room for it. */
+static rkyv_status next_line(void) {
+    size_t length = 0;
+    int byte = getc(stdin);
+    if (byte == EOF) {
+        return RKYV_END;
+    }
+    while (byte != EOF && byte != '\n') {
+        if (length + 1 == sizeof line) {
+            return RKYV_TOO_LONG;
+        }
+        line[length++] = (char)byte;
+        byte = getc(stdin);
+    }
+    line[length] = 0;
+    return ferror(stdin) ? RKYV_END : RKYV_OK;
+}
 
 /* A key or a value: a text if `text` is not null, else a number. */
 typedef struct item {
@@ -274,7 +296,7 @@ static void list(uint32_t kind) {
 }
 
 static void run(uint32_t kind, char *line) {
-    char *command = strtok(line, " \n"), *word = strtok(NULL, " \n"), *other = strtok(NULL, " \n");
+    char *command = strtok(line, " "), *word = strtok(NULL, " "), *other = strtok(NULL, " ");
     size_t index = 0, count = 0;
     item key = nothing(), value = nothing();
     if (command == NULL) {
@@ -342,7 +364,6 @@ static void *bytes_of(const char *path, size_t *length) {
 }
 
 int main(int count, char **words) {
-    static char line[1 << 16];
     size_t length = 0;
     int in_container = count == 5 && strcmp(words[4], "container") == 0;
     if (count != 4 && !in_container) {
@@ -358,8 +379,16 @@ int main(int count, char **words) {
     }
     rkyv_status status = opened(bytes, length, kind, width, in_container);
     printf("%s\n", rkyv_status_name(status));
-    while (status == RKYV_OK && fgets(line, sizeof line, stdin) != NULL) {
+    while (status == RKYV_OK && (status = next_line()) == RKYV_OK) {
         run(kind, line);
+    }
+    if (ferror(stdin)) {
+        perror("standard input");
+        free(bytes);
+        return 1;
+    }
+    if (status == RKYV_TOO_LONG) {
+        printf("%s\n", rkyv_status_name(status));
     }
     free(bytes);
     return 0;

@@ -964,11 +964,12 @@ static rkyv_status check_writable(const rkyv_map *map) {
     return map != NULL && map->writable == NULL ? RKYV_READ_ONLY : RKYV_OK;
 }
 
-/* RKYV_OK if no byte of a key is in the archive of a map that may be written. Differences of addresses
- * are modulo 2^64. */
-static rkyv_status check_outside(const rkyv_map *map, const void *key, size_t length) {
-    const uintptr_t archive = (uintptr_t)map->writable, begin = (uintptr_t)key;
-    const bool overlaps = begin - archive < map->length || archive - begin < length;
+/* RKYV_OK if no byte of an argument of `length` bytes is one of the `size` bytes that a call writes.
+ * Differences of addresses are modulo 2^64. */
+static rkyv_status check_outside(const void *argument, size_t length, const void *written,
+                                 size_t size) {
+    const uintptr_t begin = (uintptr_t)argument, other = (uintptr_t)written;
+    const bool overlaps = begin - other < size || other - begin < length;
     return length != 0 && overlaps ? RKYV_OVERLAP : RKYV_OK;
 }
 
@@ -1000,7 +1001,7 @@ static rkyv_status write_text(const rkyv_map *map, uint32_t kind, set_text *set,
     rkyv_status status = first(check_numbers(map, kind), check_bytes(key, length));
     status = first(status, check_writable(map));
     if (status == RKYV_OK) {
-        status = check_outside(map, key, length);
+        status = check_outside(key, length, map->writable, map->length);
     }
     if (status == RKYV_OK) {
         status = (rkyv_status)set(map->writable, map->length, has_long_values(map->kind),
@@ -1469,6 +1470,9 @@ static rkyv_status write_header(const uint8_t *archive, size_t length, uint32_t 
 rkyv_status rkyv_container_header(const void *archive, size_t length, uint32_t kind,
                                   uint32_t width, bool checksum, uint8_t *header) {
     rkyv_status status = first(check_archive(archive, length, kind, width), check_output(header));
+    if (status == RKYV_OK) {
+        status = check_outside(archive, length, header, RKYV_CONTAINER_HEADER);
+    }
     if (status == RKYV_OK) {
         status = write_header(bytes_of(archive), length, kind, width, checksum, header);
     }

@@ -17,8 +17,8 @@
  * any kind.
  *
  * A call returns RKYV_OK or the first of the errors listed at it. After an error its outputs are
- * unchanged, unless its comment says otherwise. The calls keep no state. Two threads may use two
- * handles or two builders, or read by one handle, at the same time.
+ * unchanged, unless its comment says otherwise. The calls keep no state. At the same time, two
+ * threads may use two builders or handles of two archives, or read one archive.
  *
  * The bytes of an archive may be at any address: its alignments are of positions. The hash has no
  * random seed. So building takes quadratic time if many keys were chosen to share a hash, and a
@@ -82,7 +82,8 @@ typedef enum rkyv_status {
     RKYV_NO_MEMORY = 12,
     /* The room for a container does not have the size of the container. */
     RKYV_WRONG_SIZE = 13,
-    /* The key of a write in place has a byte of the archive, which the call writes. */
+    /* The key of a write in place has a byte of the archive, which the call writes, or an archive has a
+     * byte of the header that is written. */
     RKYV_OVERLAP = 14,
 
     /* Errors of validation: the bytes are not an archive of such a map. They are not checked in the
@@ -471,17 +472,22 @@ rkyv_status rkyv_set_contains_text(const rkyv_map *set, const char *item, size_t
 
 /* Writes the value of a number key in place: the value that `rkyv_map_get_number` finds.
  *
+ * The handle is `const`, but the call writes bytes of the archive. So no other thread may use the
+ * archive meanwhile, by this handle or another.
+ *
  * Errors, after which no byte is changed:
  *   - RKYV_NULL: `map` is null;
  *   - RKYV_CLOSED, RKYV_WRONG_KIND, RKYV_READ_ONLY, RKYV_VALUE_TOO_LARGE, RKYV_NOT_FOUND. */
 rkyv_status rkyv_map_set_number(const rkyv_map *map, uint32_t key, uint64_t value);
 
-/* Writes the value of a number key of 64 bits in place, as `rkyv_map_set_number` does. */
+/* Writes the value of a number key of 64 bits in place, as `rkyv_map_set_number` does. No other
+ * thread may use the archive meanwhile. */
 rkyv_status rkyv_map_set_long_number(const rkyv_map *map, uint64_t key, uint64_t value);
 
 /* Writes the value of a text key of `length` bytes in place: the value that `rkyv_map_get_text`
  * finds. `key` may be null if `length` is 0. A key that another call has stored is a part of the
- * archive: copy it first.
+ * archive: copy it first. No other thread may use the archive meanwhile, as for
+ * `rkyv_map_set_number`.
  *
  * Errors, after which no byte is changed:
  *   - RKYV_NULL: `map` is null;
@@ -725,17 +731,22 @@ rkyv_status rkyv_index_get_text_of_text(const rkyv_index_map *map, const char *k
 
 /* Writes the value of a number key in place: the value that `rkyv_index_get_number` finds.
  *
+ * The handle is `const`, but the call writes bytes of the archive. So no other thread may use the
+ * archive meanwhile, by this handle or another.
+ *
  * Errors, after which no byte is changed:
  *   - RKYV_NULL: `map` is null;
  *   - RKYV_CLOSED, RKYV_WRONG_KIND, RKYV_READ_ONLY, RKYV_VALUE_TOO_LARGE, RKYV_NOT_FOUND. */
 rkyv_status rkyv_index_set_number(const rkyv_index_map *map, uint32_t key, uint64_t value);
 
-/* Writes the value of a number key of 64 bits in place, as `rkyv_index_set_number` does. */
+/* Writes the value of a number key of 64 bits in place, as `rkyv_index_set_number` does. No other
+ * thread may use the archive meanwhile. */
 rkyv_status rkyv_index_set_long_number(const rkyv_index_map *map, uint64_t key, uint64_t value);
 
 /* Writes the value of a text key of `length` bytes in place: the value that `rkyv_index_get_text`
  * finds. `key` may be null if `length` is 0. A key that another call has stored is a part of the
- * archive: copy it first.
+ * archive: copy it first. No other thread may use the archive meanwhile, as for
+ * `rkyv_index_set_number`.
  *
  * Errors, after which no byte is changed:
  *   - RKYV_NULL: `map` is null;
@@ -1035,14 +1046,14 @@ rkyv_status rkyv_container_size(size_t length, size_t *size);
 /* Writes the header of the container of an archive over the RKYV_CONTAINER_HEADER bytes at
  * `header`. A program writes them to a file, and the archive behind them. `kind` and `width` are
  * those that the archive was built with. The header has a checksum if `checksum` is true. The
- * archive is not validated. No byte of it may be in the header. `archive` may be null if `length`
- * is 0.
+ * archive is not validated. `archive` may be null if `length` is 0.
  *
  * Errors, after which no byte is changed:
  *   - RKYV_UNKNOWN_KIND, RKYV_UNKNOWN_WIDTH;
  *   - RKYV_NULL: `archive` is null;
  *   - RKYV_TOO_LONG;
- *   - RKYV_NULL: `header` is null. */
+ *   - RKYV_NULL: `header` is null;
+ *   - RKYV_OVERLAP: a byte of the archive is in the header. */
 rkyv_status rkyv_container_header(const void *archive, size_t length, uint32_t kind,
                                   uint32_t width, bool checksum, uint8_t *header);
 

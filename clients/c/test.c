@@ -867,6 +867,30 @@ static void written_containers(void) {
     same("kept", memcmp(bytes, kept, CONTAINER) == 0, 1);
 }
 
+/* The header of a container is written before or behind its archive, and fails with a byte of it. */
+static void overlapping_headers(void) {
+    const uint32_t kind = RKYV_NUMBER_TO_U32, size = RKYV_CONTAINER_HEADER;
+    uint8_t bytes[2 * CONTAINER] = {0}, kept[2 * CONTAINER];
+    uint8_t *archive = bytes + size;
+    const size_t length = one_to_two(archive);
+    memcpy(kept, bytes, sizeof bytes);
+    returns("the first byte", rkyv_container_header(archive, length, kind, 32, true, bytes + 1),
+            RKYV_OVERLAP);
+    returns("the archive", rkyv_container_header(archive, length, kind, 32, true, archive),
+            RKYV_OVERLAP);
+    returns("the last byte",
+            rkyv_container_header(archive, length, kind, 32, true, archive + length - 1),
+            RKYV_OVERLAP);
+    returns("around", rkyv_container_header(archive, 1, kind, 32, true, archive - 1), RKYV_OVERLAP);
+    same("unchanged", memcmp(bytes, kept, sizeof bytes) == 0, 1);
+    returns("before", rkyv_container_header(archive, length, kind, 32, true, bytes), RKYV_OK);
+    returns("behind", rkyv_container_header(archive, length, kind, 32, true, archive + length),
+            RKYV_OK);
+    same("the same header", memcmp(bytes, archive + length, size) == 0, 1);
+    same("the archive", memcmp(archive, kept + size, length) == 0, 1);
+    returns("no bytes", rkyv_container_header(archive, 0, kind, 32, true, archive), RKYV_OK);
+}
+
 static void container_errors(void) {
     uint8_t archive[64], bytes[CONTAINER] = {0};
     size_t length = one_to_two(archive), size = 9;
@@ -3088,6 +3112,7 @@ int main(void) {
     container_kinds();
     damaged_containers();
     written_containers();
+    overlapping_headers();
     container_errors();
     built_numbers();
     built_texts();

@@ -6,7 +6,7 @@
 
 use std::panic::{RefUnwindSafe, UnwindSafe};
 
-use crate::raw::{Indexed, Pair, RawMap, RawTableHeader, RawText, Step, UNKNOWN_CODES};
+use crate::raw::{Indexed, Pair, RawMap, RawTableHeader, RawText, Step, UNKNOWN_KIND};
 
 /// Stores pairs `P` from a bucket or an index on, and returns their number.
 pub type StorePairs<From, P> = unsafe fn(map: &RawMap, from: From, pairs: &mut [P]) -> usize;
@@ -275,7 +275,7 @@ macro_rules! calls {
                 build: |items, _kind, width, bytes, length| unsafe {
                     $build_set(items.as_ptr(), items.len(), width, bytes, length)
                 },
-                index_get: |_map, _key, _found| UNKNOWN_CODES,
+                index_get: |_map, _key, _found| UNKNOWN_KIND,
                 index_pairs: |_map, _from, _pairs| 0,
             };
 
