@@ -466,7 +466,7 @@ fn main() {
         }
     );
     println!();
-    println!("| keys | entries | measure | ours, ns | std SipHash, ns | std Fx, ns | ours / SipHash | ours / Fx | |");
+    println!("| keys | entries | measure | library, ns | std SipHash, ns | std Fx, ns | library / SipHash | library / Fx | |");
     println!("|---|--:|---|--:|--:|--:|--:|--:|---|");
     for (count, rounds) in counts.iter().copied() {
         let mut random = XorShift32::new();

@@ -1,4 +1,4 @@
-//! Types of a user's own that are archived as the pair of their parts.
+//! User-defined types that are archived as the pair of their parts.
 //!
 //! - `AsPair` and `PairEntry` are for types that return their parts by reference.
 //! - `AsTuple` and `TupleEntry` are for types that return copies of their parts.

@@ -1,4 +1,4 @@
-//! Types of a user's own: the examples of docs/OWN_TYPES.md, with their tests.
+//! User-defined types: the examples of docs/OWN_TYPES.md, with their tests.
 #![tactic(auto)]
 
 pub mod color;

@@ -1,4 +1,4 @@
-//! Types of a user's own as values and as keys.
+//! User-defined types as values and as keys.
 
 mod as_keys;
 mod round_trips;

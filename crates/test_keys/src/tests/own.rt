@@ -1,4 +1,4 @@
-//! Tests of a user's own element: a number that is compared and looked up by its low byte.
+//! Tests of a user-defined element: a number that is compared and looked up by its low byte.
 ghost use Rattle.std.specs.Prelude.{◌≡◌, MatchResult};
 ghost use Rattle.std.specs.Int.{w32};
 ghost use Rattle.rkyv_base.specs.{AtView, IsValidView, number_at};

@@ -1,4 +1,4 @@
-//! Types of a user's own as the keys of a map.
+//! User-defined types as the keys of a map.
 
 use crate::point::Point;
 use rkyv_base::access::access;

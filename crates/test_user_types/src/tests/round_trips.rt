@@ -1,4 +1,4 @@
-//! Round trips of values of a user's own types, and of a map of std with such values.
+//! Round trips of values of user-defined types, and of a map of std with such values.
 
 ghost use Rattle.std.specs.Prelude.{◌≡◌, IfOk, true};
 
