@@ -12,7 +12,7 @@ returns-in-Some-clause-written c =
     let b = c.args.message.now in
     let d = c.set_value_of.new.archive in
     let found = c.set_value_of.result in
-    subst (λ p. WritesIfFound (number_in_fields c.args.field.now b p) c.args.number b d found) (sym same ∙ c.in_ok-pos.ensures.found) (only_written _ _ _ _ _ _ c.set_value_of.ensures.sets.finds)
+    subst (λ p. WritesIfFound (number_in_fields c.args.field.now b p) c.args.number b d found) (sym same ∙ c.in_ok-pos.ensures.found) (only_written b d c.in-Some.pos _ _ _ c.set_value_of.ensures.sets.finds)
 
 pub returns-in-None-clause-written : goal.returns-in-None-clause-written
 returns-in-None-clause-written c =
