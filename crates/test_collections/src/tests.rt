@@ -33,6 +33,7 @@ mod round_trip;
 mod sealed;
 mod sets;
 mod std_maps;
+mod std_sets;
 mod texts_by_key;
 mod walks;
 mod writing;

@@ -10,7 +10,7 @@ ghost use Rattle.test_collections.specs.InMaps.{FindsIn, KeepsIn};
 use crate::tests::archives::{four_with, map_archive};
 use crate::tests::opened::{is_text, number_seal, small_seal, text_seal};
 use crate::tests::query_results::{number_of, small};
-use rkyv_base::access::{access_in, access_mut, access_mut_in};
+use rkyv_base::access::{access_in, access_mut_in};
 use rkyv_base::element::Element;
 use rkyv_base::errors::VerifyError;
 use rkyv_base::scalars::Scalar;
@@ -25,8 +25,6 @@ use rkyv_keys::keys::{KeyElement, Query};
 use rkyv_scan::hash::{FxHasher64, KeyHasher};
 use std::alloc::Global;
 use test_support::archives::{four_pairs, one_number, one_wide_number};
-
-type Numbers = HashMapOf<u32, u32>;
 
 // Returns the position of a key's value, by a plain lookup in the map at `root`.
 fn value_found<K: KeyElement, V: Element, H: KeyHasher, W: Width, Q: Query<K>>(
@@ -136,12 +134,12 @@ fn replace(bytes: &mut [u8], key: u32, value: u32) -> Result<Option<(u32, u32)>,
 }
 
 // Does the same by `get_key_value_seal`. Returns the key, and the value before the write.
-fn replace_beside_key(
+fn replace_beside_key<W: Width>(
     bytes: &mut [u8],
     key: u32,
     value: u32,
 ) -> Result<Option<(u32, u32)>, VerifyError> {
-    let whole = access_mut::<Numbers>(bytes)?;
+    let whole = access_mut_in::<W, HashMapOf<u32, u32, FxHasher64, W>>(bytes)?;
     match ArchivedHashMap::get_key_value_seal(whole, &key) {
         Some((found, mut seal)) => {
             let before = (found.to_native(), seal.to_native());
@@ -172,7 +170,7 @@ fn a_found_value_is_written_in_place(rt: HostRuntime) {
 fn unsuccessful_lookup_returns_no_seal(rt: HostRuntime) {
     let mut bytes = one_number();
     let replaced = replace(&mut bytes, 2, 7).ok();
-    let beside_key = replace_beside_key(&mut bytes, 2, 7).ok();
+    let beside_key = replace_beside_key::<Narrow>(&mut bytes, 2, 7).ok();
     let by_comparison = replace_by(&mut bytes, 1, 7, false).ok();
     let pair_by_comparison = replace_beside_key_by(&mut bytes, 2, 7, true).ok();
     expect_eq!(rt;
@@ -185,29 +183,16 @@ fn unsuccessful_lookup_returns_no_seal(rt: HostRuntime) {
 #[test]
 fn sealed_pair_has_its_key(rt: HostRuntime) {
     let mut bytes = one_number();
-    let before = replace_beside_key(&mut bytes, 1, 7).ok();
+    let before = replace_beside_key::<Narrow>(&mut bytes, 1, 7).ok();
     expect_eq!(rt; (before, bytes[4]), (Some(Some((1, 2))), 7));
-}
-
-// Writes a number over the value of a key of a wide map. Returns the key, and the value before.
-fn replace_wide(bytes: &mut [u8], key: u32, value: u32) -> Result<Option<(u32, u32)>, VerifyError> {
-    let whole = access_mut_in::<Wide, HashMapOf<u32, u32, FxHasher64, Wide>>(bytes)?;
-    match ArchivedHashMap::get_key_value_seal(whole, &key) {
-        Some((found, mut seal)) => {
-            let before = (found.to_native(), seal.to_native());
-            seal.set(value);
-            Ok(Some(before))
-        }
-        None => Ok(None),
-    }
 }
 
 #[test]
 fn a_value_of_a_wide_map_is_written_in_place(rt: HostRuntime) {
     let mut bytes = one_wide_number();
     let replaced = [
-        replace_wide(&mut bytes, 1, 16_909_060).ok(),
-        replace_wide(&mut bytes, 2, 7).ok(),
+        replace_beside_key::<Wide>(&mut bytes, 1, 16_909_060).ok(),
+        replace_beside_key::<Wide>(&mut bytes, 2, 7).ok(),
     ];
     let mut expected = one_wide_number();
     expected[4..8].copy_from_slice(&[4, 3, 2, 1]);

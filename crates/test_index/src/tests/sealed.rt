@@ -37,8 +37,12 @@ fn value_of(bytes: &[u8], key: i8) -> Result<Option<i8>, VerifyError> {
 }
 
 // Writes a number over the value of a key. Returns the index, the key, and the value before that.
-fn replace(bytes: &mut [u8], key: i8, value: i8) -> Result<Option<(usize, i8, i8)>, VerifyError> {
-    let whole = access_mut::<Small>(bytes)?;
+fn replace<W: IndexWidth>(
+    bytes: &mut [u8],
+    key: i8,
+    value: i8,
+) -> Result<Option<(usize, i8, i8)>, VerifyError> {
+    let whole = access_mut_in::<W, IndexMapOf<i8, i8, FxHasher64, W>>(bytes)?;
     match ArchivedIndexMap::get_full_seal(whole, &key) {
         Some((index, stored, mut seal)) => {
             let before = (index, stored.to_native(), seal.to_native());
@@ -143,7 +147,7 @@ fn a_found_value_is_written_in_place(rt: HostRuntime) {
     value_writes_keep_lookups::<i8, i8, i8, FxHasher64, Narrow>();
     values_written_represent::<i8, i8, i8, i8, FxHasher64, Narrow>();
     let mut bytes = one_pair();
-    let replaced = replace(&mut bytes, 1, -1).ok();
+    let replaced = replace::<Narrow>(&mut bytes, 1, -1).ok();
     let found = value_of(&bytes, 1).ok();
     let mut expected = one_pair();
     expected[40] = 0xff;
@@ -153,29 +157,12 @@ fn a_found_value_is_written_in_place(rt: HostRuntime) {
     );
 }
 
-// Does the same as `replace`, in a wide map.
-fn replace_wide(
-    bytes: &mut [u8],
-    key: i8,
-    value: i8,
-) -> Result<Option<(usize, i8, i8)>, VerifyError> {
-    let whole = access_mut_in::<Wide, IndexMapOf<i8, i8, FxHasher64, Wide>>(bytes)?;
-    match ArchivedIndexMap::get_full_seal(whole, &key) {
-        Some((index, stored, mut seal)) => {
-            let before = (index, stored.to_native(), seal.to_native());
-            seal.set(value);
-            Ok(Some(before))
-        }
-        None => Ok(None),
-    }
-}
-
 #[test]
 fn a_value_of_a_wide_map_is_written_in_place(rt: HostRuntime) {
     let mut bytes = wide_pair();
     let replaced = [
-        replace_wide(&mut bytes, 1, -1).ok(),
-        replace_wide(&mut bytes, 2, 7).ok(),
+        replace::<Wide>(&mut bytes, 1, -1).ok(),
+        replace::<Wide>(&mut bytes, 2, 7).ok(),
     ];
     let mut expected = wide_pair();
     expected[48] = 0xff;
@@ -186,7 +173,7 @@ fn a_value_of_a_wide_map_is_written_in_place(rt: HostRuntime) {
 fn every_form_writes_the_same(rt: HostRuntime) {
     let mut bytes = four_entries();
     let replaced = [
-        replace(&mut bytes, 7, 80).ok(),
+        replace::<Narrow>(&mut bytes, 7, 80).ok(),
         replace_by(&mut bytes, 3, 40, true).ok(),
     ];
     let beside_key = replace_beside_key(&mut bytes, 5, 60).ok();
@@ -219,7 +206,7 @@ fn values_found_by_a_comparison_are_written(rt: HostRuntime) {
 fn unsuccessful_lookup_returns_no_seal(rt: HostRuntime) {
     let mut bytes = four_entries();
     let full = [
-        replace(&mut bytes, 9, 80).ok(),
+        replace::<Narrow>(&mut bytes, 9, 80).ok(),
         replace_by(&mut bytes, 3, 40, false).ok(),
     ];
     let beside_key = replace_beside_key(&mut bytes, 2, 60).ok();
