@@ -41,7 +41,9 @@ pub enum WriteError<F> {
     /// A part of the load factor is 0, or the numerator is greater than the denominator.
     #[error("invalid load factor {numerator} / {denominator}, load factor must be a fraction in the range (0, 1]")]
     InvalidLoadFactor {
+        /// The numerator of the load factor.
         numerator: usize,
+        /// The denominator of the load factor.
         denominator: usize,
     },
     /// An iterator yielded another number of items than it claimed.
@@ -52,6 +54,7 @@ pub enum WriteError<F> {
     /// A hash table of this length needs more buckets than the width's greatest capacity.
     #[error("capacity too large for length {len}")]
     CapacityTooLarge {
+        /// The number of items.
         len: usize,
     },
     /// The next piece would end after the limit of the width. Nothing of it was written.
@@ -120,27 +123,58 @@ pub enum VerifyError {
     /// The position is negative if a distance leads before the start of the archive, or if
     /// the archive is shorter than its root.
     #[error("{size} bytes at {pos} are out of range")]
-    OutOfRange { pos: i128, size: u128 },
+    OutOfRange {
+        /// The position of the first byte of the part.
+        pos: i128,
+        /// The number of bytes of the part.
+        size: u128,
+    },
     /// The position of a part or the root is not a multiple of its alignment.
     #[error("position {pos} is no multiple of {align}")]
-    Unaligned { pos: u64, align: u64 },
+    Unaligned {
+        /// The position of the part.
+        pos: u64,
+        /// The alignment of the part, in bytes.
+        align: u64,
+    },
     /// The length of a hash table is not below its capacity, and they are not both 0.
     #[error("hash table length must be strictly less than its capacity (length: {len}, capacity: {cap})")]
-    InvalidLength { len: usize, cap: usize },
+    InvalidLength {
+        /// The number of items of the table.
+        len: usize,
+        /// The number of buckets of the table.
+        cap: usize,
+    },
     /// The number of full buckets of a hash table is not its length.
     #[error("hash table contained a different number of elements than indicated by its length (expected: {expected}, actual: {actual})")]
-    WrongNumberOfElements { expected: usize, actual: usize },
+    WrongNumberOfElements {
+        /// The length of the table.
+        expected: usize,
+        /// The number of full buckets.
+        actual: usize,
+    },
     /// A control byte after those of the buckets isn't as it must be.
     ///
     /// It differs from the control byte that it mirrors, or isn't empty from twice the capacity on.
     #[error("unwrapped control byte at index {index}")]
-    UnwrappedControlByte { index: usize },
+    UnwrappedControlByte {
+        /// The index of the control byte.
+        index: usize,
+    },
     /// A bucket of an index map has an index that is not below the map's length.
     #[error("place {place} is not below {len}")]
-    PlaceOutOfRange { place: usize, len: usize },
+    PlaceOutOfRange {
+        /// The index in the bucket.
+        place: usize,
+        /// The length of the map.
+        len: usize,
+    },
     /// The fixed bytes at this position, or its text, are not a valid value of their type.
     #[error("invalid value at {pos}")]
-    InvalidValue { pos: u64 },
+    InvalidValue {
+        /// The position of the fixed bytes.
+        pos: u64,
+    },
     /// The element rejects the value, for a reason of its type.
     ///
     /// The number of an entry that is too large is 0.

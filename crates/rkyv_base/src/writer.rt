@@ -88,18 +88,34 @@ impl VecWriter {
         }
     }
 
-    /// Returns the bytes that were written.
+    /// Returns all bytes of the writer.
     pub fn into_vec(self) -> Vec<u8>
         ensures { result.items ≡ self.0 }
     {
         self.bytes
     }
 
-    /// Returns the bytes that were written up to now.
+    /// Returns all bytes up to now.
     pub fn bytes(&self) -> &[u8]
         ensures { result.now ≡ self.now.0 }
     {
         self.bytes.as_slice()
+    }
+}
+
+/// The writer of a vector appends to its bytes, and uses its memory.
+///
+/// # Examples
+///
+/// ```rust
+/// let mut writer = VecWriter::from(Vec::with_capacity(rt.alloc(), 64)?);
+/// let root = write_root(rt.alloc(), &7u32, &mut writer).ok();
+/// ```
+impl From<Vec<u8>> for VecWriter {
+    ghost from_gives = { λ bytes w. w ≡ (bytes.items, 0) };
+
+    fn from(bytes: Vec<u8>) -> VecWriter {
+        VecWriter { bytes, failures: 0 }
     }
 }
 

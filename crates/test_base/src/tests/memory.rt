@@ -25,3 +25,17 @@ fn a_new_writer_has_no_memory(rt: HostRuntime) {
         (0, true, 0, Some(0))
     );
 }
+
+// Returns whether a vector's memory for 64 bytes is the same after 8 bytes were written into it.
+fn is_memory_kept(alloc: Global) -> Option<bool> {
+    let bytes = Vec::with_capacity(alloc, 64).ok()?;
+    let capacity = bytes.capacity();
+    let mut writer = VecWriter::from(bytes);
+    writer.write(&[0; 8]).ok()?;
+    Some(capacity >= 64 && writer.into_vec().capacity() == capacity)
+}
+
+#[test]
+fn the_writer_of_a_vector_uses_its_memory(rt: HostRuntime) {
+    expect_eq!(rt; is_memory_kept(rt.alloc()), Some(true));
+}
