@@ -1,20 +1,21 @@
 //! Laws of keys.
 //!
 //! Those of native keys and of queries are proved from the laws of their traits. The others are
-//! about the types of this crate: by which calls their values are hashed, which native values they
-//! equal, with which errors they are deserialized, and that a clone is equal.
+//! about the types of this crate: by which calls their values are hashed, when two of them are the
+//! same, which native values they equal, with which errors they are deserialized, and that a clone
+//! is equal.
 
 ghost use Rattle.std.specs.Prelude.{[], string_bytes, ◌++◌, ◌∷◌, ◌≡◌, ◌↔◌};
 ghost use Rattle.rkyv_scan.specs.{I16, I32, I64, I8, Isize, U16, U32, U64, U8, Usize};
 ghost use Rattle.rkyv_base.specs.{IsTextOf, SameValues, ScalarRepresents, unit_represents};
 ghost use Rattle.rkyv_keys.specs.{BothRead, FitsByValue, FitsSameKeys, HashesAsWritten, HashesBy};
-ghost use Rattle.rkyv_keys.specs.{RestsOnKeys, SameErrors, at_view, bool_call};
-ghost use Rattle.rkyv_keys.specs.{entry_deserialize_fails, entry_equals, memory_fails};
-ghost use Rattle.rkyv_keys.specs.{nothing_fails, text_calls};
+ghost use Rattle.rkyv_keys.specs.{RestsOnKeys, SameComparison, SameErrors, at_view, bool_call};
+ghost use Rattle.rkyv_keys.specs.{entry_deserialize_fails, entry_equals, entry_same, memory_fails};
+ghost use Rattle.rkyv_keys.specs.{nothing_fails, scalar_same, text_calls, text_same, unit_same};
 
 use crate::debug::Shown;
 use crate::deserialize::Deserialize;
-use crate::equality::MatchesNative;
+use crate::equality::{ElementEq, MatchesNative};
 use crate::hash::KeyHash;
 use crate::keys::{KeyElement, NativeKey, Query};
 use crate::scalars::ScalarKey;
@@ -83,6 +84,18 @@ pub fn pairs_hash_in_order<A: KeyHash, B: KeyHash>()
         ⟦<(A, B) as KeyHash>⟧.calls pair ≡ A.calls pair.0 ++ B.calls pair.1 }
     ensures read { (pair : _) →
         ⟦<(A, B) as KeyHash>⟧.can_read pair ↔ BothRead A.can_read B.can_read pair }
+{}
+
+/// States when two archived scalars, unit values, texts or pairs are the same.
+///
+/// Scalars are the same if they are equal, and texts if their bytes are. Unit values always are.
+/// Pairs are the same if their keys and their values are.
+pub fn archived_values_are_compared<N: ScalarKey, W: Width, K: ElementEq, V: ElementEq>()
+    ensures scalar { SameComparison ⟦<N as ElementEq>⟧.same (scalar_same N.encoding N.eq) }
+    ensures unit { SameComparison ⟦<() as ElementEq>⟧.same unit_same }
+    ensures text { SameComparison ⟦<Text<W> as ElementEq>⟧.same (text_same W.word) }
+    ensures pair { SameComparison ⟦<Entry<K, V> as ElementEq>⟧.same
+        (entry_same K.spec V.spec K.same V.same) }
 {}
 
 /// States which native values scalars, the unit value, texts and pairs equal in an archive.

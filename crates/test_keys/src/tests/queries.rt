@@ -172,6 +172,7 @@ fn archived_keys_match_keys_of_other_archives(rt: HostRuntime) {
 
 #[test]
 fn values_are_compared_in_place(rt: HostRuntime) {
+    laws::archived_values_are_compared::<u32, Wide, u8, u32>();
     laws::native_values_are_compared::<u32, Wide, u8, u32, u8, u32>();
     let (yes, no) = (Some(true), Some(false));
     let same = [
