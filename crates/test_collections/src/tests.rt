@@ -28,6 +28,7 @@ mod opened;
 mod query_results;
 mod reading;
 mod recipes;
+mod references;
 mod requests;
 mod round_trip;
 mod sealed;

@@ -1,4 +1,5 @@
 -- Maps of std: the archived maps that represent them, and their format.
+use denote.Ref.{Bor}
 use Rattle.std.specs.Prelude.{◌≡◌, ℕ, ◌<◌, ◌⊎◌, Bool, List, [], ◌∷◌, ◌++◌, MatchResult, None}
 use Rattle.std.specs.Prelude.{Result, Some}
 use Rattle.std.specs.HashMap.{HashMap, IsUnique, Updates, hasher_of, keys}
@@ -16,6 +17,10 @@ use Rattle.rkyv_collections.specs.declared.std_maps.hashed.Hashed.{Hashed}
 -- the map or set of std inside the wrapper
 abbrev pub inner : {M H : Type 0} → Hashed M H → M
 inner hashed = hashed.map
+
+-- the wrapper of the map or set of std that a wrapped reference refers to
+abbrev pub referent : {M H : Type 0} → Hashed (Bor M) H → Hashed M H
+referent hashed = record { map = hashed.map.now; hasher = hashed.hasher }
 
 module _ {A B : Type 0} (k v : ElementSpec) (key : List ℕ → ℕ → A → Type 0) (value : List ℕ → ℕ → B
     → Type 0) where

@@ -5,7 +5,7 @@
 
 ghost use Rattle.std.specs.Prelude.{◌≡◌, ◌↔◌};
 ghost use Rattle.rkyv_base.specs.{IsFormat, RepresentsAs, SameFormat, SameValues, unit_format};
-ghost use Rattle.rkyv_base.specs.{unit_spec};
+ghost use Rattle.rkyv_base.specs.{unit_spec, written_as};
 ghost use Rattle.rkyv_keys.specs.{SameErrors, hash_at, hash_of, native_format, queried};
 ghost use Rattle.rkyv_table.specs.{with_units};
 ghost use Rattle.rkyv_collections.specs.{ArchivesRoundTrip, FindsInWrittenMap, FindsInWrittenSet};
@@ -13,7 +13,7 @@ ghost use Rattle.rkyv_collections.specs.{StdMapEquals, StdMapEqualsIn, StdMapRep
 ghost use Rattle.rkyv_collections.specs.{StdSetEquals, StdSetEqualsIn, StdSetRepresents};
 ghost use Rattle.rkyv_collections.specs.{WrittenMapsAreEqual, WrittenMapsAreLists};
 ghost use Rattle.rkyv_collections.specs.{WrittenSetsAreEqual, WrittenSetsAreLists, inner};
-ghost use Rattle.rkyv_collections.specs.{std_map_fails, std_map_format, std_set_fails};
+ghost use Rattle.rkyv_collections.specs.{referent, std_map_fails, std_map_format, std_set_fails};
 
 use crate::map::{ArchivedHashMap, HashMapOf};
 use crate::set::{ArchivedHashSet, HashSetOf};
@@ -223,6 +223,29 @@ where
         (std_map_format W.Width
         (native_format K.spec unit_spec A.format unit_format H.hasher A.calls) A.eq
         (λ x. with_units x.map.keys)) }
+{}
+
+/// States that a wrapped reference to a map of std is written as the wrapped map.
+pub fn map_references_are_written<'a, W: Width, H: KeyHasher, A, B: Archive<W>, T: BuildHasher>()
+where
+    A: Archive<W> + Hash + 'a,
+    B: 'a,
+    T: 'a,
+    A::Archived: KeyElement,
+    A: NativeKey<A::Archived>,
+    ensures { SameFormat ⟦<Hashed<&'a HashMap<A, B, T>, H> as Archive<W>>⟧.format
+        (written_as referent ⟦<Hashed<HashMap<A, B, T>, H> as Archive<W>>⟧.format) }
+{}
+
+/// States that a wrapped reference to a set of std is written as the wrapped set.
+pub fn set_references_are_written<'a, W: Width, H: KeyHasher, A, T: BuildHasher>()
+where
+    A: Archive<W> + Hash + 'a,
+    T: 'a,
+    A::Archived: KeyElement,
+    A: NativeKey<A::Archived>,
+    ensures { SameFormat ⟦<Hashed<&'a HashSet<A, T>, H> as Archive<W>>⟧.format
+        (written_as referent ⟦<Hashed<HashSet<A, T>, H> as Archive<W>>⟧.format) }
 {}
 
 /// States that in any archive with the written bytes of a map of std, the archived map equals it.

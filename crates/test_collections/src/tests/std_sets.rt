@@ -38,7 +38,10 @@ where
 }
 
 // Returns the set of one key.
-fn set_of_one<A: Eq + Hash + Drop>(alloc: Global, key: A) -> Result<HashSet<A>, AllocError> {
+pub(super) fn set_of_one<A: Eq + Hash + Drop>(
+    alloc: Global,
+    key: A,
+) -> Result<HashSet<A>, AllocError> {
     let mut set = HashSet::new(alloc);
     set.insert(key)?;
     Ok(set)
