@@ -108,8 +108,12 @@ impl VecWriter {
 /// # Examples
 ///
 /// ```rust
-/// let mut writer = VecWriter::from(Vec::with_capacity(rt.alloc(), 64)?);
+/// let mut writer = VecWriter::from(vec![in rt.alloc(); 1, 2, 3]?);
 /// let root = write_root(rt.alloc(), &7u32, &mut writer).ok();
+/// assert_eq!(rt;
+///     (root, writer.bytes()),
+///     (Some(4), [1, 2, 3, 0, 7, 0, 0, 0].as_slice())
+/// );
 /// ```
 impl From<Vec<u8>> for VecWriter {
     ghost from_gives = { λ bytes w. w ≡ (bytes.items, 0) };

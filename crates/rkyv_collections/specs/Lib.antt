@@ -5,8 +5,8 @@ pub mod Lemmas
 pub mod Set
 pub mod Listed
 unfoldable pub use StdMaps.StdMap.{AddsKey, ArePairsAt, InsertsPair, InsertsRead, ReadsStdMap}
-unfoldable pub use StdMaps.StdMap.{StdMapRepresents, inner, insert_pair_fails, of_entries}
-unfoldable pub use StdMaps.StdMap.{referent, std_map_fails}
+unfoldable pub use StdMaps.StdMap.{StdMapRepresents, inner, insert_pair_fails, of_entries, referent}
+unfoldable pub use StdMaps.StdMap.{std_map_fails}
 pub use StdMaps.StdMap.{EntriesRepresent, ReadInOrderFails}
 unfoldable pub use StdMaps.StdEquality.{EntriesEqual, FindsPair, FindsPairIn, StdMapEquals}
 unfoldable pub use StdMaps.StdEquality.{StdMapEqualsIn}

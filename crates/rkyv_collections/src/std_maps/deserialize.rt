@@ -60,8 +60,8 @@ impl<'a, K: Element, V: Element, H, W: Width> ArchivedHashMap<'a, K, V, H, W> {
     /// type Ages = HashMap<String, u8>;
     ///
     /// // Archives a map of std's, and reads it back.
-    /// fn ages_round_trip(alloc: Global, ages: Ages) -> Result<Ages, Fail> {
-    ///     let ages: Hashed<Ages> = Hashed::new(ages);
+    /// fn ages_round_trip(alloc: Global, ages: &Ages) -> Result<Ages, Fail> {
+    ///     let ages: Hashed<&Ages> = Hashed::new(ages);
     ///     let archive = to_bytes(alloc, &ages)?;
     ///     let map = ArchivedHashMap::of(access::<HashMapOf<Text, u8>>(archive.as_slice())?);
     ///     Ok(map.deserialize_std(alloc, BuildHasherDefault::new())?)

@@ -12,7 +12,9 @@ use std::marker::PhantomData;
 
 /// A map or set of std that is archived under the hasher `H`, with the load factor 7 / 8.
 ///
-/// Its pairs or keys are inserted in the order of its own iterator.
+/// A reference to a map or set is archived as well: `Hashed<&M, H>`.
+///
+/// The pairs or keys are inserted in the order of the iterator of the map or set.
 ///
 /// # Examples
 ///

@@ -92,6 +92,17 @@ fn a_root_is_appended(rt: HostRuntime) {
 }
 
 #[test]
+fn a_root_is_appended_to_the_bytes_of_a_vector(rt: HostRuntime) -> Result<(), Fail> {
+    let mut writer = VecWriter::from(vec![in rt.alloc(); 1, 2, 3]?);
+    let root = write_root(rt.alloc(), &7u32, &mut writer).ok();
+    assert_eq!(rt;
+        (root, writer.bytes()),
+        (Some(4), [1, 2, 3, 0, 7, 0, 0, 0].as_slice())
+    );
+    Ok(())
+}
+
+#[test]
 fn pieces_are_appended(rt: HostRuntime) {
     let mut writer = VecWriter::new(rt.alloc());
     let appended = append(&mut writer, &[1, 2, 3]).is_ok();

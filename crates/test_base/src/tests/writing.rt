@@ -5,7 +5,6 @@ use rkyv_base::{
     Writer, align_for, align_for_in, append, append_in, laws, write_root, write_root_in,
 };
 use std::alloc::Global;
-use std::test::Fail;
 use test_support::writers::{Broken, BrokenWriter, LateWriter, NoRoom};
 use test_support::written::is_archived_as;
 
@@ -47,18 +46,6 @@ fn vec_writer_stores_the_written_bytes(rt: HostRuntime) {
             expected.as_slice()
         )
     );
-}
-
-#[test]
-fn the_writer_of_a_vector_appends_to_its_bytes(rt: HostRuntime) -> Result<(), Fail> {
-    let mut writer = VecWriter::from(vec![in rt.alloc(); 1, 2, 3]?);
-    let start = (writer.pos(), writer.failures());
-    let root = write_root(rt.alloc(), &7u32, &mut writer).ok();
-    expect_eq!(rt;
-        (start, root, writer.bytes()),
-        ((3, 0), Some(4), [1, 2, 3, 0, 7, 0, 0, 0].as_slice())
-    );
-    Ok(())
 }
 
 // Returns `true` if a write fails since it would end after the greatest position.

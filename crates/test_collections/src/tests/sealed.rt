@@ -26,6 +26,8 @@ use rkyv_scan::hash::{FxHasher64, KeyHasher};
 use std::alloc::Global;
 use test_support::archives::{four_pairs, one_number, one_wide_number};
 
+type Numbers<W> = HashMapOf<u32, u32, FxHasher64, W>;
+
 // Returns the position of a key's value, by a plain lookup in the map at `root`.
 fn value_found<K: KeyElement, V: Element, H: KeyHasher, W: Width, Q: Query<K>>(
     bytes: &[u8],
@@ -139,7 +141,7 @@ fn replace_beside_key<W: Width>(
     key: u32,
     value: u32,
 ) -> Result<Option<(u32, u32)>, VerifyError> {
-    let whole = access_mut_in::<W, HashMapOf<u32, u32, FxHasher64, W>>(bytes)?;
+    let whole = access_mut_in::<W, Numbers<W>>(bytes)?;
     match ArchivedHashMap::get_key_value_seal(whole, &key) {
         Some((found, mut seal)) => {
             let before = (found.to_native(), seal.to_native());

@@ -28,6 +28,8 @@ use test_support::archives::four_entries;
 
 type Small = IndexMapOf<i8, i8>;
 
+type SmallOf<W> = IndexMapOf<i8, i8, FxHasher64, W>;
+
 // Returns the value of a key, by a plain lookup.
 fn value_of(bytes: &[u8], key: i8) -> Result<Option<i8>, VerifyError> {
     match small_map(bytes)?.get(&key) {
@@ -42,7 +44,7 @@ fn replace<W: IndexWidth>(
     key: i8,
     value: i8,
 ) -> Result<Option<(usize, i8, i8)>, VerifyError> {
-    let whole = access_mut_in::<W, IndexMapOf<i8, i8, FxHasher64, W>>(bytes)?;
+    let whole = access_mut_in::<W, SmallOf<W>>(bytes)?;
     match ArchivedIndexMap::get_full_seal(whole, &key) {
         Some((index, stored, mut seal)) => {
             let before = (index, stored.to_native(), seal.to_native());

@@ -156,9 +156,9 @@ impl<'a, K: KeyElement, V: Element, H: KeyHasher, W: Width> ArchivedHashMap<'a, 
     /// # Examples
     ///
     /// ```rust
-    /// type Numbers = HashMapOf<u32, u32>;
+    /// type Numbers<W> = HashMapOf<u32, u32, FxHasher64, W>;
     ///
-    /// let whole = access_mut::<Numbers>(bytes)?;
+    /// let whole = access_mut_in::<W, Numbers<W>>(bytes)?;
     /// match ArchivedHashMap::get_key_value_seal(whole, &key) {
     ///     Some((found, mut seal)) => {
     ///         let before = (found.to_native(), seal.to_native());

@@ -228,9 +228,9 @@ impl<'a, K: KeyElement, V: Element, H: KeyHasher, W: IndexWidth> ArchivedIndexMa
     /// # Examples
     ///
     /// ```rust
-    /// type Small = IndexMapOf<i8, i8>;
+    /// type SmallOf<W> = IndexMapOf<i8, i8, FxHasher64, W>;
     ///
-    /// let whole = access_mut::<Small>(bytes)?;
+    /// let whole = access_mut_in::<W, SmallOf<W>>(bytes)?;
     /// match ArchivedIndexMap::get_full_seal(whole, &key) {
     ///     Some((index, stored, mut seal)) => {
     ///         let before = (index, stored.to_native(), seal.to_native());
