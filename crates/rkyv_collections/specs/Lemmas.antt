@@ -6,6 +6,7 @@ pub mod DistinctEntries
 pub mod PairHomes
 pub mod StdLists
 pub mod StdMapLaws
+pub mod StdMapSound
 pub mod StdEqualLaws
 pub mod StdOnce
 pub mod StdSet

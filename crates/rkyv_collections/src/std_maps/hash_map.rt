@@ -1,13 +1,12 @@
 //! Maps of std as values that archived maps represent, and their serialization.
 
-ghost use Rattle.rkyv_base.specs.{RepresentsAs, written_as};
-ghost use Rattle.rkyv_base.specs.Lemmas.Pairs.{written_as-format};
-ghost use Rattle.rkyv_keys.specs.{hash_at, hash_of};
+ghost use Rattle.rkyv_base.specs.{RepresentsAs, Serializes, written_as};
+ghost use Rattle.rkyv_keys.specs.{hash_of, native_format};
 ghost use Rattle.rkyv_table.specs.{listed};
-ghost use Rattle.rkyv_collections.specs.{EntriesRepresent, StdMapRepresents, inner, map_format};
-ghost use Rattle.rkyv_collections.specs.{map_spec, of_entries};
-ghost use Rattle.rkyv_collections.specs.Lemmas.MapSound.{listed_map_sound};
-ghost use Rattle.rkyv_collections.specs.Lemmas.StdMapLaws.{entries_local, entries_sound};
+ghost use Rattle.rkyv_collections.specs.{StdMapRepresents, inner, map_format, of_entries};
+ghost use Rattle.rkyv_collections.specs.{std_map_format};
+ghost use Rattle.rkyv_collections.specs.Lemmas.StdMapLaws.{entries_local};
+ghost use Rattle.rkyv_collections.specs.Lemmas.StdMapSound.{std_map_sound};
 
 use crate::map::write::HashMapResolver;
 use crate::map::{ArchivedHashMap, HashMapOf};
@@ -60,19 +59,9 @@ where
         resolver.resolve(pos, out)
     }
 
-    ghost laws = { let hash = hash_at H.hasher A.Archived.key_calls in
-        let represents = EntriesRepresent A.Archived.spec B.Archived.spec A.Archived.represents
-        B.Archived.represents W.word A.eq in
-        let format = map_format W.word A.Archived.spec B.Archived.spec A.format B.format
-        (hash_of H.hasher A.calls) (7, 8) in
-        let spec = map_spec W.word A.Archived.spec B.Archived.spec in
-        let whole = listed W.MAX_CAPACITY (7, 8) format in
-        written_as-format (λ x. x.map.entries) spec represents (of_entries A.eq whole)
-        (entries_sound A.Archived.spec B.Archived.spec A.Archived.laws B.Archived.laws W.word A.eq
-        A.Eq.laws hash (7, 8) W.layout.kind whole
-        (listed_map_sound H.hasher W.word A.Archived.laws B.Archived.laws (7, 8) W.MAX_CAPACITY
-        W.layout.kind
-        A.query A.native A.Eq.laws.refl A.reads A.Archive.laws B.laws)) };
+    ghost laws = { std_map_sound (λ x. x.map.entries) H.hasher W.word A.Archived.laws
+        B.Archived.laws W.MAX_CAPACITY W.layout.kind A.query A.native A.Eq.laws A.reads
+        A.Archive.laws B.laws };
 }
 
 impl<
@@ -88,13 +77,32 @@ where
     A: NativeKey<A::Archived>,
 {
     fn serialize(&self, alloc: Global, serializer: &mut S) -> WriteResult<HashMapResolver<W>, S> {
-        ArchivedHashMap::<A::Archived, B::Archived, H, W>::serialize_from_iter::<
-            S,
-            A,
-            B,
-            &A,
-            &B,
-            Iter<'_, A, B>,
-        >(alloc, self.map.iter(), self.map.len(), (7, 8), serializer)
+        serialize_map::<S, W, H, A, B, T>(alloc, &self.map, serializer)
     }
+}
+
+/// Writes the parts of the map that a map of std is archived as.
+pub(crate) fn serialize_map<
+    S: Writer,
+    W: Width,
+    H: KeyHasher,
+    A: Serialize<S, W> + Hash,
+    B: Serialize<S, W>,
+    T: BuildHasher,
+>(alloc: Global, map: &HashMap<A, B, T>, serializer: &mut S) -> WriteResult<HashMapResolver<W>, S>
+where
+    A::Archived: KeyElement,
+    A: NativeKey<A::Archived>,
+    ensures { Serializes W.LIMIT (std_map_format W.Width
+        (native_format A.Archived.spec B.Archived.spec A.format B.format H.hasher A.calls) A.eq
+        (λ m. m.entries)) map.now (S.output serializer.old) (S.output serializer.new) result }
+{
+    ArchivedHashMap::<A::Archived, B::Archived, H, W>::serialize_from_iter::<
+        S,
+        A,
+        B,
+        &A,
+        &B,
+        Iter<'_, A, B>,
+    >(alloc, map.iter(), map.len(), (7, 8), serializer)
 }

@@ -1,20 +1,21 @@
 //! Sets of std: archiving, comparing and deserializing them.
 
 ghost use Rattle.std.specs.Prelude.{IsTrue, MatchResult, ◌↔◌};
-ghost use Rattle.rkyv_base.specs.{AtView, IsValidView, RepresentsAs, unit_format, unit_represents};
-ghost use Rattle.rkyv_base.specs.{unit_spec, written_as};
+ghost use Rattle.rkyv_base.specs.{AtView, IsValidView, RepresentsAs, Serializes, unit_format};
+ghost use Rattle.rkyv_base.specs.{unit_represents, unit_spec, written_as};
 ghost use Rattle.rkyv_base.specs.Lemmas.Empty.{unit_element, unit_is_format, unit_local};
 ghost use Rattle.rkyv_base.specs.Lemmas.Pairs.{written_as-format};
-ghost use Rattle.rkyv_keys.specs.{Deserializes, hash_at, hash_of, queried};
+ghost use Rattle.rkyv_keys.specs.{Deserializes, hash_of, native_format, queried};
 ghost use Rattle.rkyv_table.specs.{listed, with_units};
-ghost use Rattle.rkyv_collections.specs.{EntriesEqual, EntriesRepresent, InsertsKey, ReadsStdSet};
+ghost use Rattle.rkyv_collections.specs.{EntriesEqual, InsertsKey, ReadsStdSet};
 ghost use Rattle.rkyv_collections.specs.{StdSetEquals, StdSetEqualsIn, StdSetRepresents, inner};
 ghost use Rattle.rkyv_collections.specs.{insert_key_fails, map_format, of_entries, set_spec};
-ghost use Rattle.rkyv_collections.specs.{set_view, std_set_fails};
+ghost use Rattle.rkyv_collections.specs.{set_view, std_map_format, std_set_fails};
 ghost use Rattle.rkyv_collections.specs.Lemmas.MapSound.{listed_map_sound};
 ghost use Rattle.rkyv_collections.specs.Lemmas.StdOnce.{std_set_once};
 ghost use Rattle.rkyv_collections.specs.Lemmas.StdEqualLaws.{entries_equal};
-ghost use Rattle.rkyv_collections.specs.Lemmas.StdMapLaws.{entries_local, entries_sound};
+ghost use Rattle.rkyv_collections.specs.Lemmas.StdMapLaws.{entries_local};
+ghost use Rattle.rkyv_collections.specs.Lemmas.StdMapSound.{std_map_sound};
 ghost use Rattle.rkyv_collections.specs.Lemmas.StdSet.{set_equal_written};
 
 use crate::set::write::HashSetResolver;
@@ -71,20 +72,9 @@ where
         resolver.resolve(pos, out)
     }
 
-    ghost laws = { let hash = hash_at H.hasher A.Archived.key_calls in
-        let represents = EntriesRepresent A.Archived.spec unit_spec A.Archived.represents
-        unit_represents W.word
-        A.eq in
-        let format = map_format W.word A.Archived.spec unit_spec A.format unit_format
-        (hash_of H.hasher A.calls) (7, 8) in
-        let spec = set_spec W.word A.Archived.spec in
-        let whole = listed W.MAX_CAPACITY (7, 8) format in
-        written_as-format (λ x. with_units x.map.keys) spec represents (of_entries A.eq whole)
-        (entries_sound A.Archived.spec unit_spec A.Archived.laws unit_element W.word A.eq
-        A.Eq.laws hash (7, 8) W.layout.kind whole
-        (listed_map_sound H.hasher W.word A.Archived.laws unit_element (7, 8) W.MAX_CAPACITY
-        W.layout.kind
-        A.query A.native A.Eq.laws.refl A.reads A.Archive.laws unit_is_format)) };
+    ghost laws = { std_map_sound (λ x. with_units x.map.keys) H.hasher W.word A.Archived.laws
+        unit_element W.MAX_CAPACITY W.layout.kind A.query A.native A.Eq.laws A.reads
+        A.Archive.laws unit_is_format };
 }
 
 impl<S: Writer, W: Width, H: KeyHasher, A: Serialize<S, W> + Hash, T: BuildHasher> Serialize<S, W>
@@ -94,14 +84,32 @@ where
     A: NativeKey<A::Archived>,
 {
     fn serialize(&self, alloc: Global, serializer: &mut S) -> WriteResult<HashSetResolver<W>, S> {
-        ArchivedHashSet::<A::Archived, H, W>::serialize_from_iter::<_, A, _, _>(
-            alloc,
-            self.map.iter(),
-            self.map.len(),
-            (7, 8),
-            serializer,
-        )
+        serialize_set::<S, W, H, A, T>(alloc, &self.map, serializer)
     }
+}
+
+/// Writes the parts of the set that a set of std is archived as.
+pub(crate) fn serialize_set<
+    S: Writer,
+    W: Width,
+    H: KeyHasher,
+    A: Serialize<S, W> + Hash,
+    T: BuildHasher,
+>(alloc: Global, set: &HashSet<A, T>, serializer: &mut S) -> WriteResult<HashSetResolver<W>, S>
+where
+    A::Archived: KeyElement,
+    A: NativeKey<A::Archived>,
+    ensures { Serializes W.LIMIT (std_map_format W.Width
+        (native_format A.Archived.spec unit_spec A.format unit_format H.hasher A.calls) A.eq
+        (λ s. with_units s.keys)) set.now (S.output serializer.old) (S.output serializer.new) result }
+{
+    ArchivedHashSet::<A::Archived, H, W>::serialize_from_iter::<_, A, _, _>(
+        alloc,
+        set.iter(),
+        set.len(),
+        (7, 8),
+        serializer,
+    )
 }
 
 /// Deserializes a key and inserts it.

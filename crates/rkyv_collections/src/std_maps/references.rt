@@ -2,14 +2,19 @@
 //!
 //! The archive of a wrapped reference is that of the wrapped map or set.
 
-ghost use Rattle.rkyv_base.specs.{RepresentsAs, written_as};
-ghost use Rattle.rkyv_base.specs.Lemmas.Pairs.{written_as-format};
+ghost use Rattle.rkyv_base.specs.{RepresentsAs, unit_spec, written_as};
+ghost use Rattle.rkyv_base.specs.Lemmas.Empty.{unit_element, unit_is_format, unit_local};
+ghost use Rattle.rkyv_table.specs.{with_units};
 ghost use Rattle.rkyv_collections.specs.{referent};
+ghost use Rattle.rkyv_collections.specs.Lemmas.StdMapLaws.{entries_local};
+ghost use Rattle.rkyv_collections.specs.Lemmas.StdMapSound.{std_map_sound};
 
 use crate::map::write::HashMapResolver;
 use crate::map::{ArchivedHashMap, HashMapOf};
+use crate::set::HashSetOf;
 use crate::set::write::HashSetResolver;
-use crate::set::{ArchivedHashSet, HashSetOf};
+use crate::std_maps::hash_map::serialize_map;
+use crate::std_maps::hash_set::serialize_set;
 use crate::std_maps::hashed::Hashed;
 use rkyv_base::archive::{Archive, ResolveResult, Serialize, WriteResult};
 use rkyv_base::element::Represents;
@@ -18,7 +23,6 @@ use rkyv_base::writer::Writer;
 use rkyv_keys::keys::{KeyElement, NativeKey};
 use rkyv_scan::hash::KeyHasher;
 use std::alloc::Global;
-use std::collections::hash_map::Iter;
 use std::collections::{HashMap, HashSet};
 use std::hash::{BuildHasher, Hash};
 
@@ -35,8 +39,8 @@ impl<
     ghost represents = { RepresentsAs referent
         ⟦<HashMapOf<K, V, H, W> as Represents<Hashed<HashMap<A, B, T>, H>>>⟧.represents };
 
-    ghost local = { λ x. ⟦<HashMapOf<K, V, H, W> as Represents<Hashed<HashMap<A, B, T>, H>>>⟧.local
-        (referent x) };
+    ghost local = { λ x. entries_local K.spec V.spec K.laws V.laws W.word A.eq K.local V.local
+        x.map.now.entries };
 }
 
 impl<'a, W: Width, H: KeyHasher, A: Archive<W> + Hash, B: Archive<W>, T: BuildHasher> Archive<W>
@@ -56,9 +60,9 @@ where
         resolver.resolve(pos, out)
     }
 
-    ghost laws = { let owned = ⟦<Hashed<HashMap<A, B, T>, H> as Archive<W>>⟧ in
-        written_as-format referent owned.Archived.spec
-        owned.Archived.represents owned.format owned.laws };
+    ghost laws = { std_map_sound (λ x. x.map.now.entries) H.hasher W.word A.Archived.laws
+        B.Archived.laws W.MAX_CAPACITY W.layout.kind A.query A.native A.Eq.laws A.reads
+        A.Archive.laws B.laws };
 }
 
 impl<
@@ -75,14 +79,7 @@ where
     A: NativeKey<A::Archived>,
 {
     fn serialize(&self, alloc: Global, serializer: &mut S) -> WriteResult<HashMapResolver<W>, S> {
-        ArchivedHashMap::<A::Archived, B::Archived, H, W>::serialize_from_iter::<
-            S,
-            A,
-            B,
-            &A,
-            &B,
-            Iter<'_, A, B>,
-        >(alloc, self.map.iter(), self.map.len(), (7, 8), serializer)
+        serialize_map::<S, W, H, A, B, T>(alloc, self.map, serializer)
     }
 }
 
@@ -92,8 +89,8 @@ impl<'a, A: Eq + Hash, T: BuildHasher, H, W: Width, K: Represents<A>> Represents
     ghost represents = { RepresentsAs referent
         ⟦<HashSetOf<K, H, W> as Represents<Hashed<HashSet<A, T>, H>>>⟧.represents };
 
-    ghost local = { λ x. ⟦<HashSetOf<K, H, W> as Represents<Hashed<HashSet<A, T>, H>>>⟧.local
-        (referent x) };
+    ghost local = { λ x. entries_local K.spec unit_spec K.laws unit_element W.word A.eq K.local
+        unit_local (with_units x.map.now.keys) };
 }
 
 impl<'a, W: Width, H: KeyHasher, A: Archive<W> + Hash, T: BuildHasher> Archive<W>
@@ -113,9 +110,9 @@ where
         resolver.resolve(pos, out)
     }
 
-    ghost laws = { let owned = ⟦<Hashed<HashSet<A, T>, H> as Archive<W>>⟧ in
-        written_as-format referent owned.Archived.spec
-        owned.Archived.represents owned.format owned.laws };
+    ghost laws = { std_map_sound (λ x. with_units x.map.now.keys) H.hasher W.word A.Archived.laws
+        unit_element W.MAX_CAPACITY W.layout.kind A.query A.native A.Eq.laws A.reads
+        A.Archive.laws unit_is_format };
 }
 
 impl<'a, S: Writer, W: Width, H: KeyHasher, A: Serialize<S, W> + Hash, T: BuildHasher> Serialize<
@@ -127,12 +124,6 @@ where
     A: NativeKey<A::Archived>,
 {
     fn serialize(&self, alloc: Global, serializer: &mut S) -> WriteResult<HashSetResolver<W>, S> {
-        ArchivedHashSet::<A::Archived, H, W>::serialize_from_iter::<_, A, _, _>(
-            alloc,
-            self.map.iter(),
-            self.map.len(),
-            (7, 8),
-            serializer,
-        )
+        serialize_set::<S, W, H, A, T>(alloc, self.map, serializer)
     }
 }

@@ -8,11 +8,11 @@ use Rattle.rkyv_table.specs.{listed, with_units}
 use Rattle.rkyv_collections.specs.{map_format}
 use Rattle.rkyv_collections.specs.Lemmas.StdSet.{keys_with_units}
 use Rattle.rkyv_collections.proofs.StdWriting.{writes_distinct, writes_rest}
-use Rattle.rkyv_collections.proofs.std_maps.hash_set.HashedHashSetSerialize.serialize.Goals as goal
+use Rattle.rkyv_collections.proofs.std_maps.hash_set.serialize_set.Goals as goal
 
 pub returns : goal.returns
 returns g c =
-    let keys = c.args.self.now.map.keys in
+    let keys = c.args.set.now.keys in
     let hash = hash_of g.H.KeyHasher.hasher g.A.KeyHash.calls in
     let f = map_format g.W.Word.word g.A.Archived.HasSpec.spec unit_spec g.A.Archive.format unit_format hash (7, 8) in
     let o = g.S.Writer.output c.args.serializer.now in

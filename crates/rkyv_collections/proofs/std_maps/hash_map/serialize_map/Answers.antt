@@ -4,11 +4,11 @@ use Rattle.rkyv_keys.specs.{hash_of}
 use Rattle.rkyv_table.specs.{listed}
 use Rattle.rkyv_collections.specs.{map_format}
 use Rattle.rkyv_collections.proofs.StdWriting.{writes_distinct, writes_rest}
-use Rattle.rkyv_collections.proofs.std_maps.hash_map.HashedHashMapSerialize.serialize.Goals as goal
+use Rattle.rkyv_collections.proofs.std_maps.hash_map.serialize_map.Goals as goal
 
 pub returns : goal.returns
 returns g c =
-    let m = c.args.self.now.map in
+    let m = c.args.map.now in
     let hash = hash_of g.H.KeyHasher.hasher g.A.KeyHash.calls in
     let f = map_format g.W.Word.word g.A.Archived.HasSpec.spec g.B.Archived.HasSpec.spec g.A.Archive.format g.B.Archive.format hash (7, 8) in
     let o = g.S.Writer.output c.args.serializer.now in
