@@ -81,5 +81,5 @@ unfoldable pub use Set.{set_view}
 unfoldable pub use Set.ListArchives.{MembersFoundAreListed, SetLookupsFindListed, set_root}
 unfoldable pub use Set.SetFormat.{SetRepresents, WrittenSetsRepresent, set_format}
 unfoldable pub use Set.Walking.{WalksAllKeys}
-unfoldable pub use Listed.{map_list, map_list_format, pairs_under, set_list, set_list_format}
-unfoldable pub use Listed.{std_map_format}
+unfoldable pub use Listed.{SerializesEntries, map_list, map_list_format, pairs_under, set_list}
+unfoldable pub use Listed.{set_list_format, std_map_format}

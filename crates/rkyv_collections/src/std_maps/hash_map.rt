@@ -1,10 +1,10 @@
 //! Maps of std as values that archived maps represent, and their serialization.
 
-ghost use Rattle.rkyv_base.specs.{RepresentsAs, Serializes, written_as};
+ghost use Rattle.rkyv_base.specs.{RepresentsAs, written_as};
 ghost use Rattle.rkyv_keys.specs.{hash_of, native_format};
 ghost use Rattle.rkyv_table.specs.{listed};
-ghost use Rattle.rkyv_collections.specs.{StdMapRepresents, inner, map_format, of_entries};
-ghost use Rattle.rkyv_collections.specs.{std_map_format};
+ghost use Rattle.rkyv_collections.specs.{SerializesEntries, StdMapRepresents, inner, map_format};
+ghost use Rattle.rkyv_collections.specs.{of_entries};
 ghost use Rattle.rkyv_collections.specs.Lemmas.StdMapLaws.{entries_local};
 ghost use Rattle.rkyv_collections.specs.Lemmas.StdMapSound.{std_map_sound};
 
@@ -93,9 +93,9 @@ pub(crate) fn serialize_map<
 where
     A::Archived: KeyElement,
     A: NativeKey<A::Archived>,
-    ensures { Serializes W.LIMIT (std_map_format W.Width
+    ensures { SerializesEntries W.Width
         (native_format A.Archived.spec B.Archived.spec A.format B.format H.hasher A.calls) A.eq
-        (λ m. m.entries)) map.now (S.output serializer.old) (S.output serializer.new) result }
+        map.now.entries (S.output serializer.old, S.output serializer.new) result }
 {
     ArchivedHashMap::<A::Archived, B::Archived, H, W>::serialize_from_iter::<
         S,

@@ -1,16 +1,16 @@
 //! Sets of std: archiving, comparing and deserializing them.
 
 ghost use Rattle.std.specs.Prelude.{IsTrue, MatchResult, ◌↔◌};
-ghost use Rattle.rkyv_base.specs.{AtView, IsValidView, RepresentsAs, Serializes, unit_format};
-ghost use Rattle.rkyv_base.specs.{unit_represents, unit_spec, written_as};
+ghost use Rattle.rkyv_base.specs.{AtView, IsValidView, RepresentsAs, unit_format, unit_represents};
+ghost use Rattle.rkyv_base.specs.{unit_spec, written_as};
 ghost use Rattle.rkyv_base.specs.Lemmas.Empty.{unit_element, unit_is_format, unit_local};
 ghost use Rattle.rkyv_base.specs.Lemmas.Pairs.{written_as-format};
 ghost use Rattle.rkyv_keys.specs.{Deserializes, hash_of, native_format, queried};
 ghost use Rattle.rkyv_table.specs.{listed, with_units};
-ghost use Rattle.rkyv_collections.specs.{EntriesEqual, InsertsKey, ReadsStdSet};
+ghost use Rattle.rkyv_collections.specs.{EntriesEqual, InsertsKey, ReadsStdSet, SerializesEntries};
 ghost use Rattle.rkyv_collections.specs.{StdSetEquals, StdSetEqualsIn, StdSetRepresents, inner};
 ghost use Rattle.rkyv_collections.specs.{insert_key_fails, map_format, of_entries, set_spec};
-ghost use Rattle.rkyv_collections.specs.{set_view, std_map_format, std_set_fails};
+ghost use Rattle.rkyv_collections.specs.{set_view, std_set_fails};
 ghost use Rattle.rkyv_collections.specs.Lemmas.MapSound.{listed_map_sound};
 ghost use Rattle.rkyv_collections.specs.Lemmas.StdOnce.{std_set_once};
 ghost use Rattle.rkyv_collections.specs.Lemmas.StdEqualLaws.{entries_equal};
@@ -99,9 +99,9 @@ pub(crate) fn serialize_set<
 where
     A::Archived: KeyElement,
     A: NativeKey<A::Archived>,
-    ensures { Serializes W.LIMIT (std_map_format W.Width
+    ensures { SerializesEntries W.Width
         (native_format A.Archived.spec unit_spec A.format unit_format H.hasher A.calls) A.eq
-        (λ s. with_units s.keys)) set.now (S.output serializer.old) (S.output serializer.new) result }
+        (with_units set.now.keys) (S.output serializer.old, S.output serializer.new) result }
 {
     ArchivedHashSet::<A::Archived, H, W>::serialize_from_iter::<_, A, _, _>(
         alloc,
