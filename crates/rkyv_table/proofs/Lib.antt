@@ -45,6 +45,7 @@ pub mod SealedItems
 pub mod MisplacedIn
 pub mod RawSteps
 pub mod ItemSteps
+pub mod WholeStride
 pub mod PairedFound
 pub mod FoundItems
 pub mod Listing

@@ -93,7 +93,7 @@ enum StrideOutcome {
     Continue,
 }
 
-// Reads one stride, as groups in order.
+// Reads one stride: as one group if groups are sixteen wide, else as groups in order.
 #[inline]
 fn scan<G: GroupKind, F: Fn(usize) -> bool>(
     stride: &[u8],
@@ -114,6 +114,16 @@ fn scan<G: GroupKind, F: Fn(usize) -> bool>(
         → SeesFirst (F.post cmp.now) (IsFullInStride stride.now pos cap)
         (candidates G.kind bytes cap tag pos) (stride_has_empty bytes pos) result }
 {
+    if G::WIDTH == 16 {
+        let whole = G::read(stride, 0);
+        if let Some(bucket) = first_accepted(whole.match_byte(tag), pos, cap, cmp) {
+            return StrideOutcome::Accepted(bucket);
+        }
+        if whole.match_empty().any_bit_set() {
+            return StrideOutcome::HasEmpty;
+        }
+        return StrideOutcome::Continue;
+    }
     let mut empty = false;
     for i in 0..16 / G::WIDTH {
         let at = i * G::WIDTH;
