@@ -13,15 +13,13 @@ ghost use Rattle.rkyv_collections.specs.{MapRepresents, map_format, map_spec};
 ghost use Rattle.rkyv_collections.specs.Lemmas.MapSound.{map_local, map_sound};
 ghost use Rattle.bench_calls.specs.{IsBuilt, IsPut};
 
-use rkyv_base::archive::{Archive, ResolveResult, Serialize, WriteResult};
-use rkyv_base::element::{Element, Represents};
-use rkyv_base::root::to_bytes;
-use rkyv_base::width::{Narrow, Width};
-use rkyv_base::writer::{VecWriter, Writer};
-use rkyv_collections::map::write::HashMapResolver;
-use rkyv_collections::map::{ArchivedHashMap, HashMapOf};
-use rkyv_keys::keys::{KeyElement, NativeKey};
-use rkyv_scan::hash::KeyHasher;
+use rkyv_base::{
+    Archive, Element, Narrow, Represents, ResolveResult, Serialize, VecWriter, Width, WriteResult,
+    Writer, to_bytes,
+};
+use rkyv_collections::{ArchivedHashMap, HashMapOf, HashMapResolver};
+use rkyv_keys::{KeyElement, NativeKey};
+use rkyv_scan::KeyHasher;
 use std::alloc::Global;
 use std::marker::PhantomData;
 

@@ -11,13 +11,10 @@ ghost use Rattle.rkyv_index.specs.Lemmas.IndexLocal.{index_represents_local};
 ghost use Rattle.rkyv_index.specs.Lemmas.IndexSound.{index_sound};
 
 use crate::building::Pairs;
-use rkyv_base::archive::{Archive, ResolveResult, Serialize, WriteResult};
-use rkyv_base::element::Represents;
-use rkyv_base::writer::Writer;
-use rkyv_index::width::IndexWidth;
-use rkyv_index::{ArchivedIndexMap, IndexMapOf, IndexMapResolver};
-use rkyv_keys::keys::{KeyElement, NativeKey};
-use rkyv_scan::hash::KeyHasher;
+use rkyv_base::{Archive, Represents, ResolveResult, Serialize, WriteResult, Writer};
+use rkyv_index::{ArchivedIndexMap, IndexMapOf, IndexMapResolver, IndexWidth};
+use rkyv_keys::{KeyElement, NativeKey};
+use rkyv_scan::KeyHasher;
 use std::alloc::Global;
 
 /// Pairs archived as an index map, in insertion order, under the load factor 7 / 8.

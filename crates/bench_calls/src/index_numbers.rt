@@ -8,9 +8,10 @@ ghost use Rattle.bench_calls.specs.{total};
 use crate::building::{Pairs, build};
 use crate::index_building::IndexPairs;
 use crate::totals::{lookup_total, pair_total};
-use rkyv_base::access::{access, access_unchecked};
+use rkyv_base::access::access;
+use rkyv_base::access_unchecked;
 use rkyv_index::{ArchivedIndexMap, IndexMapOf};
-use rkyv_scan::hash::FxHasher64;
+use rkyv_scan::FxHasher64;
 use std::alloc::Global;
 
 /// Archives an index map into the front of `out`, and returns the length of the archive.

@@ -7,10 +7,10 @@ ghost use Rattle.rkyv_keys.specs.{at_view};
 ghost use Rattle.bench_calls.specs.{found_number, index_map_looked_up, map_looked_up, number_spec};
 ghost use Rattle.bench_calls.specs.{number_weight};
 
-use rkyv_base::view::View;
-use rkyv_collections::map::ArchivedHashMap;
+use rkyv_base::View;
+use rkyv_collections::ArchivedHashMap;
 use rkyv_index::ArchivedIndexMap;
-use rkyv_keys::keys::{KeyElement, Query};
+use rkyv_keys::{KeyElement, Query};
 
 /// A map or an index map to numbers.
 pub(crate) trait Lookup<K: KeyElement>: Copy + Drop {

@@ -2,9 +2,9 @@
 
 ghost use Rattle.bench_calls.specs.{IsArchive, IsLengthAnd1, IsMapAtRoot};
 
-use rkyv_base::access::{access, access_unchecked};
-use rkyv_base::element::Element;
-use rkyv_collections::map::{ArchivedHashMap, HashMapOf};
+use rkyv_base::access::access;
+use rkyv_base::{Element, access_unchecked};
+use rkyv_collections::{ArchivedHashMap, HashMapOf};
 
 /// Validates an archive, and returns the length of its map plus 1, or 0 if it isn't valid.
 #[inline]

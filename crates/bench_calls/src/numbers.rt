@@ -8,7 +8,7 @@ ghost use Rattle.bench_calls.specs.{walk_total};
 use crate::building::{Pairs, build};
 use crate::maps::{length_and_1, map_in};
 use crate::totals::{hash_total, lookup_total, pair_total};
-use rkyv_scan::hash::FxHasher64;
+use rkyv_scan::FxHasher64;
 use std::alloc::Global;
 
 /// Returns the sum modulo 2^64 of the hashes of the keys.

@@ -7,9 +7,9 @@ ghost use Rattle.bench_calls.specs.{IsArchive, IsBuilt, IsReadBack, StdMapsNumbe
 
 use crate::building::build;
 use crate::maps::map_in;
-use rkyv_base::errors::ReadError;
-use rkyv_collections::std_maps::hashed::Hashed;
-use rkyv_scan::hash::FxHasher64;
+use rkyv_base::ReadError;
+use rkyv_collections::Hashed;
+use rkyv_scan::FxHasher64;
 use std::alloc::{AllocError, Global};
 use std::collections::HashMap;
 use std::hash::{BuildHasherDefault, Hash};

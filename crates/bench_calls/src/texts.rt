@@ -9,8 +9,8 @@ use crate::building::{Pairs, build};
 use crate::cuts::{cut, list};
 use crate::maps::{length_and_1, map_in};
 use crate::totals::{hash_total, lookup_total, pair_total};
-use rkyv_base::text::Text;
-use rkyv_scan::hash::FxHasher64;
+use rkyv_base::Text;
+use rkyv_scan::FxHasher64;
 use std::alloc::Global;
 
 /// Returns the sum modulo 2^64 of the hashes of the texts.

@@ -6,11 +6,9 @@ ghost use Rattle.bench_calls.specs.{view_pair_weight};
 
 use crate::lookups::{Lookup, number_in};
 use crate::weighing::Weigh;
-use rkyv_base::lend::Lend;
-use rkyv_base::view::View;
-use rkyv_keys::hash::{KeyHash, hash_value};
-use rkyv_keys::keys::{KeyElement, Query};
-use rkyv_scan::hash::FxHasher64;
+use rkyv_base::{Lend, View};
+use rkyv_keys::{KeyElement, KeyHash, Query, hash_value};
+use rkyv_scan::FxHasher64;
 
 /// Returns the sum of the hashes of the keys.
 #[inline]

@@ -6,9 +6,7 @@ ghost use Rattle.rkyv_keys.specs.{at_view};
 ghost use Rattle.bench_calls.specs.{number_weight, text_weight};
 
 use crate::lookups::number_in;
-use rkyv_base::element::Element;
-use rkyv_base::text::Text;
-use rkyv_base::view::View;
+use rkyv_base::{Element, Text, View};
 
 /// A key with a weight in the sum of a walk.
 pub(crate) trait Weigh: Element {

@@ -2,10 +2,8 @@
 #![tactic(auto)]
 
 use rkyv_base::access::access;
-use rkyv_base::root::to_bytes;
-use rkyv_base::text::Text;
-use rkyv_collections::MapPairs;
-use rkyv_collections::map::{ArchivedHashMap, HashMapOf};
+use rkyv_base::{Text, to_bytes};
+use rkyv_collections::{ArchivedHashMap, HashMapOf, MapPairs};
 use std::test::Fail;
 
 fn main(rt: HostRuntime) -> Result<(), Fail> {

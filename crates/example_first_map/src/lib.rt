@@ -8,14 +8,9 @@ ghost use Rattle.rkyv_collections.specs.{IsTextMap, OpensTextMap, TextMapResult,
 ghost use Rattle.rkyv_collections.specs.{first_of_text, text_found};
 
 use rkyv_base::access::access;
-use rkyv_base::errors::{VerifyError, WriteError};
-use rkyv_base::root::to_bytes;
-use rkyv_base::text::Text;
-use rkyv_base::width::Narrow;
-use rkyv_base::writer::NoMemory;
+use rkyv_base::{Narrow, NoMemory, Text, VerifyError, WriteError, to_bytes};
 use rkyv_collections::map::laws::list_archives::scalars_found_are_listed;
-use rkyv_collections::map::{ArchivedHashMap, HashMapOf};
-use rkyv_collections::{FxHasher64, MapPairs};
+use rkyv_collections::{ArchivedHashMap, FxHasher64, HashMapOf, MapPairs};
 use std::alloc::Global;
 
 /// Writes the archive of the symbols, each a name with its address.

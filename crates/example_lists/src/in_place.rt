@@ -8,13 +8,9 @@ ghost use Rattle.rkyv_keys.specs.{same_bytes, with_first};
 ghost use Rattle.rkyv_collections.specs.{IsTextMap, SetsValueOfText, TextPairs, first_of_text};
 
 use rkyv_base::access::access;
-use rkyv_base::element::HasSpec;
-use rkyv_base::errors::VerifyError;
-use rkyv_base::text::Text;
-use rkyv_base::width::Narrow;
-use rkyv_collections::FxHasher64;
-use rkyv_collections::map::HashMapOf;
+use rkyv_base::{HasSpec, Narrow, Text, VerifyError};
 use rkyv_collections::map::in_place::set_value_of;
+use rkyv_collections::{FxHasher64, HashMapOf};
 use rkyv_table::table::laws::in_place::writes_keep_archives;
 
 /// A map of texts to numbers in a narrow archive.

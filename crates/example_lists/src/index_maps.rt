@@ -6,14 +6,10 @@ ghost use Rattle.rkyv_base.specs.{IsNarrowArchive, OpensNarrow};
 ghost use Rattle.rkyv_keys.specs.{first_value, same_bytes};
 
 use rkyv_base::access::access;
-use rkyv_base::element::{HasSpec, Represents};
-use rkyv_base::errors::VerifyError;
-use rkyv_base::text::Text;
-use rkyv_base::width::Narrow;
-use rkyv_index::lists::OrderedPairs;
+use rkyv_base::{HasSpec, Narrow, Represents, Text, VerifyError};
 use rkyv_index::map::laws::list_archives::scalars_found_are_listed;
-use rkyv_index::map::{ArchivedIndexMap, IndexMapOf};
-use rkyv_scan::hash::FxHasher64;
+use rkyv_index::{ArchivedIndexMap, IndexMapOf, OrderedPairs};
+use rkyv_scan::FxHasher64;
 
 /// An index map of texts to numbers in a narrow archive.
 pub type Prices = IndexMapOf<Text, u32>;

@@ -5,20 +5,15 @@ ghost use Rattle.rkyv_base.specs.{ArchivesWide, IsNarrowArchive, IsWideArchive, 
 ghost use Rattle.rkyv_base.specs.{OpensWide, RootBytes};
 ghost use Rattle.rkyv_keys.specs.{IsTextOk, first_value, same_bytes};
 
-use rkyv_base::access::{access, access_in};
-use rkyv_base::archive::Archive;
-use rkyv_base::element::{HasSpec, Represents};
-use rkyv_base::entry::Entry;
-use rkyv_base::errors::{VerifyError, WriteError};
-use rkyv_base::root::to_bytes_in;
-use rkyv_base::text::Text;
-use rkyv_base::width::{Narrow, Wide};
-use rkyv_base::writer::NoMemory;
+use rkyv_base::access::access;
+use rkyv_base::{
+    Archive, Entry, HasSpec, Narrow, NoMemory, Represents, Text, VerifyError, Wide, WriteError,
+    access_in, to_bytes_in,
+};
 use rkyv_collections::map::laws::list_archives::{
     scalars_found_are_listed, texts_found_are_listed, values_found_are_listed,
 };
-use rkyv_collections::map::{ArchivedHashMap, HashMapOf};
-use rkyv_collections::{FxHasher64, MapPairs};
+use rkyv_collections::{ArchivedHashMap, FxHasher64, HashMapOf, MapPairs};
 use std::alloc::Global;
 
 /// A map of numbers in a wide archive.

@@ -8,18 +8,12 @@ ghost use Rattle.rkyv_collections.specs.{IsNarrowWritten};
 ghost use Rattle.rkyv_keys.specs.{first_value, same_bytes};
 
 use rkyv_base::access::access;
-use rkyv_base::archive::Archive;
-use rkyv_base::element::{HasSpec, Represents};
-use rkyv_base::errors::VerifyError;
-use rkyv_base::text::Text;
-use rkyv_base::width::Narrow;
+use rkyv_base::{Archive, HasSpec, Narrow, Represents, Text, VerifyError};
 use rkyv_collections::map::laws::list_archives::scalars_found_are_listed;
-use rkyv_collections::map::{ArchivedHashMap, HashMapOf};
 use rkyv_collections::set::laws::members_found_are_listed;
-use rkyv_collections::set::{ArchivedHashSet, HashSetOf};
-use rkyv_collections::std_maps::hashed::Hashed;
 use rkyv_collections::std_maps::laws::{written_maps_are_lists, written_sets_are_lists};
-use rkyv_scan::hash::FxHasher64;
+use rkyv_collections::{ArchivedHashMap, ArchivedHashSet, HashMapOf, HashSetOf, Hashed};
+use rkyv_scan::FxHasher64;
 use std::collections::{HashMap, HashSet};
 use std::hash::{BuildHasherDefault, FoldHasher};
 

@@ -6,18 +6,13 @@ ghost use Rattle.rkyv_base.specs.{IsNarrowArchive, OpensNarrow};
 ghost use Rattle.rkyv_keys.specs.{IsTextOk, same_bytes};
 
 use rkyv_base::access::access;
-use rkyv_base::element::{HasSpec, Represents};
-use rkyv_base::errors::VerifyError;
-use rkyv_base::text::Text;
-use rkyv_base::width::Narrow;
+use rkyv_base::{HasSpec, Narrow, Represents, Text, VerifyError};
 use rkyv_collections::set::laws::members_found_are_listed;
-use rkyv_collections::set::{ArchivedHashSet, HashSetOf};
-use rkyv_collections::{FxHasher64, SetItems};
-use rkyv_index::lists::OrderedItems;
+use rkyv_collections::{ArchivedHashSet, FxHasher64, HashSetOf, SetItems};
 use rkyv_index::set::laws::{
     items_at_are_listed, members_found_are_listed as indexed_members_found_are_listed,
 };
-use rkyv_index::set::{ArchivedIndexSet, IndexSetOf};
+use rkyv_index::{ArchivedIndexSet, IndexSetOf, OrderedItems};
 
 /// A set of texts in a narrow archive.
 pub type Words = HashSetOf<Text>;

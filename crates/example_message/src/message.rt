@@ -11,17 +11,11 @@ ghost use Rattle.example_message.specs.{number_in, number_spec, value_found};
 ghost use Rattle.std.specs.Int.{w32};
 
 use rkyv_base::access::access;
-use rkyv_base::errors::{VerifyError, WriteError};
-use rkyv_base::root::to_bytes;
-use rkyv_base::text::Text;
-use rkyv_base::view::View;
-use rkyv_base::width::Narrow;
-use rkyv_base::writer::NoMemory;
+use rkyv_base::{Narrow, NoMemory, Text, VerifyError, View, WriteError, to_bytes};
 use rkyv_collections::map::in_place::set_value_of;
 use rkyv_collections::map::laws::lookups_find_listed;
 use rkyv_collections::map::laws::nested::{nested_writes_keep_maps, nested_writes_represent};
-use rkyv_collections::map::{ArchivedHashMap, HashMapOf};
-use rkyv_collections::{FxHasher64, MapPairs};
+use rkyv_collections::{ArchivedHashMap, FxHasher64, HashMapOf, MapPairs};
 use std::alloc::Global;
 
 /// The fields of a part: names, each with a number.

@@ -9,15 +9,10 @@ ghost use Rattle.rkyv_collections.specs.{first_of_text};
 ghost use Rattle.example_symbols.specs.{IsTable, IsTableOf, Represents, Symbols, TableFails};
 ghost use Rattle.example_symbols.specs.{ValidationFails, address_found};
 
-use rkyv_base::access::{access, access_unchecked};
-use rkyv_base::errors::{VerifyError, WriteError};
-use rkyv_base::root::to_bytes;
-use rkyv_base::text::Text;
-use rkyv_base::width::Narrow;
-use rkyv_base::writer::NoMemory;
+use rkyv_base::access::access;
+use rkyv_base::{Narrow, NoMemory, Text, VerifyError, WriteError, access_unchecked, to_bytes};
 use rkyv_collections::map::laws::list_archives::scalars_found_are_listed;
-use rkyv_collections::map::{ArchivedHashMap, HashMapOf};
-use rkyv_collections::{FxHasher64, MapPairs};
+use rkyv_collections::{ArchivedHashMap, FxHasher64, HashMapOf, MapPairs};
 use std::alloc::Global;
 
 /// Writes the table of the symbols, in insertion order.

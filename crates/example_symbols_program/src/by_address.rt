@@ -6,11 +6,7 @@ ghost use Rattle.example_symbols_program.specs.{IndexResult, IsAscending, IsEntr
 ghost use Rattle.example_symbols_program.specs.{turned};
 
 use rkyv_base::access::access;
-use rkyv_base::element::Element;
-use rkyv_base::errors::{VerifyError, WriteError};
-use rkyv_base::root::to_bytes;
-use rkyv_base::text::Text;
-use rkyv_base::writer::NoMemory;
+use rkyv_base::{Element, NoMemory, Text, VerifyError, WriteError, to_bytes};
 use rkyv_index::{ArchivedIndexMap, IndexMapOf, OrderedPairs};
 use std::alloc::{AllocError, Global};
 

@@ -1,8 +1,7 @@
 //! The errors of the program.
 ghost use Rattle.example_symbols_program.specs.{IsFileError, IsValidationError, IsWriteError};
 
-use rkyv_base::errors::{VerifyError, WriteError};
-use rkyv_base::writer::NoMemory;
+use rkyv_base::{NoMemory, VerifyError, WriteError};
 use std::alloc::{AllocError, Global};
 use std::io;
 use thiserror::Error;

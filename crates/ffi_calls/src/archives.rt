@@ -7,11 +7,8 @@ ghost use Rattle.ffi_calls.specs.{Explains, IsHeaderOf, IsMapArchive, map_in};
 
 use crate::explanation::{Explanation, explain, explained};
 use crate::status::DONE;
-use rkyv_base::access::{access_in, access_unchecked};
-use rkyv_base::element::Element;
-use rkyv_base::width::Width;
-use rkyv_collections::FxHasher64;
-use rkyv_collections::map::{ArchivedHashMap, HashMapOf};
+use rkyv_base::{Element, Width, access_in, access_unchecked};
+use rkyv_collections::{ArchivedHashMap, FxHasher64, HashMapOf};
 use rkyv_table::table::decoded::Decoded;
 
 /// Validates the archive of a map, and returns the first error, if there is one.

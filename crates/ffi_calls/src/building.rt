@@ -6,11 +6,7 @@ ghost use Rattle.rkyv_keys.specs.{fx_format};
 ghost use Rattle.ffi_calls.specs.{ArchiveFails, IsWritten, archive_width, fx_pairs};
 
 use crate::status::{DONE, NO_MEMORY};
-use rkyv_base::archive::Serialize;
-use rkyv_base::errors::WriteError;
-use rkyv_base::root::to_bytes_in;
-use rkyv_base::width::Width;
-use rkyv_base::writer::{NoMemory, VecWriter};
+use rkyv_base::{NoMemory, Serialize, VecWriter, Width, WriteError, to_bytes_in};
 use rkyv_collections::{KeyElement, MapPairs, NativeKey};
 use std::alloc::Global;
 

@@ -13,9 +13,7 @@ ghost use Rattle.ffi_calls.specs.{UpdatesContainer, WritesContainerHeader, conta
 
 use crate::explanation::{Explanation, explain_container_error, explained};
 use crate::status::{DONE, UNKNOWN_CODES, WRONG_LENGTH, container_status};
-use rkyv_container::container::{open_as, seal};
-use rkyv_container::contents::{Contents, ItemType, Kind, Width};
-use rkyv_container::header::{HEADER_LEN, Header};
+use rkyv_container::{Contents, HEADER_LEN, Header, ItemType, Kind, Width, open_as, seal};
 
 /// The archive in a container, which is borrowed from it.
 #[repr(C)]

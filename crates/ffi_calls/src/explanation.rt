@@ -3,8 +3,8 @@
 ghost use Rattle.std.specs.Prelude.{◌≡◌};
 ghost use Rattle.ffi_calls.specs.{explain, explain_container_error, explained, nearest};
 
-use rkyv_base::errors::VerifyError;
-use rkyv_container::errors::ContainerError;
+use rkyv_base::VerifyError;
+use rkyv_container::ContainerError;
 
 /// The status of an error, its position and its other numbers.
 ///

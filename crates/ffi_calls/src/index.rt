@@ -11,13 +11,11 @@ use crate::explanation::{Explanation, explain, explained};
 use crate::pairs::{Indexed, IndexedOf, Pair, PairOf};
 use crate::reading::{ReadAs, StoresNative};
 use crate::status::{DONE, NOT_FOUND};
-use rkyv_base::access::{access_in, access_unchecked};
-use rkyv_base::element::{Element, Represents};
+use rkyv_base::{Element, Represents, access_in, access_unchecked};
 use rkyv_index::map::laws::lookups_find_listed;
-use rkyv_index::width::IndexWidth;
-use rkyv_index::{ArchivedIndexMap, IndexMapOf};
-use rkyv_keys::keys::{KeyElement, NativeKey};
-use rkyv_scan::hash::FxHasher64;
+use rkyv_index::{ArchivedIndexMap, IndexMapOf, IndexWidth};
+use rkyv_keys::{KeyElement, NativeKey};
+use rkyv_scan::FxHasher64;
 use rkyv_table::table::decoded::Decoded;
 
 /// Validates the archive of an index map, and returns the first error, if there is one.

@@ -9,13 +9,12 @@ use crate::archives::root_of;
 use crate::index::{index_header_of, index_of};
 use crate::status::{DONE, NOT_FOUND, VALUE_TOO_LARGE};
 use crate::value::Value;
-use rkyv_base::element::Represents;
-use rkyv_index::IndexMapOf;
+use rkyv_base::Represents;
 use rkyv_index::map::in_place::set_value_at;
 use rkyv_index::map::laws::lookups_find_listed;
-use rkyv_index::width::IndexWidth;
-use rkyv_keys::keys::{KeyElement, NativeKey};
-use rkyv_scan::hash::FxHasher64;
+use rkyv_index::{IndexMapOf, IndexWidth};
+use rkyv_keys::{KeyElement, NativeKey};
+use rkyv_scan::FxHasher64;
 
 /// Returns the index that a lookup of the key finds in a valid archive.
 fn index_found_in<

@@ -12,10 +12,8 @@ use crate::reading::NumberKey;
 use crate::status::or_status;
 use crate::value::Value;
 use crate::{number_items, text_items};
-use rkyv_base::root::to_bytes_in;
-use rkyv_base::width::{Narrow, Wide};
-use rkyv_index::OrderedPairs;
-use rkyv_index::width::IndexWidth;
+use rkyv_base::{Narrow, Wide, to_bytes_in};
+use rkyv_index::{IndexWidth, OrderedPairs};
 use std::alloc::Global;
 
 /// Writes the archive of the items as an index map, in their order, under the load factor 7 / 8.

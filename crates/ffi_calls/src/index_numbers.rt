@@ -16,7 +16,7 @@ use crate::index::{explain_index, find_in, index_header_of, pairs_in, typed_inde
 use crate::index_in_place::set_indexed_in;
 use crate::pairs::{IndexedOf, PairOf};
 use crate::reading::NumberKey;
-use rkyv_base::width::{Narrow, Wide};
+use rkyv_base::{Narrow, Wide};
 use rkyv_table::table::decoded::Decoded;
 
 /// Validates the archive of an index map of numbers.

@@ -13,8 +13,7 @@ use crate::explanation::Explanation;
 use crate::index::{explain_index, find_in, index_header_of, pairs_in, typed_index_header};
 use crate::pairs::{IndexedOf, PairOf};
 use crate::reading::NumberKey;
-use rkyv_base::text::Text;
-use rkyv_base::width::{Narrow, Wide};
+use rkyv_base::{Narrow, Text, Wide};
 use rkyv_table::table::decoded::Decoded;
 
 /// Validates the archive of an index map of numbers to texts.

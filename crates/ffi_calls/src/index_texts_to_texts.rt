@@ -15,8 +15,7 @@ use crate::index::{explain_index, find_in, index_header_of, pairs_in, typed_inde
 use crate::pairs::{IndexedOf, PairOf};
 use crate::status::NOT_TEXT;
 use crate::texts::text_of;
-use rkyv_base::text::Text;
-use rkyv_base::width::{Narrow, Wide};
+use rkyv_base::{Narrow, Text, Wide};
 use rkyv_table::table::decoded::Decoded;
 
 /// Validates the archive of an index map of texts to texts.

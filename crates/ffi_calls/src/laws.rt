@@ -4,12 +4,10 @@ ghost use Rattle.rkyv_keys.specs.{fx_format, fx_key_format};
 ghost use Rattle.ffi_calls.specs.{ArchivesRepresent, IndexesRepresent, SetArchivesRepresent};
 ghost use Rattle.ffi_calls.specs.{WalksVisitListed, archive_width, fx_pairs, index_width};
 
-use rkyv_base::archive::Archive;
-use rkyv_base::element::Represents;
-use rkyv_base::width::Width;
+use rkyv_base::{Archive, Represents, Width};
 use rkyv_collections::map::laws::walks_visit_each;
 use rkyv_collections::{FxHasher64, KeyElement, NativeKey};
-use rkyv_index::width::IndexWidth;
+use rkyv_index::IndexWidth;
 
 /// States that a walk over an archive of a list visits each pair's home bucket once, and no other.
 ///

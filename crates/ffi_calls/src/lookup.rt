@@ -10,13 +10,10 @@ use crate::archives::{map_of, root_of};
 use crate::reading::{ReadAs, StoresNative};
 use crate::status::{DONE, NOT_FOUND, VALUE_TOO_LARGE};
 use crate::value::Value;
-use rkyv_base::element::Represents;
-use rkyv_base::view::{View, found_pos};
-use rkyv_base::width::Width;
-use rkyv_collections::map::HashMapOf;
+use rkyv_base::{Represents, View, Width, found_pos};
 use rkyv_collections::map::in_place::set_value_of;
 use rkyv_collections::map::laws::lookups_find_listed;
-use rkyv_collections::{FxHasher64, KeyElement, NativeKey};
+use rkyv_collections::{FxHasher64, HashMapOf, KeyElement, NativeKey};
 use rkyv_table::table::decoded::Decoded;
 
 /// Returns the position of the value that a lookup of the key finds in a valid archive.

@@ -18,7 +18,7 @@ use crate::reading::NumberKey;
 use crate::sets::{contains_in, set_archive_of};
 use crate::status::or_status;
 use crate::walk::next_pairs_in;
-use rkyv_base::width::{Narrow, Wide, Width};
+use rkyv_base::{Narrow, Wide, Width};
 use rkyv_table::table::decoded::Decoded;
 use std::alloc::Global;
 

@@ -14,7 +14,7 @@ use crate::lookup::{get_in, set_in};
 use crate::pairs::StepOf;
 use crate::reading::NumberKey;
 use crate::walk::next_pairs_in;
-use rkyv_base::width::{Narrow, Wide};
+use rkyv_base::{Narrow, Wide};
 use rkyv_table::table::decoded::Decoded;
 
 /// Validates the archive of a map of numbers.

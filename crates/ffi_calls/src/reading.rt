@@ -9,11 +9,8 @@ ghost use Rattle.rkyv_base.specs.{unit_represents, unit_spec, unsigned};
 ghost use Rattle.ffi_calls.specs.Lemmas.Reading.{same_texts, same_values, values_of_numbers};
 ghost use Rattle.ffi_calls.specs.{Agrees, HasBytesOf, IsNumberOf, IsSame, ReadsText, ReadsWord};
 
-use rkyv_base::element::{Element, Represents};
-use rkyv_base::text::Text;
-use rkyv_base::view::View;
-use rkyv_base::width::Width;
-use rkyv_keys::scalars::ScalarKey;
+use rkyv_base::{Element, Represents, Text, View, Width};
+use rkyv_keys::ScalarKey;
 
 /// An element whose values are stored as `O`.
 pub trait StoredAs<O>: Element {

@@ -9,12 +9,7 @@ ghost use Rattle.ffi_calls.specs.{value_found};
 
 use crate::lookup::value_pos_in;
 use crate::status::{DONE, NOT_FOUND};
-use rkyv_base::archive::Serialize;
-use rkyv_base::element::Represents;
-use rkyv_base::errors::WriteError;
-use rkyv_base::root::to_bytes_in;
-use rkyv_base::width::Width;
-use rkyv_base::writer::{NoMemory, VecWriter};
+use rkyv_base::{NoMemory, Represents, Serialize, VecWriter, Width, WriteError, to_bytes_in};
 use rkyv_collections::{KeyElement, NativeKey, SetItems};
 use rkyv_table::table::decoded::Decoded;
 use std::alloc::Global;

@@ -3,9 +3,8 @@
 ghost use Rattle.std.specs.Prelude.{Err, MatchResult, Ok, ◌≡◌};
 ghost use Rattle.ffi_calls.specs.{container_status, write_status};
 
-use rkyv_base::errors::WriteError;
-use rkyv_base::writer::NoMemory;
-use rkyv_container::errors::ContainerError;
+use rkyv_base::{NoMemory, WriteError};
+use rkyv_container::ContainerError;
 
 /// The call succeeded.
 pub const DONE: u32 = 0;

@@ -10,7 +10,7 @@ use crate::pairs::PairOf;
 use crate::status::{NOT_TEXT, VALUE_TOO_LARGE, or_status};
 use crate::texts::text_of;
 use crate::value::Value;
-use rkyv_base::width::{Narrow, Wide, Width};
+use rkyv_base::{Narrow, Wide, Width};
 use std::alloc::Global;
 
 /// Returns the pairs of the items.

@@ -8,7 +8,7 @@ use crate::building::{Built, leak_into, reserved};
 use crate::sets::set_archive_of;
 use crate::status::{NOT_TEXT, or_status};
 use crate::texts::text_of;
-use rkyv_base::width::{Narrow, Wide, Width};
+use rkyv_base::{Narrow, Wide, Width};
 use std::alloc::Global;
 
 /// An item to be archived.

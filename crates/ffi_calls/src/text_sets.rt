@@ -15,8 +15,7 @@ use crate::sets::contains_in;
 use crate::status::NOT_TEXT;
 use crate::texts::text_of;
 use crate::walk::next_pairs_in;
-use rkyv_base::text::Text;
-use rkyv_base::width::{Narrow, Wide};
+use rkyv_base::{Narrow, Text, Wide};
 use rkyv_table::table::decoded::Decoded;
 
 /// Validates the archive of a set of texts.

@@ -17,8 +17,7 @@ use crate::lookup::{get_in, set_in};
 use crate::pairs::StepOf;
 use crate::status::NOT_TEXT;
 use crate::walk::next_pairs_in;
-use rkyv_base::text::Text;
-use rkyv_base::width::{Narrow, Wide};
+use rkyv_base::{Narrow, Text, Wide};
 use rkyv_table::table::decoded::Decoded;
 
 /// Returns the bytes as a text, or `None` if they aren't UTF-8.

@@ -9,7 +9,7 @@ use crate::building::{Built, archive_of, leak_into, reserved};
 use crate::pairs::PairOf;
 use crate::status::{NOT_TEXT, or_status};
 use crate::texts::text_of;
-use rkyv_base::width::{Narrow, Wide, Width};
+use rkyv_base::{Narrow, Wide, Width};
 use std::alloc::Global;
 
 /// Returns the pairs of the items.

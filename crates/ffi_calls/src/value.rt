@@ -3,7 +3,7 @@
 ghost use Rattle.std.specs.Prelude.{IfSome, MatchOption, ◌<◌, ◌^◌, ◌≡◌, ◌≤◌};
 ghost use mir.Val.{bits};
 
-use rkyv_base::scalars::Scalar;
+use rkyv_base::Scalar;
 
 /// The value of a key, which is a number.
 pub(crate) trait Value: Scalar {

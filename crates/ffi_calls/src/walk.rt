@@ -9,10 +9,7 @@ ghost use Rattle.ffi_calls.specs.{StoresNextPairs, map_in};
 
 use crate::pairs::{Pair, Step, StepOf};
 use crate::reading::ReadAs;
-use rkyv_base::element::Element;
-use rkyv_base::entry::Entry;
-use rkyv_base::view::View;
-use rkyv_base::width::Width;
+use rkyv_base::{Element, Entry, View, Width};
 use rkyv_table::controls::numbers::control_count;
 use rkyv_table::controls::walk::next_full;
 use rkyv_table::table::decoded::Decoded;

@@ -73,8 +73,7 @@ pub fn access_in<'a, W: Width, T: Element>(bytes: &'a [u8]) -> Result<View<'a, T
 ///
 /// ```rust
 /// use rkyv_base::access::access;
-/// use rkyv_base::entry::Entry;
-/// use rkyv_base::errors::VerifyError;
+/// use rkyv_base::{Entry, VerifyError};
 ///
 /// // Returns the key and the value of a pair in an archive.
 /// fn pair_of(archive: &[u8]) -> Result<(u8, u32), VerifyError> {

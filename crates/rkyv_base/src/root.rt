@@ -108,7 +108,7 @@ pub fn write_root<S: Writer, V: Serialize<S, Narrow>>(
 /// # Examples
 ///
 /// ```rust
-/// use rkyv_base::root::to_bytes;
+/// use rkyv_base::to_bytes;
 ///
 /// let bytes = to_bytes(rt.alloc(), &(1u8, 2u32))?;
 /// assert_eq!(rt; bytes.as_slice(), [1, 0, 0, 0, 2, 0, 0, 0].as_slice());

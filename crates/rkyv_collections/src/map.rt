@@ -17,10 +17,9 @@ pub mod laws;
 pub mod read;
 pub mod write;
 
-use rkyv_base::element::HasSpec;
-use rkyv_base::view::View;
-use rkyv_base::width::{Narrow, Word};
-use rkyv_scan::hash::FxHasher64;
+use rkyv_base::width::Word;
+use rkyv_base::{HasSpec, Narrow, View};
+use rkyv_scan::FxHasher64;
 use rkyv_table::table::decoded::Decoded;
 use std::alloc::AllocError;
 use std::marker::PhantomData;

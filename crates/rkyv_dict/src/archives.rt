@@ -18,16 +18,11 @@ ghost use Rattle.rkyv_dict.specs.{parts_by, root, value_found, value_line, value
 
 use crate::form::{ArchiveWidth, Form, Key, Kind, PairList};
 use crate::parts::Printable;
-use rkyv_base::access::{access_in, access_unchecked};
-use rkyv_base::archive::Serialize;
-use rkyv_base::errors::{VerifyError, WriteError};
-use rkyv_base::root::to_bytes_in;
-use rkyv_base::text::Text;
-use rkyv_base::view::View;
-use rkyv_base::width::{Narrow, Wide, Width};
-use rkyv_base::writer::{NoMemory, VecWriter};
-use rkyv_collections::map::{ArchivedHashMap, HashMapOf};
-use rkyv_collections::{FxHasher64, MapPairs, NativeKey, Query};
+use rkyv_base::{
+    Narrow, NoMemory, Serialize, Text, VecWriter, VerifyError, View, Wide, Width, WriteError,
+    access_in, access_unchecked, to_bytes_in,
+};
+use rkyv_collections::{ArchivedHashMap, FxHasher64, HashMapOf, MapPairs, NativeKey, Query};
 use std::alloc::{AllocError, Global};
 
 /// Appends the text and a line feed.

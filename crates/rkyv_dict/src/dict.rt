@@ -20,8 +20,7 @@ use crate::form::{ArchiveWidth, Form, Key, Kind, PairList};
 use crate::hex::push_hex;
 use crate::pairs::{count_of, kind_of, no_pairs, put_numbers, put_texts};
 use crate::script::{Command, read_command};
-use rkyv_base::errors::{VerifyError, WriteError};
-use rkyv_base::writer::NoMemory;
+use rkyv_base::{NoMemory, VerifyError, WriteError};
 use std::alloc::{AllocError, Global};
 
 /// The bytes of an archive.

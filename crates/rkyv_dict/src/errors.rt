@@ -2,8 +2,7 @@
 ghost use Rattle.rkyv_dict.specs.{cause_text, is_allocation_failure, verify_error_text};
 ghost use Rattle.std.specs.Prelude.{◌≡◌};
 
-use rkyv_base::errors::{VerifyError, WriteError};
-use rkyv_base::writer::NoMemory;
+use rkyv_base::{NoMemory, VerifyError, WriteError};
 
 /// Returns the number and the name of a validation error.
 #[tactic(auto, unfolding(crate::specs::Errors::verify_error_text))]

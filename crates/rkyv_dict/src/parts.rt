@@ -5,9 +5,7 @@ ghost use Rattle.rkyv_base.specs.{IsValidView, text_at, text_spec};
 ghost use Rattle.rkyv_keys.specs.{at_view};
 ghost use Rattle.rkyv_dict.specs.{AppendsText, number_spec, number_text};
 
-use rkyv_base::text::Text;
-use rkyv_base::view::View;
-use rkyv_base::width::Width;
+use rkyv_base::{Text, View, Width};
 use rkyv_collections::KeyElement;
 use std::alloc::AllocError;
 

@@ -2,9 +2,7 @@
 ghost use Rattle.std.specs.Prelude.{ℕ};
 ghost use Rattle.rkyv_end_to_end.specs.{ListsAreValid, encoding};
 
-use rkyv_base::archive::Archive;
-use rkyv_base::lend::Lend;
-use rkyv_base::width::Width;
+use rkyv_base::{Archive, Lend, Width};
 use rkyv_table::table::laws::walk_visits_homes;
 use rkyv_table::table::laws::written::{
     represented_lists_were_written, written_tables_pass, written_tables_represent,

@@ -9,13 +9,9 @@ ghost use Rattle.rkyv_end_to_end.specs.{CanCompareItems, LooksOver, LooksUpIn, R
 ghost use Rattle.rkyv_end_to_end.specs.{ReadsWithinBound};
 ghost use Rattle.rkyv_end_to_end.specs.declared.looking.LookError.TheVariants.{Memory, Verify};
 
-use rkyv_base::element::{Element, PartRange};
-use rkyv_base::errors::VerifyError;
-use rkyv_base::view::{View, found_pos};
-use rkyv_base::width::Width;
-use rkyv_table::Strides;
+use rkyv_base::{Element, PartRange, VerifyError, View, Width, found_pos};
 use rkyv_table::controls::laws::walked_are_full;
-use rkyv_table::table::ArchivedHashTable;
+use rkyv_table::{ArchivedHashTable, Strides};
 use std::alloc::{AllocError, Global};
 use thiserror::Error;
 

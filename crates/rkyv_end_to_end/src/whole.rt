@@ -7,13 +7,9 @@ ghost use Rattle.rkyv_end_to_end.specs.declared.whole.ListError.TheVariants.{Loo
 use crate::laws::written_lists_represent;
 use crate::looking::{LookError, TableReport, look_over};
 use crate::writing::write_list;
-use rkyv_base::archive::{Archive, Serialize};
-use rkyv_base::element::PartRange;
-use rkyv_base::errors::WriteError;
-use rkyv_base::lend::Lend;
-use rkyv_base::view::View;
-use rkyv_base::width::Width;
-use rkyv_base::writer::{NoMemory, VecWriter, Writer};
+use rkyv_base::{
+    Archive, Lend, NoMemory, PartRange, Serialize, VecWriter, View, Width, WriteError, Writer,
+};
 use rkyv_table::table::laws::lookups_find_the_first;
 use std::alloc::Global;
 use thiserror::Error;

@@ -2,11 +2,8 @@
 
 ghost use Rattle.rkyv_end_to_end.specs.{WritesList, encoding, list_of, pairs_of};
 
-use rkyv_base::archive::{Serialize, WriteResult};
-use rkyv_base::lend::Lend;
-use rkyv_base::width::Width;
-use rkyv_base::writer::{Writer, align_for_in, append_in};
-use rkyv_table::table::{ArchivedHashTable, TableOf};
+use rkyv_base::{Lend, Serialize, Width, WriteResult, Writer, align_for_in, append_in};
+use rkyv_table::{ArchivedHashTable, TableOf};
 use std::alloc::Global;
 
 /// The positions of a written list.

@@ -19,11 +19,9 @@ use crate::map::{ArchivedIndexMap, IndexMapOf};
 use crate::set::write::IndexSetResolver;
 use crate::set::{ArchivedIndexSet, IndexSetOf};
 use crate::width::IndexWidth;
-use rkyv_base::archive::{Archive, ResolveResult, Serialize, WriteResult};
-use rkyv_base::element::Represents;
-use rkyv_base::writer::Writer;
-use rkyv_keys::keys::{KeyElement, NativeKey};
-use rkyv_scan::hash::FxHasher64;
+use rkyv_base::{Archive, Represents, ResolveResult, Serialize, WriteResult, Writer};
+use rkyv_keys::{KeyElement, NativeKey};
+use rkyv_scan::FxHasher64;
 use rkyv_table::table::list_inputs::{PairRefs, Refs};
 use std::alloc::Global;
 

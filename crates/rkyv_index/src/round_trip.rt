@@ -10,15 +10,10 @@ use crate::map::{ArchivedIndexMap, IndexMapOf};
 use crate::set::laws::items_read_back_are_listed;
 use crate::set::{ArchivedIndexSet, IndexSetOf};
 use crate::width::IndexWidth;
-use rkyv_base::access::access_in;
-use rkyv_base::archive::{Archive, Serialize};
 pub use rkyv_base::errors::RoundTripError;
-use rkyv_base::root::to_bytes_in;
-use rkyv_base::writer::VecWriter;
-use rkyv_keys::deserialize::Deserialize;
-use rkyv_keys::equality::RepresentsUniquely;
-use rkyv_keys::keys::{KeyElement, NativeKey};
-use rkyv_scan::hash::FxHasher64;
+use rkyv_base::{Archive, Serialize, VecWriter, access_in, to_bytes_in};
+use rkyv_keys::{Deserialize, KeyElement, NativeKey, RepresentsUniquely};
+use rkyv_scan::FxHasher64;
 use std::alloc::Global;
 
 /// Writes a list of pairs, opens the archive, deserializes the index map and compares the lists.

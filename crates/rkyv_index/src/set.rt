@@ -14,9 +14,9 @@ pub mod laws;
 pub mod write;
 
 use crate::map::ArchivedIndexMap;
-use rkyv_base::element::HasSpec;
-use rkyv_base::width::{Narrow, Word};
-use rkyv_scan::hash::FxHasher64;
+use rkyv_base::width::Word;
+use rkyv_base::{HasSpec, Narrow};
+use rkyv_scan::FxHasher64;
 use std::alloc::AllocError;
 use std::marker::PhantomData;
 

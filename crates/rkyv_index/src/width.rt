@@ -8,8 +8,7 @@ ghost use mir.Val.{bits};
 ghost use Rattle.rkyv_base.specs.{IsIndexEncoding};
 ghost use Rattle.rkyv_index.specs.{CodesReadBack};
 
-use rkyv_base::scalars::Scalar;
-use rkyv_base::width::{Narrow, Wide, Width};
+use rkyv_base::{Narrow, Scalar, Wide, Width};
 
 /// A width whose numbers can be indices of entries.
 ///

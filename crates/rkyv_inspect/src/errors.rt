@@ -2,8 +2,8 @@
 ghost use Rattle.std.specs.Prelude.{◌≡◌};
 ghost use Rattle.rkyv_inspect.specs.declared.errors.InspectError.TheVariants.{Invalid, Memory};
 
-use rkyv_base::errors::VerifyError;
-use rkyv_container::contents::ItemType;
+use rkyv_base::VerifyError;
+use rkyv_container::ItemType;
 use std::alloc::AllocError;
 use thiserror::Error;
 

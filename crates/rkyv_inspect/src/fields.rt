@@ -6,12 +6,8 @@ ghost use Rattle.rkyv_base.specs.{unit_spec, unsigned};
 ghost use Rattle.rkyv_inspect.specs.{AreInRange, Parts, no_part, part_of_text};
 ghost use Rattle.rkyv_inspect.specs.Lemmas.Fields.{no_part_in_range, text_part_in_range};
 
-use rkyv_base::element::{Element, PartRange};
-use rkyv_base::entry::Entry;
-use rkyv_base::text::Text;
-use rkyv_base::view::View;
-use rkyv_base::width::Width;
-use rkyv_keys::debug::{ElementDebug, Shown, valid_at};
+use rkyv_base::{Element, Entry, PartRange, Text, View, Width};
+use rkyv_keys::{ElementDebug, Shown, valid_at};
 use std::alloc::{AllocError, Global};
 
 /// The position of the out-of-line bytes of a value.

@@ -10,11 +10,8 @@ use crate::fields::{Field, pair_text};
 use crate::map_regions::{add_header, add_pair_parts};
 use crate::regions::{Region, RegionKind, RegionList};
 use crate::table_regions::{Buckets, IndexItem};
-use rkyv_base::element::Element;
-use rkyv_base::entry::Entry;
-use rkyv_base::view::View;
-use rkyv_index::width::IndexWidth;
-use rkyv_index::{ArchivedIndexMap, IndexMapOf};
+use rkyv_base::{Element, Entry, View};
+use rkyv_index::{ArchivedIndexMap, IndexMapOf, IndexWidth};
 use std::alloc::{AllocError, Global};
 
 /// Appends the regions of the out-of-line bytes of all pairs, in order.

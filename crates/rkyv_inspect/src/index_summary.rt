@@ -10,12 +10,10 @@ ghost use Rattle.rkyv_inspect.specs.{index_key_strides, key_type, keyed_map};
 use crate::histogram::{count_one, zeros};
 use crate::map_summary::{controls_of, most_strides};
 use crate::summary::{Lookups, Summary};
-use rkyv_base::element::Element;
-use rkyv_base::view::View;
-use rkyv_index::width::IndexWidth;
-use rkyv_index::{ArchivedIndexMap, IndexMapOf};
-use rkyv_keys::keys::KeyElement;
-use rkyv_scan::hash::KeyHasher;
+use rkyv_base::{Element, View};
+use rkyv_index::{ArchivedIndexMap, IndexMapOf, IndexWidth};
+use rkyv_keys::KeyElement;
+use rkyv_scan::KeyHasher;
 use rkyv_table::Strides;
 use std::alloc::{AllocError, Global};
 

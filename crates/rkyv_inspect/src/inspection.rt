@@ -10,15 +10,12 @@ use crate::map_regions::map_regions;
 use crate::map_summary::map_summary;
 use crate::regions::Region;
 use crate::summary::Summary;
-use rkyv_base::access::access_in;
-use rkyv_base::text::Text;
-use rkyv_base::width::{Narrow, Wide};
-use rkyv_collections::map::HashMapOf;
-use rkyv_container::contents::{Contents, ItemType, Kind, Width};
-use rkyv_index::IndexMapOf;
-use rkyv_index::width::IndexWidth;
-use rkyv_keys::keys::KeyElement;
-use rkyv_scan::hash::FxHasher64;
+use rkyv_base::{Narrow, Text, Wide, access_in};
+use rkyv_collections::HashMapOf;
+use rkyv_container::{Contents, ItemType, Kind, Width};
+use rkyv_index::{IndexMapOf, IndexWidth};
+use rkyv_keys::KeyElement;
+use rkyv_scan::FxHasher64;
 use std::alloc::Global;
 
 /// The inspection of a valid archive.

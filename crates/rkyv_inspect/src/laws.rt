@@ -7,8 +7,7 @@ ghost use Rattle.std.specs.Prelude.{false, true, ◌≡◌};
 ghost use Rattle.rkyv_inspect.specs.{SameParts, no_part, part_of_text};
 
 use crate::fields::Field;
-use rkyv_base::text::Text;
-use rkyv_base::width::Width;
+use rkyv_base::{Text, Width};
 
 /// States which types have a text: numbers and texts, but not the unit type.
 pub fn numbers_and_texts_are_shown<W: Width>()

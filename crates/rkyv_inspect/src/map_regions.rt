@@ -11,11 +11,8 @@ ghost use Rattle.rkyv_inspect.specs.{part_end, part_field};
 use crate::fields::{Field, Part};
 use crate::regions::{Region, RegionKind, RegionList};
 use crate::table_regions::Buckets;
-use rkyv_base::element::Element;
-use rkyv_base::entry::Entry;
-use rkyv_base::view::View;
-use rkyv_base::width::Width;
-use rkyv_collections::map::{ArchivedHashMap, HashMapOf};
+use rkyv_base::{Element, Entry, View, Width};
+use rkyv_collections::{ArchivedHashMap, HashMapOf};
 use rkyv_table::table::decoded::Decoded;
 use std::alloc::{AllocError, Global};
 

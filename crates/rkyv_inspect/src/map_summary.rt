@@ -9,14 +9,10 @@ ghost use Rattle.rkyv_inspect.specs.{key_type, keyed_map, some_controls};
 
 use crate::histogram::{count_one, zeros};
 use crate::summary::{Lookups, Summary};
-use rkyv_base::element::Element;
-use rkyv_base::entry::Entry;
-use rkyv_base::view::View;
-use rkyv_base::width::Width;
-use rkyv_collections::map::{ArchivedHashMap, HashMapOf};
-use rkyv_keys::hash::hash_value;
-use rkyv_keys::keys::KeyElement;
-use rkyv_scan::hash::KeyHasher;
+use rkyv_base::{Element, Entry, View, Width};
+use rkyv_collections::{ArchivedHashMap, HashMapOf};
+use rkyv_keys::{KeyElement, hash_value};
+use rkyv_scan::KeyHasher;
 use rkyv_table::{ArchivedHashTable, Strides, TableOf};
 use std::alloc::{AllocError, Global};
 

@@ -4,8 +4,7 @@ ghost use Rattle.std.specs.Prelude.{◌≡◌};
 use crate::inspection::Inspection;
 use crate::regions::{Region, RegionKind, bytes_in};
 use crate::summary::{Lookups, Summary};
-use rkyv_container::Header;
-use rkyv_container::contents::ItemType;
+use rkyv_container::{Header, ItemType};
 use std::fmt::{self, Display, Formatter, Write};
 
 /// The number of bytes of a region that are printed.

@@ -8,8 +8,7 @@ ghost use Rattle.rkyv_inspect.specs.{table_fields};
 
 use crate::fields::{Field, pair_text};
 use crate::regions::{RegionKind, RegionList, bytes_in};
-use rkyv_base::entry::Entry;
-use rkyv_base::width::Width;
+use rkyv_base::{Entry, Width};
 use rkyv_table::controls::numbers::control_count;
 use std::alloc::{AllocError, Global};
 use std::marker::PhantomData;

@@ -1,7 +1,7 @@
 //! The errors of the program.
 ghost use Rattle.rkyv_inspect_program.specs.{IsCausedBy, IsContainerError, IsFileError};
 
-use rkyv_base::errors::VerifyError;
+use rkyv_base::VerifyError;
 use rkyv_container::ContainerError;
 use rkyv_inspect::InspectError;
 use std::alloc::{AllocError, Global};

@@ -7,8 +7,7 @@ ghost use Rattle.rkyv_inspect_program.specs.{InspectsBare, InspectsContainer, In
 ghost use Rattle.rkyv_inspect_program.specs.{OpenFileFails, stride_limit};
 
 use crate::errors::{ProgramError, container_error, inspect_error};
-use rkyv_container::contents::Contents;
-use rkyv_container::{Header, open};
+use rkyv_container::{Contents, Header, open};
 use rkyv_inspect::{Inspection, inspect};
 use std::alloc::Global;
 

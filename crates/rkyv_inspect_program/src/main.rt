@@ -14,7 +14,7 @@ use crate::errors::{ProgramError, file_error};
 use crate::file_inspection::{FileInspection, inspect_bytes};
 use crate::options::{Options, USAGE};
 use crate::outcome::{Outcome, exit_status};
-use rkyv_container::contents::Contents;
+use rkyv_container::Contents;
 use rkyv_inspect::{ContainerLine, Drawing, Printed};
 use std::alloc::AllocError;
 use std::io::{BufWriter, Write};

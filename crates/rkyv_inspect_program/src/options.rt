@@ -6,7 +6,7 @@ ghost use Rattle.rkyv_inspect_program.specs.{IsAfter, IsBare, NamesContents, Nam
 ghost use Rattle.rkyv_inspect_program.specs.{NamesNoOptions, NamesOptions, awaiting, kind_named};
 ghost use Rattle.rkyv_inspect_program.specs.{name_of, type_named, value_of, whole, width_named};
 
-use rkyv_container::contents::{Contents, ItemType, Kind, Width};
+use rkyv_container::{Contents, ItemType, Kind, Width};
 
 /// What `--help` prints.
 pub const USAGE: &str = "usage: inspect [OPTION ..] FILE

@@ -7,9 +7,7 @@ ghost use Rattle.std.specs.Prelude.{◌≡◌, MatchOption};
 ghost use Rattle.rkyv_base.specs.{IsAt, IsValidView, Viewable, entry_spec, unit_spec};
 
 use crate::scalars::ScalarKey;
-use rkyv_base::element::{Element, PartRange};
-use rkyv_base::entry::Entry;
-use rkyv_base::view::View;
+use rkyv_base::{Element, Entry, PartRange, View};
 use std::fmt::{self, Debug, Formatter, Write};
 
 /// An element whose values can be formatted in place.

@@ -6,9 +6,7 @@ ghost use Rattle.std.specs.Prelude.{MatchResult};
 ghost use Rattle.rkyv_base.specs.{AtView, IsValidView};
 ghost use Rattle.rkyv_keys.specs.{DeserializeErrors};
 
-use rkyv_base::element::Represents;
-use rkyv_base::errors::ReadError;
-use rkyv_base::view::View;
+use rkyv_base::{ReadError, Represents, View};
 use std::alloc::Global;
 
 /// An element whose values can be deserialized as values of the type `V`.

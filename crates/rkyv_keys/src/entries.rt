@@ -20,12 +20,8 @@ use crate::equality::{
 };
 use crate::hash::KeyHash;
 use crate::keys::{FixedKey, KeyElement, NativeKey, Query};
-use rkyv_base::element::Represents;
-use rkyv_base::entry::Entry;
-use rkyv_base::errors::ReadError;
-use rkyv_base::view::View;
-use rkyv_base::width::Width;
-use rkyv_scan::hash::KeyHasher;
+use rkyv_base::{Entry, ReadError, Represents, View, Width};
+use rkyv_scan::KeyHasher;
 use std::alloc::Global;
 
 impl<A: KeyHash, B: KeyHash> KeyHash for (A, B) {

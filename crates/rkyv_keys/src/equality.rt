@@ -10,10 +10,7 @@ ghost use Rattle.rkyv_base.specs.{AtView, IsFormat, IsValidView};
 ghost use Rattle.rkyv_keys.specs.{Comparison, EqualsUniquely, IsEquivalence, RepresentsUniquely};
 ghost use Rattle.rkyv_keys.specs.{at_views};
 
-use rkyv_base::archive::Archive;
-use rkyv_base::element::{Element, Represents};
-use rkyv_base::view::View;
-use rkyv_base::width::Width;
+use rkyv_base::{Archive, Element, Represents, View, Width};
 
 /// An element whose values can be compared in place, within one archive or between two.
 ///

@@ -7,7 +7,7 @@ ghost use Rattle.rkyv_scan.specs.{HasherCall, Isize, Usize, hash_of_calls};
 ghost use Rattle.rkyv_keys.specs.Calls.{after_calls};
 ghost use Rattle.rkyv_keys.specs.Keys.{ReadsAnywhere};
 
-use rkyv_scan::hash::KeyHasher;
+use rkyv_scan::KeyHasher;
 
 /// A value that is hashed by a list of calls, which is a function of the value.
 ///

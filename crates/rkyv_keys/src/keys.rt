@@ -12,9 +12,8 @@ ghost use Rattle.rkyv_keys.specs.{at_view};
 
 use crate::equality::ElementEquiv;
 use crate::hash::KeyHash;
-use rkyv_base::element::Represents;
-use rkyv_base::view::View;
-use rkyv_scan::hash::KeyHasher;
+use rkyv_base::{Represents, View};
+use rkyv_scan::KeyHasher;
 
 /// An element whose values are hashed in place.
 ///

@@ -19,11 +19,7 @@ use crate::equality::{ElementEq, MatchesNative};
 use crate::hash::KeyHash;
 use crate::keys::{KeyElement, NativeKey, Query};
 use crate::scalars::ScalarKey;
-use rkyv_base::element::Represents;
-use rkyv_base::entry::Entry;
-use rkyv_base::text::Text;
-use rkyv_base::view::View;
-use rkyv_base::width::Width;
+use rkyv_base::{Entry, Represents, Text, View, Width};
 
 /// States that a native key makes the calls of each archived key that represents it.
 pub fn native_keys_hash_as_written<K: KeyElement + Represents<V>, V: NativeKey<K>>()

@@ -15,11 +15,8 @@ use crate::equality::{
 };
 use crate::hash::KeyHash;
 use crate::keys::{FixedKey, KeyElement, NativeKey, NativeQuery, Query};
-use rkyv_base::errors::ReadError;
-use rkyv_base::text::Text;
-use rkyv_base::view::View;
-use rkyv_base::width::Width;
-use rkyv_scan::hash::KeyHasher;
+use rkyv_base::{ReadError, Text, View, Width};
+use rkyv_scan::KeyHasher;
 use std::alloc::Global;
 use std::fmt::{self, Debug, Formatter, Write};
 

@@ -9,8 +9,8 @@ ghost use Rattle.rkyv_keys.specs.Lemmas.OfViews.{view_query};
 
 use crate::hash::KeyHash;
 use crate::keys::{KeyElement, Query};
-use rkyv_base::view::View;
-use rkyv_scan::hash::KeyHasher;
+use rkyv_base::View;
+use rkyv_scan::KeyHasher;
 
 impl<'a, K: KeyElement> KeyHash for View<'a, K> {
     ghost calls = { at_view K.key_calls };

@@ -38,9 +38,8 @@ mod take_two;
 mod verify;
 
 use crate::table::decoded::Decoded;
-use rkyv_base::element::HasSpec;
-use rkyv_base::view::View;
-use rkyv_base::width::{Narrow, Word};
+use rkyv_base::width::Word;
+use rkyv_base::{HasSpec, Narrow, View};
 use std::alloc::AllocError;
 use std::marker::PhantomData;
 

@@ -10,13 +10,8 @@ ghost use Rattle.rkyv_user_types.specs.{RepresentsAsPair, equals_as};
 
 use crate::pair::{AsPair, FromPair, PairEntry};
 use crate::tuple::{AsTuple, FromTuple, TupleEntry};
-use rkyv_base::archive::Archive;
-use rkyv_base::element::Represents;
-use rkyv_base::entry::Entry;
-use rkyv_base::width::Width;
-use rkyv_keys::deserialize::Deserialize;
-use rkyv_keys::equality::MatchesNative;
-use rkyv_keys::hash::KeyHash;
+use rkyv_base::{Archive, Entry, Represents, Width};
+use rkyv_keys::{Deserialize, KeyHash, MatchesNative};
 
 /// States that a `PairEntry` is archived and represented as the pair of its parts.
 pub fn pairs_are_archived_as_their_parts<

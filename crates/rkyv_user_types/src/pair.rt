@@ -9,13 +9,10 @@ ghost use Rattle.rkyv_base.specs.{pair_format, written_as};
 ghost use Rattle.rkyv_base.specs.Lemmas.Pairs.{pair_local};
 ghost use Rattle.rkyv_user_types.specs.Lemmas.Wrapped.{pair_as_format};
 
-use rkyv_base::adapter::EntryAdapter;
-use rkyv_base::archive::{Archive, ResolveResult, Serialize, WriteResult};
-use rkyv_base::element::Represents;
-use rkyv_base::entry::Entry;
-use rkyv_base::pairs::EntryResolver;
-use rkyv_base::width::Width;
-use rkyv_base::writer::Writer;
+use rkyv_base::{
+    Archive, Entry, EntryAdapter, EntryResolver, Represents, ResolveResult, Serialize, Width,
+    WriteResult, Writer,
+};
 use std::alloc::Global;
 
 /// A type that returns its two parts by reference.

@@ -11,17 +11,12 @@ ghost use Rattle.rkyv_user_types.specs.{RepresentsAsPair, equals_as};
 ghost use Rattle.rkyv_user_types.specs.Lemmas.Wrapped.{pair_as_format, query_as};
 
 use crate::pair::{AsPair, FromPair, PairEntry};
-use rkyv_base::archive::Archive;
-use rkyv_base::element::Represents;
-use rkyv_base::entry::Entry;
-use rkyv_base::errors::ReadError;
-use rkyv_base::view::View;
-use rkyv_base::width::Width;
-use rkyv_keys::deserialize::Deserialize;
-use rkyv_keys::equality::{EqualsUniquely, EqualsWritten, MatchesNative, RepresentsUniquely};
-use rkyv_keys::hash::KeyHash;
-use rkyv_keys::keys::{KeyElement, NativeKey, Query};
-use rkyv_scan::hash::KeyHasher;
+use rkyv_base::{Archive, Entry, ReadError, Represents, View, Width};
+use rkyv_keys::{
+    Deserialize, EqualsUniquely, EqualsWritten, KeyElement, KeyHash, MatchesNative, NativeKey,
+    Query, RepresentsUniquely,
+};
+use rkyv_scan::KeyHasher;
 use std::alloc::Global;
 
 impl<A: PartialEq, B: PartialEq, T: AsPair<First = A, Second = B>> PartialEq for PairEntry<T> {

@@ -1,11 +1,8 @@
 //! Tests of a list in both widths, and of archives from other sources.
 
-use rkyv_base::element::PartRange;
-use rkyv_base::entry::Entry;
-use rkyv_base::errors::VerifyError;
-use rkyv_base::limit::LimitWriter;
-use rkyv_base::width::{Narrow, Wide, Width};
-use rkyv_base::writer::{VecWriter, Writer};
+use rkyv_base::{
+    Entry, LimitWriter, Narrow, PartRange, VecWriter, VerifyError, Wide, Width, Writer,
+};
 use rkyv_end_to_end::{
     LookError, TableReport, look_over, write_and_look_over, write_list, written_lists_represent,
 };

@@ -1,6 +1,6 @@
 //! Archives with a changed byte, and the results for them.
 
-use rkyv_base::errors::VerifyError;
+use rkyv_base::VerifyError;
 
 /// Writes `byte` at `pos`, if the archive has this position. Returns `pos`.
 pub fn change(archive: &mut [u8], pos: u64, byte: u8) -> u64 {

@@ -1,10 +1,8 @@
 //! The number of calls of the iterators whose items are written, and the outcomes of the writes.
 
-use rkyv_base::errors::{IteratorLengthMismatch, WriteError};
-use rkyv_base::width::Narrow;
-use rkyv_base::writer::{NoMemory, VecWriter};
+use rkyv_base::{IteratorLengthMismatch, Narrow, NoMemory, VecWriter, WriteError};
 use rkyv_scan::simd::generic;
-use rkyv_table::table::ArchivedHashTable;
+use rkyv_table::ArchivedHashTable;
 use std::alloc::Global;
 use std::cell::Cell;
 use std::iter;

@@ -2,7 +2,7 @@
 //! the lengths of their pieces.
 ghost use Rattle.std.specs.Prelude.{[], min, ◌+◌, ◌-◌, ◌^◌, ◌≡◌, ◌≤◌};
 
-use rkyv_base::writer::Writer;
+use rkyv_base::Writer;
 use std::alloc::Global;
 
 /// A writer into memory whose first position is 4,294,967,290.

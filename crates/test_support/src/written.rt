@@ -1,9 +1,6 @@
 //! Comparisons of archives with known bytes.
 
-use rkyv_base::archive::Serialize;
-use rkyv_base::root::to_bytes;
-use rkyv_base::width::Narrow;
-use rkyv_base::writer::VecWriter;
+use rkyv_base::{Narrow, Serialize, VecWriter, to_bytes};
 use std::alloc::Global;
 
 /// Returns whether the narrow archive of a value has these bytes.

@@ -11,10 +11,9 @@ ghost use Rattle.test_user_types.specs.contracts.color.Color.{the_type};
 ghost use Rattle.test_user_types.specs.Lemmas.Color.{color_codes};
 
 use crate::color::Color;
-use rkyv_base::element::HasSpec;
-use rkyv_base::scalars::Scalar;
-use rkyv_keys::scalars::ScalarKey;
-use rkyv_scan::hash::KeyHasher;
+use rkyv_base::{HasSpec, Scalar};
+use rkyv_keys::ScalarKey;
+use rkyv_scan::KeyHasher;
 
 /// Returns the number of a color.
 fn number(color: Color) -> u8

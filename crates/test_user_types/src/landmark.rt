@@ -1,6 +1,6 @@
 //! Landmarks, which have three parts: an owned text, and two numbers as one pair.
 
-use rkyv_user_types::pair::{AsPair, FromPair};
+use rkyv_user_types::{AsPair, FromPair};
 
 /// A name and its coordinates.
 #[derive(Debug, PartialEq, Drop)]

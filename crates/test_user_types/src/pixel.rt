@@ -1,6 +1,6 @@
 //! Pixels, which are archived as the tuple of their three parts.
 
-use rkyv_user_types::tuple::{AsTuple, FromTuple};
+use rkyv_user_types::{AsTuple, FromTuple};
 
 /// A pixel: its brightness and its coordinates.
 #[derive(Clone, Copy, Debug, PartialEq, Eq)]

@@ -1,6 +1,6 @@
 //! Points, which are archived as the pair of their coordinates.
 
-use rkyv_user_types::pair::{AsPair, FromPair};
+use rkyv_user_types::{AsPair, FromPair};
 
 /// A point of the plane.
 #[derive(Clone, Copy, Debug, PartialEq, Eq)]

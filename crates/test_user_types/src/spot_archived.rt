@@ -4,14 +4,10 @@ ghost use Rattle.test_user_types.specs.Spot.{SpotRepresents, spot_format, spot_s
 ghost use Rattle.test_user_types.specs.Lemmas.Spot.{spot_element, spot_is_format, spot_local};
 
 use crate::spot::Spot;
-use rkyv_base::archive::{Archive, ResolveResult, Serialize, WriteResult};
-use rkyv_base::element::{Element, HasSpec, PartRange, Represents};
-use rkyv_base::entry::Entry;
-use rkyv_base::errors::VerifyError;
-use rkyv_base::pairs::EntryResolver;
-use rkyv_base::view::View;
-use rkyv_base::width::Width;
-use rkyv_base::writer::Writer;
+use rkyv_base::{
+    Archive, Element, Entry, EntryResolver, HasSpec, PartRange, Represents, ResolveResult,
+    Serialize, VerifyError, View, Width, WriteResult, Writer,
+};
 use std::alloc::Global;
 
 /// A spot in an archive.

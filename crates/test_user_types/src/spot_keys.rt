@@ -9,14 +9,11 @@ ghost use Rattle.test_user_types.specs.Lemmas.SpotKeys.{spot_key, spot_query};
 
 use crate::spot::Spot;
 use crate::spot_archived::{ArchivedSpot, spot_of};
-use rkyv_base::entry::Entry;
-use rkyv_base::errors::ReadError;
-use rkyv_base::view::View;
-use rkyv_keys::deserialize::Deserialize;
-use rkyv_keys::equality::{ElementEq, ElementEquiv, MatchesNative};
-use rkyv_keys::hash::KeyHash;
-use rkyv_keys::keys::{KeyElement, NativeKey, Query};
-use rkyv_scan::hash::KeyHasher;
+use rkyv_base::{Entry, ReadError, View};
+use rkyv_keys::{
+    Deserialize, ElementEq, ElementEquiv, KeyElement, KeyHash, MatchesNative, NativeKey, Query,
+};
+use rkyv_scan::KeyHasher;
 use std::alloc::Global;
 
 impl ElementEq for ArchivedSpot {

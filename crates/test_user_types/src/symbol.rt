@@ -1,6 +1,6 @@
 //! Symbols, which are archived as the pair of a text and a number.
 
-use rkyv_user_types::pair::AsPair;
+use rkyv_user_types::AsPair;
 
 /// A name and its address.
 #[derive(Debug, Drop)]

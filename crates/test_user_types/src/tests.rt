@@ -12,18 +12,10 @@ use crate::spot_archived::{ArchivedSpot, spot_of};
 use crate::symbol::Symbol;
 use crate::wide::{archive_wide, wide_name};
 use rkyv_base::access::access;
-use rkyv_base::element::Element;
-use rkyv_base::entry::Entry;
-use rkyv_base::errors::VerifyError;
-use rkyv_base::root::to_bytes;
-use rkyv_base::text::Text;
-use rkyv_keys::deserialize::Deserialize;
-use rkyv_keys::equality::MatchesNative;
-use rkyv_keys::hash::hash_value;
-use rkyv_keys::keys::Query;
-use rkyv_scan::hash::FxHasher64;
-use rkyv_user_types::pair::PairEntry;
-use rkyv_user_types::tuple::TupleEntry;
+use rkyv_base::{Element, Entry, Text, VerifyError, to_bytes};
+use rkyv_keys::{Deserialize, MatchesNative, Query, hash_value};
+use rkyv_scan::FxHasher64;
+use rkyv_user_types::{PairEntry, TupleEntry};
 use std::test::Fail;
 
 #[test]

@@ -1,14 +1,8 @@
 //! Symbols in a wide archive, whose text is `Text<Wide>`.
 
 use crate::symbol::Symbol;
-use rkyv_base::access::access_in;
-use rkyv_base::entry::Entry;
-use rkyv_base::errors::{VerifyError, WriteError};
-use rkyv_base::root::to_bytes_in;
-use rkyv_base::text::Text;
-use rkyv_base::width::Wide;
-use rkyv_base::writer::NoMemory;
-use rkyv_user_types::pair::PairEntry;
+use rkyv_base::{Entry, NoMemory, Text, VerifyError, Wide, WriteError, access_in, to_bytes_in};
+use rkyv_user_types::PairEntry;
 use std::alloc::Global;
 
 /// Returns the wide archive of a symbol.

@@ -9,12 +9,9 @@ ghost use Rattle.rkyv_collections.specs.Lemmas.MapSound.{listed_map_sound, map_l
 
 use crate::map::write::HashMapResolver;
 use crate::map::{ArchivedHashMap, HashMapOf};
-use rkyv_base::archive::{Archive, ResolveResult, Serialize, WriteResult};
-use rkyv_base::element::Represents;
-use rkyv_base::width::Width;
-use rkyv_base::writer::Writer;
-use rkyv_keys::keys::{KeyElement, NativeKey};
-use rkyv_scan::hash::{FxHasher64, KeyHasher};
+use rkyv_base::{Archive, Represents, ResolveResult, Serialize, Width, WriteResult, Writer};
+use rkyv_keys::{KeyElement, NativeKey};
+use rkyv_scan::{FxHasher64, KeyHasher};
 use rkyv_table::table::list_inputs::PairRefs;
 use std::alloc::Global;
 use std::marker::PhantomData;

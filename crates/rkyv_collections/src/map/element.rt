@@ -3,11 +3,9 @@ ghost use Rattle.rkyv_collections.specs.{map_spec};
 ghost use Rattle.rkyv_collections.specs.Lemmas.MapElement.{map_element};
 
 use crate::map::HashMapOf;
-use rkyv_base::element::{Element, HasSpec, PartRange};
-use rkyv_base::entry::Entry;
-use rkyv_base::errors::VerifyError;
-use rkyv_base::width::{Width, Word};
-use rkyv_table::table::{ArchivedHashTable, TableOf};
+use rkyv_base::width::Word;
+use rkyv_base::{Element, Entry, HasSpec, PartRange, VerifyError, Width};
+use rkyv_table::{ArchivedHashTable, TableOf};
 
 impl<K: HasSpec, V: HasSpec, H, W: Word> HasSpec for HashMapOf<K, V, H, W> {
     ghost spec = { map_spec W.word K.spec V.spec };

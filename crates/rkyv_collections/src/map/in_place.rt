@@ -31,13 +31,9 @@ pub mod sealed;
 pub mod text;
 
 use crate::map::ArchivedHashMap;
-use rkyv_base::element::{Element, Represents};
-use rkyv_base::scalars::Scalar;
-use rkyv_base::seal::set_at;
-use rkyv_base::view::{View, found_pos};
-use rkyv_base::width::Width;
-use rkyv_keys::keys::{KeyElement, NativeKey, Query};
-use rkyv_scan::hash::KeyHasher;
+use rkyv_base::{Element, Represents, Scalar, View, Width, found_pos, set_at};
+use rkyv_keys::{KeyElement, NativeKey, Query};
+use rkyv_scan::KeyHasher;
 
 /// Returns the map whose header is at `root` of an archive.
 #[inline]

@@ -22,11 +22,10 @@ pub mod written;
 use crate::lists::MapPairs;
 use crate::map::read::iter::{Iter, Keys, Values};
 use crate::map::{ArchivedHashMap, HashMapOf};
-use rkyv_base::element::{Element, HasSpec, Represents};
-use rkyv_base::width::{Width, Word};
-use rkyv_keys::equality::{ElementEq, ElementEquiv};
-use rkyv_keys::keys::{FixedKey, KeyElement, Query};
-use rkyv_scan::hash::{FxHasher64, KeyHasher};
+use rkyv_base::width::Word;
+use rkyv_base::{Element, HasSpec, Represents, Width};
+use rkyv_keys::{ElementEq, ElementEquiv, FixedKey, KeyElement, Query};
+use rkyv_scan::{FxHasher64, KeyHasher};
 
 /// States that the iterators yield the pairs, keys and values at their positions in turn.
 ///

@@ -12,18 +12,14 @@ mod hashing;
 
 use crate::map::ArchivedHashMap;
 use crate::map::write::hashing::HashedEntries;
-use rkyv_base::adapter::EntryAdapter;
-use rkyv_base::archive::{ResolveResult, Serialize, WriteResult};
-use rkyv_base::element::{HasSpec, Represents};
-use rkyv_base::entry::Entry;
-use rkyv_base::lend::Lend;
-use rkyv_base::width::{Narrow, Width};
-use rkyv_base::writer::Writer;
-use rkyv_keys::keys::{KeyElement, NativeKey};
-use rkyv_scan::hash::KeyHasher;
+use rkyv_base::{
+    Entry, EntryAdapter, HasSpec, Lend, Narrow, Represents, ResolveResult, Serialize, Width,
+    WriteResult, Writer,
+};
+use rkyv_keys::{KeyElement, NativeKey};
+use rkyv_scan::KeyHasher;
 use rkyv_scan::simd::lanes;
-use rkyv_table::table::ArchivedHashTable;
-use rkyv_table::table::resolve::HashTableResolver;
+use rkyv_table::{ArchivedHashTable, HashTableResolver};
 use std::alloc::Global;
 
 /// The resolver of a written map: that of the table of its entries.

@@ -17,12 +17,10 @@ ghost use Rattle.rkyv_collections.specs.Lemmas.MapElement.{map_element};
 use crate::map::read::iter::Keys;
 use crate::map::{ArchivedHashMap, HashMapOf};
 use crate::set::{ArchivedHashSet, HashSetOf};
-use rkyv_base::element::{Element, HasSpec, PartRange};
-use rkyv_base::errors::VerifyError;
-use rkyv_base::view::View;
-use rkyv_base::width::{Width, Word};
-use rkyv_keys::keys::{KeyElement, Query};
-use rkyv_scan::hash::KeyHasher;
+use rkyv_base::width::Word;
+use rkyv_base::{Element, HasSpec, PartRange, VerifyError, View, Width};
+use rkyv_keys::{KeyElement, Query};
+use rkyv_scan::KeyHasher;
 
 impl<K: HasSpec, H, W: Word> HasSpec for HashSetOf<K, H, W> {
     ghost spec = { set_spec W.word K.spec };

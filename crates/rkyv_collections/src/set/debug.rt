@@ -3,9 +3,8 @@ ghost use Rattle.rkyv_base.specs.{IsValidView};
 ghost use Rattle.rkyv_collections.specs.{set_spec};
 
 use crate::set::{ArchivedHashSet, HashSetOf};
-use rkyv_base::view::View;
-use rkyv_base::width::Width;
-use rkyv_keys::debug::{ElementDebug, Shown};
+use rkyv_base::{View, Width};
+use rkyv_keys::{ElementDebug, Shown};
 use std::fmt::{self, Debug, Formatter, Write};
 
 impl<K: ElementDebug, H, W: Width> ElementDebug for HashSetOf<K, H, W> {

@@ -6,11 +6,9 @@ ghost use Rattle.rkyv_collections.specs.{CountsKeysUpTo, set_bytes, set_equal, s
 ghost use Rattle.rkyv_collections.specs.{set_pos, set_spec, set_view};
 
 use crate::set::{ArchivedHashSet, HashSetOf};
-use rkyv_base::view::View;
-use rkyv_base::width::Width;
-use rkyv_keys::equality::ElementEq;
-use rkyv_keys::keys::KeyElement;
-use rkyv_scan::hash::KeyHasher;
+use rkyv_base::{View, Width};
+use rkyv_keys::{ElementEq, KeyElement};
+use rkyv_scan::KeyHasher;
 
 impl<'a, K: KeyElement, H: KeyHasher, W: Width> ArchivedHashSet<'a, K, H, W> {
     /// Returns `true` if and only if both sets have the same length and the same keys.

@@ -16,11 +16,10 @@ pub mod written;
 use crate::lists::SetItems;
 use crate::map::laws::both_hashers_look_up_alike as maps_look_up_alike;
 use crate::set::{ArchivedHashSet, HashSetOf};
-use rkyv_base::element::{Element, HasSpec, Represents};
-use rkyv_base::width::{Width, Word};
-use rkyv_keys::equality::ElementEq;
-use rkyv_keys::keys::{FixedKey, KeyElement, NativeQuery, Query};
-use rkyv_scan::hash::{FxHasher64, KeyHasher};
+use rkyv_base::width::Word;
+use rkyv_base::{Element, HasSpec, Represents, Width};
+use rkyv_keys::{ElementEq, FixedKey, KeyElement, NativeQuery, Query};
+use rkyv_scan::{FxHasher64, KeyHasher};
 
 /// States that a `for` over a set, or over a reference to it, visits the keys of `iter`.
 ///

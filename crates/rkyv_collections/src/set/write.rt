@@ -11,13 +11,9 @@ ghost use Rattle.rkyv_collections.specs.{ResolvesMap, WritesSet};
 use crate::map::ArchivedHashMap;
 use crate::map::write::HashMapResolver;
 use crate::set::ArchivedHashSet;
-use rkyv_base::archive::{ResolveResult, Serialize, WriteResult};
-use rkyv_base::element::Represents;
-use rkyv_base::lend::Lend;
-use rkyv_base::width::{Narrow, Width};
-use rkyv_base::writer::Writer;
-use rkyv_keys::keys::{KeyElement, NativeKey};
-use rkyv_scan::hash::KeyHasher;
+use rkyv_base::{Lend, Narrow, Represents, ResolveResult, Serialize, Width, WriteResult, Writer};
+use rkyv_keys::{KeyElement, NativeKey};
+use rkyv_scan::KeyHasher;
 use rkyv_table::table::list_inputs::WithUnits;
 use std::alloc::Global;
 

@@ -11,11 +11,8 @@ ghost use Rattle.rkyv_collections.specs.{insert_pair_fails, map_spec, map_view, 
 
 use crate::map::{ArchivedHashMap, HashMapOf};
 use crate::std_maps::hashed::Hashed;
-use rkyv_base::element::Element;
-use rkyv_base::errors::ReadError;
-use rkyv_base::view::View;
-use rkyv_base::width::Width;
-use rkyv_keys::deserialize::Deserialize;
+use rkyv_base::{Element, ReadError, View, Width};
+use rkyv_keys::Deserialize;
 use std::alloc::Global;
 use std::collections::HashMap;
 use std::hash::{BuildHasher, BuildHasherDefault, Hash};

@@ -18,13 +18,9 @@ ghost use Rattle.rkyv_collections.specs.Lemmas.StdEqualLaws.{entries_equal};
 
 use crate::map::{ArchivedHashMap, HashMapOf};
 use crate::std_maps::hashed::Hashed;
-use rkyv_base::archive::Archive;
-use rkyv_base::element::{Element, HasSpec, Represents};
-use rkyv_base::view::View;
-use rkyv_base::width::Width;
-use rkyv_keys::equality::{EqualsWritten, MatchesNative, RepresentsUniquely};
-use rkyv_keys::keys::{KeyElement, NativeKey, Query};
-use rkyv_scan::hash::KeyHasher;
+use rkyv_base::{Archive, Element, HasSpec, Represents, View, Width};
+use rkyv_keys::{EqualsWritten, KeyElement, MatchesNative, NativeKey, Query, RepresentsUniquely};
+use rkyv_scan::KeyHasher;
 use std::collections::HashMap;
 use std::hash::{BuildHasher, Hash};
 

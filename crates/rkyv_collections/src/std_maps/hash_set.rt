@@ -22,16 +22,14 @@ use crate::set::write::HashSetResolver;
 use crate::set::{ArchivedHashSet, HashSetOf};
 use crate::std_maps::equality::EqArchived;
 use crate::std_maps::hashed::Hashed;
-use rkyv_base::archive::{Archive, ResolveResult, Serialize, WriteResult};
-use rkyv_base::element::{Element, Represents};
-use rkyv_base::errors::ReadError;
-use rkyv_base::view::View;
-use rkyv_base::width::Width;
-use rkyv_base::writer::Writer;
-use rkyv_keys::deserialize::Deserialize;
-use rkyv_keys::equality::{EqualsWritten, MatchesNative, RepresentsUniquely};
-use rkyv_keys::keys::{KeyElement, NativeKey};
-use rkyv_scan::hash::KeyHasher;
+use rkyv_base::{
+    Archive, Element, ReadError, Represents, ResolveResult, Serialize, View, Width, WriteResult,
+    Writer,
+};
+use rkyv_keys::{
+    Deserialize, EqualsWritten, KeyElement, MatchesNative, NativeKey, RepresentsUniquely,
+};
+use rkyv_scan::KeyHasher;
 use std::alloc::Global;
 use std::collections::HashSet;
 use std::hash::{BuildHasher, BuildHasherDefault, Hash};

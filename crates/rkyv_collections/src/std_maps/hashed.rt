@@ -6,7 +6,7 @@ ghost use Rattle.std.specs.Prelude.{◌≡◌};
 ghost use Rattle.std.specs.Borrow.{Lends, sem};
 ghost use Rattle.rkyv_collections.specs.contracts.std_maps.hashed.Hashed.{the_row};
 
-use rkyv_scan::hash::FxHasher64;
+use rkyv_scan::FxHasher64;
 use std::fmt::{self, Debug, Formatter, Write};
 use std::marker::PhantomData;
 

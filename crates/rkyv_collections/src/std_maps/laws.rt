@@ -23,13 +23,11 @@ use crate::std_maps::nested::{
     KeysRelation, ValueRelation, nested_maps_are_lists, nested_maps_are_looked_up,
     written_values_are_related,
 };
-use rkyv_base::archive::Archive;
-use rkyv_base::element::Represents;
-use rkyv_base::width::Width;
-use rkyv_keys::deserialize::Deserialize;
-use rkyv_keys::equality::{EqualsWritten, MatchesNative, RepresentsUniquely};
-use rkyv_keys::keys::{KeyElement, NativeKey, Query};
-use rkyv_scan::hash::{FxHasher64, KeyHasher};
+use rkyv_base::{Archive, Represents, Width};
+use rkyv_keys::{
+    Deserialize, EqualsWritten, KeyElement, MatchesNative, NativeKey, Query, RepresentsUniquely,
+};
+use rkyv_scan::{FxHasher64, KeyHasher};
 use std::collections::{HashMap, HashSet};
 use std::hash::{BuildHasher, Hash};
 

@@ -17,11 +17,9 @@ ghost use Rattle.rkyv_collections.specs.{WrittenMapsListEntries, WrittenRootsAre
 ghost use Rattle.rkyv_collections.specs.Lemmas.StdLists.{entries_listed};
 
 use crate::std_maps::hashed::Hashed;
-use rkyv_base::archive::Archive;
-use rkyv_base::element::Represents;
-use rkyv_base::width::Width;
-use rkyv_keys::keys::{KeyElement, NativeKey, NativeQuery, Query};
-use rkyv_scan::hash::KeyHasher;
+use rkyv_base::{Archive, Represents, Width};
+use rkyv_keys::{KeyElement, NativeKey, NativeQuery, Query};
+use rkyv_scan::KeyHasher;
 use std::collections::{HashMap, HashSet};
 use std::hash::{BuildHasher, Hash};
 use std::marker::PhantomData;

@@ -10,16 +10,12 @@ ghost use Rattle.rkyv_collections.specs.{map_spec};
 
 use crate::map::{ArchivedHashMap, HashMapOf};
 use crate::std_maps::hashed::Hashed;
-use rkyv_base::access::access_in;
-use rkyv_base::archive::{Archive, Serialize};
 pub use rkyv_base::errors::RoundTripError;
-use rkyv_base::root::to_bytes_in;
-use rkyv_base::width::Width;
-use rkyv_base::writer::VecWriter;
-use rkyv_keys::deserialize::Deserialize;
-use rkyv_keys::equality::{EqualsWritten, MatchesNative, RepresentsUniquely};
-use rkyv_keys::keys::{KeyElement, NativeKey};
-use rkyv_scan::hash::KeyHasher;
+use rkyv_base::{Archive, Serialize, VecWriter, Width, access_in, to_bytes_in};
+use rkyv_keys::{
+    Deserialize, EqualsWritten, KeyElement, MatchesNative, NativeKey, RepresentsUniquely,
+};
+use rkyv_scan::KeyHasher;
 use std::alloc::Global;
 use std::collections::HashMap;
 use std::hash::{BuildHasher, Hash};

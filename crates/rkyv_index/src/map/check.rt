@@ -13,12 +13,8 @@ ghost use Rattle.rkyv_index.specs.{AreBelow, EntriesFail, EntriesIn, FirstNotBel
 ghost use Rattle.rkyv_index.specs.{decode_entries, entry_at, indices_of, stored_index_spec};
 
 use crate::width::IndexWidth;
-use rkyv_base::element::{Element, PartRange};
-use rkyv_base::errors::VerifyError;
-use rkyv_base::part::{distance_target, part_in};
-use rkyv_base::view::View;
-use rkyv_base::width::Width;
-use rkyv_table::table::ArchivedHashTable;
+use rkyv_base::{Element, PartRange, VerifyError, View, Width, distance_target, part_in};
+use rkyv_table::ArchivedHashTable;
 use rkyv_table::table::decoded::Decoded;
 
 /// Returns the position of the last bucket, at which the buckets begin, or 0 without buckets.

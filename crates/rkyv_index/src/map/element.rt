@@ -7,11 +7,9 @@ ghost use Rattle.rkyv_index.specs.Lemmas.IndexLaws.{index_element};
 use crate::map::IndexMapOf;
 use crate::map::check::{check_indices, check_part};
 use crate::width::IndexWidth;
-use rkyv_base::element::{Element, HasSpec, PartRange};
-use rkyv_base::entry::Entry;
-use rkyv_base::errors::VerifyError;
 use rkyv_base::width::Word;
-use rkyv_table::table::ArchivedHashTable;
+use rkyv_base::{Element, Entry, HasSpec, PartRange, VerifyError};
+use rkyv_table::ArchivedHashTable;
 
 impl<K: HasSpec, V: HasSpec, H, W: Word> HasSpec for IndexMapOf<K, V, H, W> {
     ghost spec = { index_spec W.word (entry_spec K.spec V.spec) };

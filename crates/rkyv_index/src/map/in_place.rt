@@ -35,12 +35,9 @@ use crate::map::read::accessors::begin;
 use crate::map::read::entries::entry_in;
 use crate::map::{ArchivedIndexMap, IndexMapOf};
 use crate::width::IndexWidth;
-use rkyv_base::element::{Element, Represents};
-use rkyv_base::scalars::Scalar;
-use rkyv_base::seal::set_at;
-use rkyv_base::view::{View, found_pos};
-use rkyv_keys::keys::{KeyElement, NativeKey, Query};
-use rkyv_scan::hash::KeyHasher;
+use rkyv_base::{Element, Represents, Scalar, View, found_pos, set_at};
+use rkyv_keys::{KeyElement, NativeKey, Query};
+use rkyv_scan::KeyHasher;
 
 /// Returns the position of the value at `index`, in the map at `root` of an archive.
 #[inline]

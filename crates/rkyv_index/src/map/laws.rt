@@ -25,11 +25,10 @@ use crate::lists::OrderedPairs;
 use crate::map::read::iter::{Iter, Keys, Values};
 use crate::map::{ArchivedIndexMap, IndexMapOf};
 use crate::width::IndexWidth;
-use rkyv_base::element::{Element, HasSpec, Represents};
 use rkyv_base::width::Word;
-use rkyv_keys::equality::{ElementEq, ElementEquiv, RepresentsUniquely};
-use rkyv_keys::keys::{FixedKey, KeyElement, Query};
-use rkyv_scan::hash::{FxHasher64, KeyHasher};
+use rkyv_base::{Element, HasSpec, Represents};
+use rkyv_keys::{ElementEq, ElementEquiv, FixedKey, KeyElement, Query, RepresentsUniquely};
+use rkyv_scan::{FxHasher64, KeyHasher};
 
 /// States that a write of one value in place that keeps it valid keeps the index map.
 ///

@@ -19,11 +19,9 @@ use crate::map::write::hashed_indices::{HashedEntry, HashedIndices};
 use crate::map::write::resolve::IndexMapResolver;
 use crate::map::write::row::{serialize_row, write_row};
 use crate::width::IndexWidth;
-use rkyv_base::archive::{Serialize, WriteResult};
-use rkyv_base::writer::{Writer, align_for_in};
+use rkyv_base::{Serialize, WriteResult, Writer, align_for_in};
 use rkyv_scan::simd::lanes;
-use rkyv_table::table::ArchivedHashTable;
-use rkyv_table::table::resolve::HashTableResolver;
+use rkyv_table::{ArchivedHashTable, HashTableResolver};
 use std::alloc::Global;
 
 // Writes the table of the indices of `entries`, each under the hash of its entry.

@@ -19,10 +19,9 @@ use crate::map::read::iter::Keys;
 use crate::map::{ArchivedIndexMap, IndexMapOf};
 use crate::set::{ArchivedIndexSet, IndexSetOf};
 use crate::width::IndexWidth;
-use rkyv_base::element::Element;
-use rkyv_base::view::View;
-use rkyv_keys::keys::{KeyElement, Query};
-use rkyv_scan::hash::KeyHasher;
+use rkyv_base::{Element, View};
+use rkyv_keys::{KeyElement, Query};
+use rkyv_scan::KeyHasher;
 
 impl<'a, K: Element, H, W: IndexWidth> ArchivedIndexSet<'a, K, H, W> {
     /// Returns the set at a view of its header, which is decoded here, once.

@@ -5,9 +5,8 @@ ghost use Rattle.rkyv_index.specs.{keys_of, set_bytes, set_pos};
 
 use crate::set::ArchivedIndexSet;
 use crate::width::IndexWidth;
-use rkyv_base::element::Element;
-use rkyv_base::errors::ReadError;
-use rkyv_keys::deserialize::Deserialize;
+use rkyv_base::{Element, ReadError};
+use rkyv_keys::Deserialize;
 use std::alloc::Global;
 
 impl<'a, K: Element, H, W: IndexWidth> ArchivedIndexSet<'a, K, H, W> {

@@ -8,9 +8,8 @@ ghost use Rattle.rkyv_index.specs.{index_set_spec};
 use crate::map::IndexMapOf;
 use crate::set::IndexSetOf;
 use crate::width::IndexWidth;
-use rkyv_base::element::{Element, HasSpec, PartRange};
-use rkyv_base::errors::VerifyError;
 use rkyv_base::width::Word;
+use rkyv_base::{Element, HasSpec, PartRange, VerifyError};
 
 impl<K: HasSpec, H, W: Word> HasSpec for IndexSetOf<K, H, W> {
     ghost spec = { index_set_spec W.word K.spec };

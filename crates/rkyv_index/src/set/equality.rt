@@ -14,10 +14,9 @@ ghost use Rattle.rkyv_index.specs.Lemmas.HandlesEqual.{sets_equality};
 
 use crate::set::{ArchivedIndexSet, IndexSetOf};
 use crate::width::IndexWidth;
-use rkyv_base::view::View;
-use rkyv_keys::equality::{ElementEq, ElementEquiv};
-use rkyv_keys::keys::KeyElement;
-use rkyv_scan::hash::KeyHasher;
+use rkyv_base::View;
+use rkyv_keys::{ElementEq, ElementEquiv, KeyElement};
+use rkyv_scan::KeyHasher;
 
 impl<'a, K: ElementEq, H, W: IndexWidth> ArchivedIndexSet<'a, K, H, W> {
     /// Returns `true` if and only if both sets have the same length and the same keys in order.

@@ -22,12 +22,13 @@ use crate::map::laws::both_hashers_look_up_alike as maps_look_up_alike;
 use crate::map::write::serialize::ListFormat;
 use crate::set::{ArchivedIndexSet, IndexSetOf};
 use crate::width::IndexWidth;
-use rkyv_base::archive::Archive;
-use rkyv_base::element::{Element, HasSpec, Represents};
 use rkyv_base::width::Word;
-use rkyv_keys::equality::{ElementEq, ElementEquiv, RepresentsUniquely};
-use rkyv_keys::keys::{FixedKey, KeyElement, NativeKey, NativeQuery, Query};
-use rkyv_scan::hash::{FxHasher64, KeyHasher};
+use rkyv_base::{Archive, Element, HasSpec, Represents};
+use rkyv_keys::{
+    ElementEq, ElementEquiv, FixedKey, KeyElement, NativeKey, NativeQuery, Query,
+    RepresentsUniquely,
+};
+use rkyv_scan::{FxHasher64, KeyHasher};
 
 /// States that a list deserialized from an index set is `==` to the list that it represents.
 ///

@@ -13,14 +13,11 @@ use crate::map::write::resolve::IndexMapResolver;
 use crate::map::write::serialize::ListFormat;
 use crate::set::{ArchivedIndexSet, IndexSetOf};
 use crate::width::IndexWidth;
-use rkyv_base::archive::{Archive, ResolveResult, Serialize, WriteResult};
-use rkyv_base::element::{Element, Represents};
-use rkyv_base::lend::Lend;
-use rkyv_base::width::Narrow;
-use rkyv_base::writer::Writer;
-use rkyv_keys::hash::KeyHash;
-use rkyv_keys::keys::{KeyElement, NativeKey};
-use rkyv_scan::hash::KeyHasher;
+use rkyv_base::{
+    Archive, Element, Lend, Narrow, Represents, ResolveResult, Serialize, WriteResult, Writer,
+};
+use rkyv_keys::{KeyElement, KeyHash, NativeKey};
+use rkyv_scan::KeyHasher;
 use rkyv_table::table::list_inputs::WithUnits;
 use std::alloc::Global;
 

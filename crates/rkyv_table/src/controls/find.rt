@@ -11,7 +11,7 @@ ghost use Rattle.rkyv_table.specs.{SeesFirst, candidates, lookup, stride_has_emp
 
 use crate::controls::numbers::{bucket_of, start, tag};
 use crate::controls::probe::Probe;
-use rkyv_scan::simd::{GroupKind, Marks};
+use rkyv_scan::{GroupKind, Marks};
 use std::marker::Model;
 
 /// A counter of the strides of sixteen control bytes that lookups read.

@@ -8,7 +8,7 @@ ghost use Rattle.rkyv_table.specs.{SameSteps, WalkedAreFull, WrittenAreOneList, 
 
 use crate::controls::probe::Probe;
 use crate::controls::walk::Walk;
-use rkyv_scan::simd::GroupKind;
+use rkyv_scan::GroupKind;
 
 /// States that the strides of a hash begin at all indices of one residue class modulo 16.
 ///

@@ -5,7 +5,7 @@ ghost use Rattle.std.specs.Prelude.{◌≡◌, ◌%◌, ◌*◌, ◌+◌, ◌<�
 ghost use Rattle.rkyv_table.specs.{IsCapacity, capacity_write_error, control_count, modulus};
 ghost use Rattle.rkyv_table.specs.{probe_capacity, start, tag};
 
-use rkyv_base::errors::WriteError;
+use rkyv_base::WriteError;
 
 /// An error of `capacity`.
 #[derive(Debug, Clone, Copy, PartialEq, Eq)]

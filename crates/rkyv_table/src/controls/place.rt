@@ -8,7 +8,7 @@ ghost use Rattle.rkyv_table.specs.{fresh_controls, is_empty_at, probed, tag, wit
 
 use crate::controls::numbers::{bucket_of, tag};
 use crate::controls::probe::Probe;
-use rkyv_scan::simd::{GroupKind, Marks};
+use rkyv_scan::{GroupKind, Marks};
 use std::alloc::{AllocError, Global};
 
 // Returns the first empty index of the stride that begins at index `pos`, or `None`.

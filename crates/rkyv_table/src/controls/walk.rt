@@ -4,7 +4,7 @@ ghost use Rattle.std.specs.Prelude.{◌<◌, ◌∷◌, ◌≡◌, ◌≤◌};
 ghost use Rattle.std.specs.Iterator.{YieldsFirst, item_count};
 ghost use Rattle.rkyv_table.specs.{IsWalk, control_count, full_from, left, walk};
 
-use rkyv_scan::simd::{GroupKind, MAX_GROUP_WIDTH, Marks};
+use rkyv_scan::{GroupKind, MAX_GROUP_WIDTH, Marks};
 use std::marker::Model;
 
 /// The full buckets that remain, in ascending order.

@@ -13,10 +13,7 @@ use crate::table::decoded::Decoded;
 use crate::table::header::{controls_pos, read_header};
 use crate::table::verify::verify_by;
 use crate::table::{ArchivedHashTable, TableOf};
-use rkyv_base::element::{Element, PartRange};
-use rkyv_base::errors::VerifyError;
-use rkyv_base::view::View;
-use rkyv_base::width::Width;
+use rkyv_base::{Element, PartRange, VerifyError, View, Width};
 use rkyv_scan::simd::lanes;
 
 impl<'a, T: Element, W: Width> ArchivedHashTable<'a, T, W> {

@@ -7,11 +7,7 @@ ghost use Rattle.rkyv_base.specs.{end_of};
 ghost use Rattle.rkyv_table.specs.{FillsBucket, WritesBuckets, bucket_with, filled, item_format};
 ghost use Rattle.rkyv_table.specs.{slots_with};
 
-use rkyv_base::archive::{Archive, ResolveResult, WriteResult};
-use rkyv_base::element::Element;
-use rkyv_base::lend::Lend;
-use rkyv_base::width::Width;
-use rkyv_base::writer::{Writer, append_in};
+use rkyv_base::{Archive, Element, Lend, ResolveResult, Width, WriteResult, Writer, append_in};
 
 // Fills one bucket: with zeros, or with the item by the last resolver.
 #[inline]

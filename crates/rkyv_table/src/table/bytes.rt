@@ -10,10 +10,7 @@ ghost use Rattle.rkyv_table.specs.{WritesSlots, filled, item_format, placed_slot
 
 use crate::table::buckets::write_buckets;
 use crate::table::parts::serialize_slots;
-use rkyv_base::archive::{Serialize, WriteResult};
-use rkyv_base::lend::Lend;
-use rkyv_base::width::Width;
-use rkyv_base::writer::{Writer, align_for_in, append_in};
+use rkyv_base::{Lend, Serialize, Width, WriteResult, Writer, align_for_in, append_in};
 use std::alloc::Global;
 
 // Writes the parts of the items, the buckets and the control bytes. Returns the position

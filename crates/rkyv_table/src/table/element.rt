@@ -5,9 +5,8 @@ ghost use Rattle.rkyv_table.specs.{table_spec};
 ghost use Rattle.rkyv_table.specs.Lemmas.TableLaws.{table_element};
 
 use crate::table::{ArchivedHashTable, TableOf};
-use rkyv_base::element::{Element, HasSpec, PartRange};
-use rkyv_base::errors::VerifyError;
-use rkyv_base::width::{Width, Word};
+use rkyv_base::width::Word;
+use rkyv_base::{Element, HasSpec, PartRange, VerifyError, Width};
 
 impl<T: HasSpec, W: Word> HasSpec for TableOf<T, W> {
     ghost spec = { table_spec W.word T.spec };

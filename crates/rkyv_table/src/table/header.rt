@@ -8,8 +8,7 @@ ghost use Rattle.rkyv_base.specs.{signed_at};
 ghost use Rattle.rkyv_table.specs.{bucket_at, cap_at, control_count, len_at, part_size};
 
 use crate::controls::numbers::control_count;
-use rkyv_base::part::distance_target;
-use rkyv_base::width::Width;
+use rkyv_base::{Width, distance_target};
 
 /// The three numbers of a header.
 #[derive(Clone, Copy)]

@@ -6,10 +6,8 @@ ghost use Rattle.rkyv_table.specs.{table_pos, walk};
 use crate::controls::walk::Walk;
 use crate::table::ArchivedHashTable;
 use crate::table::header::controls_from;
-use rkyv_base::element::Element;
-use rkyv_base::view::View;
-use rkyv_base::width::Width;
-use rkyv_scan::simd::GroupKind;
+use rkyv_base::{Element, View, Width};
+use rkyv_scan::GroupKind;
 
 impl<'a, T: Element, W: Width> ArchivedHashTable<'a, T, W> {
     /// Returns the control bytes, or none if there are no buckets.

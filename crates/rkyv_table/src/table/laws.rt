@@ -19,11 +19,8 @@ pub mod written;
 use crate::table::list_inputs::{PairRefs, Refs, WithUnits};
 use crate::table::raw_iter::RawIter;
 use crate::table::{ArchivedHashTable, TableOf};
-use rkyv_base::archive::Archive;
-use rkyv_base::element::{Element, HasSpec};
-use rkyv_base::lend::Lend;
-use rkyv_base::scalars::Scalar;
-use rkyv_base::width::{Width, Word};
+use rkyv_base::width::Word;
+use rkyv_base::{Archive, Element, HasSpec, Lend, Scalar, Width};
 
 /// States that a walk over written control bytes visits each home bucket once, and no other.
 ///

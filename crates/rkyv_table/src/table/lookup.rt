@@ -14,10 +14,9 @@ ghost use Rattle.rkyv_table.specs.{IsItemIn};
 
 use crate::controls::find::{Strides, find_from};
 use crate::table::ArchivedHashTable;
-use rkyv_base::element::Element;
-use rkyv_base::view::{View, found_pos};
-use rkyv_base::width::Width;
-use rkyv_scan::simd::{GroupKind, paired};
+use rkyv_base::{Element, View, Width, found_pos};
+use rkyv_scan::GroupKind;
+use rkyv_scan::simd::paired;
 
 // Every lookup of this module is one call of `find_by`.
 impl<'a, T: Element, W: Width> ArchivedHashTable<'a, T, W> {

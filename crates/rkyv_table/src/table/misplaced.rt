@@ -10,9 +10,7 @@ ghost use Rattle.rkyv_table.specs.{ReadsUpTo, ReturnsMisplaced, is_found_at, tab
 
 use crate::controls::find::{Strides, find_from};
 use crate::table::ArchivedHashTable;
-use rkyv_base::element::Element;
-use rkyv_base::view::View;
-use rkyv_base::width::Width;
+use rkyv_base::{Element, View, Width};
 use rkyv_scan::simd::paired;
 
 /// Returns `true` if a lookup found another bucket or returned `None`.

@@ -4,10 +4,7 @@ ghost use Rattle.std.specs.Prelude.{◌≡◌, ◌≤◌, [], vec_capacity};
 ghost use Rattle.rkyv_base.specs.{written_as};
 ghost use Rattle.rkyv_table.specs.{WritesParts, filled, slots_with};
 
-use rkyv_base::archive::{Serialize, WriteResult};
-use rkyv_base::lend::Lend;
-use rkyv_base::width::Width;
-use rkyv_base::writer::Writer;
+use rkyv_base::{Lend, Serialize, Width, WriteResult, Writer};
 use std::alloc::Global;
 
 // Serializes the items in bucket order, and pushes their resolvers.

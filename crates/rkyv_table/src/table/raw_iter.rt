@@ -10,11 +10,9 @@ ghost use Rattle.rkyv_table.specs.{AllValid, HintsExactly, YieldsPos, item_posit
 ghost use Rattle.rkyv_table.specs.{table_bytes, table_pos};
 
 use crate::table::ArchivedHashTable;
-use rkyv_base::element::Element;
-use rkyv_base::view::View;
-use rkyv_base::width::Width;
-use rkyv_scan::simd::generic::Bitmask;
-use rkyv_scan::simd::{GroupKind, Marks, generic};
+use rkyv_base::{Element, View, Width};
+use rkyv_scan::simd::generic;
+use rkyv_scan::{Bitmask, GroupKind, Marks};
 use std::marker::{Model, PhantomData};
 
 /// The positions of the items of a table that remain, in bucket order.

@@ -19,11 +19,7 @@ ghost use Rattle.rkyv_table.specs.{table_spec, walk};
 
 use crate::controls::walk::next_full;
 use crate::table::{ArchivedHashTable, TableOf};
-use rkyv_base::element::Element;
-use rkyv_base::scalars::Scalar;
-use rkyv_base::seal::{ArchiveSeal, Seal, set_at};
-use rkyv_base::view::View;
-use rkyv_base::width::Width;
+use rkyv_base::{ArchiveSeal, Element, Scalar, Seal, View, Width, set_at};
 use std::marker::PhantomData;
 
 /// Returns the `count` bytes from position `pos` on, or `None` if there are fewer.

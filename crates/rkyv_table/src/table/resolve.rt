@@ -10,10 +10,7 @@ ghost use Rattle.rkyv_table.specs.{header_bytes, resolved_capacity, resolver_of}
 
 use crate::controls::numbers::capacity;
 use crate::table::ArchivedHashTable;
-use rkyv_base::archive::ResolveResult;
-use rkyv_base::element::HasSpec;
-use rkyv_base::errors::DistanceTooLarge;
-use rkyv_base::width::{Narrow, Width};
+use rkyv_base::{DistanceTooLarge, HasSpec, Narrow, ResolveResult, Width};
 use std::marker::{Model, PhantomData};
 
 /// The resolver of a written table: the position of its control bytes, its length and load factor.

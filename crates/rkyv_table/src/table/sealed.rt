@@ -8,10 +8,7 @@ ghost use Rattle.rkyv_table.specs.{AcceptedAt, CanCompareAt, IsItemSeal, IsTable
 ghost use Rattle.rkyv_table.specs.{SealsFound, pos_of_seal};
 
 use crate::table::{ArchivedHashTable, TableOf};
-use rkyv_base::element::Element;
-use rkyv_base::seal::{ArchiveSeal, Seal};
-use rkyv_base::view::View;
-use rkyv_base::width::Width;
+use rkyv_base::{ArchiveSeal, Element, Seal, View, Width};
 
 impl<'a, T: Element, W: Width> ArchivedHashTable<'a, T, W> {
     /// Returns a seal of an item that the comparison accepts, or `None`.

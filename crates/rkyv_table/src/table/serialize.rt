@@ -16,13 +16,12 @@ use crate::table::ArchivedHashTable;
 use crate::table::bytes::write_table;
 use crate::table::resolve::HashTableResolver;
 use crate::table::source::{ItemSource, ItemsAndHashes, Pairs};
-use rkyv_base::archive::{Serialize, WriteResult};
-use rkyv_base::element::{Element, HasSpec};
-use rkyv_base::errors::{IteratorLengthMismatch, WriteError};
-use rkyv_base::lend::Lend;
-use rkyv_base::width::Width;
-use rkyv_base::writer::Writer;
-use rkyv_scan::simd::{GroupKind, lanes};
+use rkyv_base::{
+    Element, HasSpec, IteratorLengthMismatch, Lend, Serialize, Width, WriteError, WriteResult,
+    Writer,
+};
+use rkyv_scan::GroupKind;
+use rkyv_scan::simd::lanes;
 use std::alloc::{AllocError, Global};
 use std::marker::PhantomData;
 

@@ -5,7 +5,7 @@ ghost use Rattle.rkyv_table.specs.{Input, PlacesInput, fresh_controls, from_both
 
 use crate::table::take::{expect_none, take_pairs};
 use crate::table::take_two::take_two;
-use rkyv_scan::simd::GroupKind;
+use rkyv_scan::GroupKind;
 
 /// An input of items, each with its hash.
 pub(crate) trait ItemSource<X>: Drop {

@@ -10,7 +10,7 @@ ghost use Rattle.rkyv_table.specs.{fresh_controls, from_iter};
 
 use crate::controls::place::place_from;
 use crate::controls::reciprocal::Reciprocal;
-use rkyv_scan::simd::GroupKind;
+use rkyv_scan::GroupKind;
 
 /// Returns the next item of an iterator, which need not end.
 ///

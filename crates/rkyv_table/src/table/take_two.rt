@@ -7,7 +7,7 @@ ghost use Rattle.rkyv_table.specs.{CountedOn, PlacesInput, fresh_controls, from_
 
 use crate::controls::reciprocal::Reciprocal;
 use crate::table::take::{next_item, place_item};
-use rkyv_scan::simd::GroupKind;
+use rkyv_scan::GroupKind;
 
 // Counts the items that remain, on from `before` and up to `len + 1`.
 fn count_rest<I: Iterator>(rest: I, before: usize, len: usize) -> usize

@@ -14,11 +14,8 @@ ghost use Rattle.rkyv_table.specs.{bucket_at, control_count, part_size, table_sp
 use crate::controls::numbers::control_count;
 use crate::controls::wrapped::check_wrapped;
 use crate::table::header::{bucket_position, decode_begin, part_size, read_header};
-use rkyv_base::element::{Element, PartRange};
-use rkyv_base::errors::VerifyError;
-use rkyv_base::part::part_in;
-use rkyv_base::width::Width;
-use rkyv_scan::simd::{GroupKind, Marks};
+use rkyv_base::{Element, PartRange, VerifyError, Width, part_in};
+use rkyv_scan::{GroupKind, Marks};
 
 /// Validates the item in a bucket, and returns the new lower end of the range.
 #[inline]

@@ -1,11 +1,7 @@
 //! The error of a failed allocation: that of the writer, which counts a failure, or of the call.
 
-use rkyv_base::archive::Serialize;
-use rkyv_base::errors::WriteError;
-use rkyv_base::root::{to_bytes, write_root};
-use rkyv_base::width::Narrow;
-use rkyv_base::writer::{NoMemory, VecWriter, Writer};
-use rkyv_table::table::ArchivedHashTable;
+use rkyv_base::{Narrow, NoMemory, Serialize, VecWriter, WriteError, Writer, to_bytes, write_root};
+use rkyv_table::ArchivedHashTable;
 use std::alloc::Global;
 use test_support::archives::archive;
 

@@ -3,12 +3,8 @@
 //! Each test makes eight allocations: those of its call, after as many of its own as are missing.
 //! So each fails if the eighth allocation fails, and each passes if the ninth one would.
 
-use rkyv_base::archive::Serialize;
-use rkyv_base::errors::WriteError;
-use rkyv_base::root::{to_bytes, write_root};
-use rkyv_base::width::Narrow;
-use rkyv_base::writer::{VecWriter, Writer};
-use rkyv_table::table::ArchivedHashTable;
+use rkyv_base::{Narrow, Serialize, VecWriter, WriteError, Writer, to_bytes, write_root};
+use rkyv_table::ArchivedHashTable;
 use std::alloc::Global;
 use test_support::writers::{Broken, BrokenWriter};
 

@@ -1,7 +1,6 @@
 //! Archives of a dictionary that is built.
 
-use rkyv_base::errors::WriteError;
-use rkyv_base::writer::NoMemory;
+use rkyv_base::{NoMemory, WriteError};
 use rkyv_dict::archives::build;
 use rkyv_dict::errors::is_allocation_failure;
 use rkyv_dict::form::{ArchiveWidth, PairList};

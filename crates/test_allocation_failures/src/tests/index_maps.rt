@@ -1,14 +1,13 @@
 //! Index maps and sets that are archived.
 
 use rkyv_base::access::access;
-use rkyv_base::errors::{ReadError, VerifyError, WriteError};
-use rkyv_base::root::to_bytes;
-use rkyv_base::width::Narrow;
-use rkyv_base::writer::{NoMemory, VecWriter, append};
+use rkyv_base::{
+    Narrow, NoMemory, ReadError, VecWriter, VerifyError, WriteError, append, to_bytes,
+};
 use rkyv_index::{
     ArchivedIndexMap, ArchivedIndexSet, IndexMapOf, IndexSetOf, OrderedItems, OrderedPairs,
 };
-use rkyv_scan::hash::FxHasher64;
+use rkyv_scan::FxHasher64;
 use std::alloc::Global;
 use test_support::archives::{four_entries, one_index_key};
 

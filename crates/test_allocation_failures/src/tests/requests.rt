@@ -3,12 +3,10 @@
 //! Those of index maps and index sets are called after the allocations for the items, and before
 //! those for the table.
 
-use rkyv_base::width::Narrow;
-use rkyv_base::writer::VecWriter;
-use rkyv_collections::map::ArchivedHashMap;
-use rkyv_collections::set::ArchivedHashSet;
+use rkyv_base::{Narrow, VecWriter};
+use rkyv_collections::{ArchivedHashMap, ArchivedHashSet};
 use rkyv_index::{ArchivedIndexMap, ArchivedIndexSet};
-use rkyv_scan::hash::FxHasher64;
+use rkyv_scan::FxHasher64;
 use std::alloc::Global;
 use std::cell::Cell;
 use std::iter;

@@ -1,12 +1,10 @@
 //! Maps of std that are archived, and read back.
 
 use rkyv_base::access::access;
-use rkyv_base::entry::Entry;
-use rkyv_base::errors::{ReadError, VerifyError, WriteError};
-use rkyv_base::root::write_root;
-use rkyv_base::writer::{NoMemory, VecWriter, Writer};
-use rkyv_collections::map::{ArchivedHashMap, HashMapOf};
-use rkyv_collections::std_maps::hashed::Hashed;
+use rkyv_base::{
+    Entry, NoMemory, ReadError, VecWriter, VerifyError, WriteError, Writer, write_root,
+};
+use rkyv_collections::{ArchivedHashMap, HashMapOf, Hashed};
 use std::alloc::{AllocError, Global};
 use std::collections::HashMap;
 use std::hash::BuildHasherDefault;

@@ -1,12 +1,10 @@
 //! The examples of the docs of entry points that no other test has.
 
-use rkyv_base::access::{access, access_in, access_mut, access_mut_with, access_mut_with_in};
-use rkyv_base::entry::Entry;
-use rkyv_base::errors::VerifyError;
-use rkyv_base::root::{to_bytes, to_bytes_in, write_root};
-use rkyv_base::seal::{Seal, set_at};
-use rkyv_base::width::Wide;
-use rkyv_base::writer::{VecWriter, Writer, align_for, append};
+use rkyv_base::access::access;
+use rkyv_base::{
+    Entry, Seal, VecWriter, VerifyError, Wide, Writer, access_in, access_mut, access_mut_with,
+    access_mut_with_in, align_for, append, set_at, to_bytes, to_bytes_in, write_root,
+};
 use std::test::Fail;
 
 // Returns the key and the value of a pair in an archive.

@@ -1,7 +1,6 @@
 //! Tests of the memory of writers.
 
-use rkyv_base::root::to_bytes;
-use rkyv_base::writer::{VecWriter, Writer};
+use rkyv_base::{VecWriter, Writer, to_bytes};
 use std::alloc::Global;
 
 // Returns the capacity of the archive of `()`.

@@ -9,10 +9,10 @@ ghost use Rattle.rkyv_base.specs.Lemmas.Scalar.{scalar_element, scalar_laws};
 
 use crate::tests::access_failures::access_failure;
 use rkyv_base::access::access;
-use rkyv_base::element::HasSpec;
 use rkyv_base::{
-    Archive, Element, Entry, Narrow, PartRange, Represents, ResolveResult, Scalar, Serialize,
-    VecWriter, VerifyError, Width, WriteError, WriteResult, Writer, laws, to_bytes, whole_size,
+    Archive, Element, Entry, HasSpec, Narrow, PartRange, Represents, ResolveResult, Scalar,
+    Serialize, VecWriter, VerifyError, Width, WriteError, WriteResult, Writer, laws, to_bytes,
+    whole_size,
 };
 use std::alloc::Global;
 use test_support::written::is_archived_as;

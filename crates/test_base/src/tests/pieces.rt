@@ -1,10 +1,9 @@
 //! Tests of the pieces in which archives are written.
 
-use rkyv_base::archive::Serialize;
-use rkyv_base::limit::{LimitFault, LimitWriter};
-use rkyv_base::root::{write_root, write_root_in};
-use rkyv_base::width::{Narrow, Wide};
-use rkyv_base::writer::{Writer, align_for, append, append_in};
+use rkyv_base::{
+    LimitFault, LimitWriter, Narrow, Serialize, Wide, Writer, align_for, append, append_in,
+    write_root, write_root_in,
+};
 use std::alloc::Global;
 use test_support::writers::PieceWriter;
 

@@ -3,12 +3,7 @@ ghost use Rattle.std.specs.Prelude.{IfOk, ◌≡◌};
 
 use crate::tests::access_failures::access_failure;
 use rkyv_base::access::access;
-use rkyv_base::entry::Entry;
-use rkyv_base::errors::{VerifyError, WriteError};
-use rkyv_base::laws;
-use rkyv_base::root::to_bytes;
-use rkyv_base::width::Narrow;
-use rkyv_base::writer::NoMemory;
+use rkyv_base::{Entry, Narrow, NoMemory, VerifyError, WriteError, laws, to_bytes};
 use std::alloc::Global;
 use test_support::written::is_archived_as;
 

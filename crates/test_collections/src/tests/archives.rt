@@ -1,12 +1,8 @@
 //! Archives of lists of pairs, and of four pairs with other buckets.
 
-use rkyv_base::archive::Serialize;
-use rkyv_base::errors::WriteError;
-use rkyv_base::root::to_bytes;
-use rkyv_base::width::Narrow;
-use rkyv_base::writer::{NoMemory, VecWriter};
+use rkyv_base::{Narrow, NoMemory, Serialize, VecWriter, WriteError, to_bytes};
 use rkyv_collections::MapPairs;
-use rkyv_keys::keys::{KeyElement, NativeKey};
+use rkyv_keys::{KeyElement, NativeKey};
 use std::alloc::Global;
 use test_support::archives::four_pairs;
 

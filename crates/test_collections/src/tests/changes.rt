@@ -2,12 +2,10 @@
 
 use crate::tests::opened::Numbers;
 use rkyv_base::access::access;
-use rkyv_base::entry::Entry;
-use rkyv_base::errors::VerifyError;
-use rkyv_collections::map::ArchivedHashMap;
-use rkyv_scan::hash::{FxHasher64, KeyHasher};
-use rkyv_table::controls::find::Strides;
-use rkyv_table::table::{ArchivedHashTable, TableOf};
+use rkyv_base::{Entry, VerifyError};
+use rkyv_collections::ArchivedHashMap;
+use rkyv_scan::{FxHasher64, KeyHasher};
+use rkyv_table::{ArchivedHashTable, Strides, TableOf};
 use test_support::archives::one_number;
 use test_support::changes::{OutcomeCounts, outcomes_of_changes};
 

@@ -1,9 +1,8 @@
 //! The examples of the docs of entry points that no other test has.
 
+use rkyv_base::VerifyError;
 use rkyv_base::access::access;
-use rkyv_base::errors::VerifyError;
-use rkyv_collections::map::{ArchivedHashMap, HashMapOf};
-use rkyv_collections::set::{ArchivedHashSet, HashSetOf};
+use rkyv_collections::{ArchivedHashMap, ArchivedHashSet, HashMapOf, HashSetOf};
 use test_support::archives::{four_pairs, four_pairs_backwards, one_key_twice, three_keys};
 
 // Returns the number of pairs of a map, and the value of a key.

@@ -1,9 +1,8 @@
 //! A first example: a map of std's is archived, opened and looked up in place.
 
 use rkyv_base::access::access;
-use rkyv_base::root::to_bytes;
-use rkyv_collections::map::{ArchivedHashMap, HashMapOf};
-use rkyv_collections::std_maps::hashed::Hashed;
+use rkyv_base::to_bytes;
+use rkyv_collections::{ArchivedHashMap, HashMapOf, Hashed};
 use std::alloc::Global;
 use std::collections::HashMap;
 use std::test::Fail;

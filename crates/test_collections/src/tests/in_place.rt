@@ -2,13 +2,9 @@
 
 use crate::tests::archives::four_with;
 use crate::tests::opened::{small_pos, small_seal};
-use rkyv_base::access::access_in;
-use rkyv_base::element::Element;
-use rkyv_base::errors::VerifyError;
-use rkyv_base::scalars::Scalar;
-use rkyv_base::width::{Narrow, Width};
-use rkyv_collections::map::{ArchivedHashMap, HashMapOf};
-use rkyv_scan::hash::FxHasher64;
+use rkyv_base::{Element, Narrow, Scalar, VerifyError, Width, access_in};
+use rkyv_collections::{ArchivedHashMap, HashMapOf};
+use rkyv_scan::FxHasher64;
 use test_support::archives::four_pairs;
 use test_support::changes::change;
 

@@ -1,12 +1,10 @@
 //! Tests of lists of items that are archived as sets.
 
 use crate::tests::opened::key_set;
-use rkyv_base::errors::{VerifyError, WriteError};
-use rkyv_base::root::to_bytes;
-use rkyv_base::writer::NoMemory;
+use rkyv_base::{NoMemory, VerifyError, WriteError, to_bytes};
 use rkyv_collections::lists::laws::{item_clones_are_the_same, pair_clones_are_the_same};
 use rkyv_collections::{MapPairs, SetItems};
-use rkyv_scan::hash::FxHasher64;
+use rkyv_scan::FxHasher64;
 use std::alloc::Global;
 use test_support::archives::{archive, one_pair, three_keys};
 

@@ -1,12 +1,9 @@
 //! Tests of several lookups in one map.
 
-use rkyv_base::access::access_in;
-use rkyv_base::errors::VerifyError;
-use rkyv_base::scalars::Scalar;
-use rkyv_base::width::{Narrow, Wide, Width};
-use rkyv_collections::map::{ArchivedHashMap, HashMapOf};
-use rkyv_keys::keys::{KeyElement, Query};
-use rkyv_scan::hash::{FxHasher64, KeyHasher};
+use rkyv_base::{Narrow, Scalar, VerifyError, Wide, Width, access_in};
+use rkyv_collections::{ArchivedHashMap, HashMapOf};
+use rkyv_keys::{KeyElement, Query};
+use rkyv_scan::{FxHasher64, KeyHasher};
 use test_support::archives::{four_pairs, no_items, one_key_twice, one_wide_number};
 
 // Returns the value of a key, the positions of both, and whether the map has the key.

@@ -2,12 +2,8 @@
 
 use crate::tests::archives::is_map_archive;
 use rkyv_base::access::access;
-use rkyv_base::entry::Entry;
-use rkyv_base::errors::{VerifyError, WriteError};
-use rkyv_base::root::write_root;
-use rkyv_base::writer::VecWriter;
-use rkyv_collections::MapPairs;
-use rkyv_collections::map::{ArchivedHashMap, HashMapOf};
+use rkyv_base::{Entry, VecWriter, VerifyError, WriteError, write_root};
+use rkyv_collections::{ArchivedHashMap, HashMapOf, MapPairs};
 use std::alloc::Global;
 use test_support::archives::{one_pair, two_maps};
 

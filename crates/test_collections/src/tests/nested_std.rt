@@ -6,23 +6,16 @@ ghost use Rattle.rkyv_keys.specs.{first_value};
 ghost use Rattle.test_collections.specs.InStdMaps.{has_under, value_beside, value_under};
 
 use rkyv_base::access::access;
-use rkyv_base::archive::Archive;
-use rkyv_base::element::Represents;
-use rkyv_base::entry::Entry;
-use rkyv_base::errors::VerifyError;
-use rkyv_base::root::to_bytes;
-use rkyv_base::width::Narrow;
+use rkyv_base::{Archive, Entry, Narrow, Represents, VerifyError, to_bytes};
 use rkyv_collections::map::laws::lookups_find_listed;
-use rkyv_collections::map::{ArchivedHashMap, HashMapOf};
 use rkyv_collections::set::laws::lookups_find_listed as set_lookups_find_listed;
-use rkyv_collections::set::{ArchivedHashSet, HashSetOf};
-use rkyv_collections::std_maps::hashed::Hashed;
 use rkyv_collections::std_maps::nested::{
     EntriesRelation, KeysRelation, PairRelation, ValueRelation, WrittenRelation,
     nested_lookups_find_listed, nested_maps_are_lists, nested_maps_are_looked_up,
     nested_walks_visit_each, written_relations_are_defined, written_values_are_related,
 };
-use rkyv_scan::hash::FxHasher64;
+use rkyv_collections::{ArchivedHashMap, ArchivedHashSet, HashMapOf, HashSetOf, Hashed};
+use rkyv_scan::FxHasher64;
 use std::alloc::Global;
 use std::collections::{HashMap, HashSet};
 use std::hash::{BuildHasherDefault, FoldHasher, RandomState};

@@ -2,13 +2,9 @@
 ghost use Rattle.std.specs.Prelude.{IfOk};
 ghost use Rattle.rkyv_base.specs.{Viewable, archive_in, pos_in};
 
-use rkyv_base::access::{access, access_mut};
-use rkyv_base::element::HasSpec;
-use rkyv_base::errors::VerifyError;
-use rkyv_base::seal::ArchiveSeal;
-use rkyv_base::text::Text;
-use rkyv_collections::map::{ArchivedHashMap, HashMapOf};
-use rkyv_collections::set::{ArchivedHashSet, HashSetOf};
+use rkyv_base::access::access;
+use rkyv_base::{ArchiveSeal, HasSpec, Text, VerifyError, access_mut};
+use rkyv_collections::{ArchivedHashMap, ArchivedHashSet, HashMapOf, HashSetOf};
 
 pub(crate) type Numbers = HashMapOf<u32, u32>;
 

@@ -1,16 +1,9 @@
 //! Queries of archived maps and sets, with results in plain numbers.
 
-use rkyv_base::access::access_in;
-use rkyv_base::element::Element;
-use rkyv_base::errors::VerifyError;
-use rkyv_base::scalars::Scalar;
-use rkyv_base::width::{Narrow, Width};
-use rkyv_collections::map::{ArchivedHashMap, HashMapOf};
-use rkyv_collections::set::{ArchivedHashSet, HashSetOf};
-use rkyv_keys::debug::ElementDebug;
-use rkyv_keys::equality::ElementEq;
-use rkyv_keys::keys::{KeyElement, Query};
-use rkyv_scan::hash::{FxHasher64, KeyHasher};
+use rkyv_base::{Element, Narrow, Scalar, VerifyError, Width, access_in};
+use rkyv_collections::{ArchivedHashMap, ArchivedHashSet, HashMapOf, HashSetOf};
+use rkyv_keys::{ElementDebug, ElementEq, KeyElement, Query};
+use rkyv_scan::{FxHasher64, KeyHasher};
 use std::alloc::Global;
 
 /// Returns whether a map is empty, its length and its capacity.

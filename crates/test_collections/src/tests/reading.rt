@@ -6,18 +6,14 @@ use crate::tests::archives::map_archive;
 use crate::tests::lookups::small_found;
 use crate::tests::opened::{Small, nested_map, small_map};
 use crate::tests::query_results::{counts, equal_maps, map_prints, number_of, small};
-use rkyv_base::access::{access, access_in};
-use rkyv_base::entry::Entry;
-use rkyv_base::errors::VerifyError;
-use rkyv_base::text::Text;
-use rkyv_base::view::View;
-use rkyv_base::width::{Narrow, Wide};
+use rkyv_base::access::access;
+use rkyv_base::{Entry, Narrow, Text, VerifyError, View, Wide, access_in};
 use rkyv_collections::map::laws::{
     clones_are_the_same, equal_maps_have_the_same_pairs, items_are_yielded, maps_are_compared,
     maps_are_laid_out, matched_keys_are_found, repeated_keys_are_misplaced,
 };
-use rkyv_collections::map::{ArchivedHashMap, HashMapOf};
-use rkyv_scan::hash::FxHasher64;
+use rkyv_collections::{ArchivedHashMap, HashMapOf};
+use rkyv_scan::FxHasher64;
 use std::alloc::Global;
 use std::cell::Cell;
 use test_support::archives::{

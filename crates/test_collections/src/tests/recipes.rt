@@ -6,19 +6,15 @@ ghost use Rattle.rkyv_base.specs.{Viewable, scalar_spec, text_spec, unsigned};
 ghost use Rattle.rkyv_collections.specs.{map_spec};
 
 use crate::tests::archives::map_archive;
-use rkyv_base::access::{access, access_in, access_mut};
-use rkyv_base::entry::Entry;
-use rkyv_base::errors::{VerifyError, WriteError};
-use rkyv_base::root::{to_bytes, to_bytes_in};
-use rkyv_base::seal::set_at;
-use rkyv_base::text::Text;
-use rkyv_base::width::{Narrow, Wide};
-use rkyv_base::writer::NoMemory;
+use rkyv_base::access::access;
+use rkyv_base::{
+    Entry, Narrow, NoMemory, Text, VerifyError, Wide, WriteError, access_in, access_mut, set_at,
+    to_bytes, to_bytes_in,
+};
 use rkyv_collections::map::in_place::set_value_of;
-use rkyv_collections::map::{ArchivedHashMap, HashMapOf};
-use rkyv_collections::set::{ArchivedHashSet, HashSetOf};
-use rkyv_collections::std_maps::hashed::Hashed;
-use rkyv_collections::{FxHasher64, MapPairs, SetItems};
+use rkyv_collections::{
+    ArchivedHashMap, ArchivedHashSet, FxHasher64, HashMapOf, HashSetOf, Hashed, MapPairs, SetItems,
+};
 use std::alloc::Global;
 use std::collections::{HashMap, HashSet};
 use std::hash::{BuildHasherDefault, RandomState};

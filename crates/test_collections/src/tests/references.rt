@@ -2,10 +2,10 @@
 
 use crate::tests::std_maps::one_of;
 use crate::tests::std_sets::set_of_one;
-use rkyv_base::width::Narrow;
+use rkyv_base::Narrow;
 use rkyv_collections::Hashed;
 use rkyv_collections::std_maps::laws::{map_references_are_written, set_references_are_written};
-use rkyv_scan::hash::FxHasher64;
+use rkyv_scan::FxHasher64;
 use std::alloc::Global;
 use std::collections::{HashMap, HashSet};
 use std::hash::RandomState;

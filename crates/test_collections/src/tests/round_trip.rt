@@ -3,14 +3,10 @@
 ghost use Rattle.std.specs.Prelude.{◌≡◌, IfOk, true};
 
 use rkyv_base::access::access;
-use rkyv_base::errors::VerifyError;
-use rkyv_base::root::to_bytes;
-use rkyv_base::text::Text;
-use rkyv_base::width::{Narrow, Wide};
-use rkyv_collections::set::{ArchivedHashSet, HashSetOf};
-use rkyv_collections::std_maps::hashed::Hashed;
+use rkyv_base::{Narrow, Text, VerifyError, Wide, to_bytes};
 use rkyv_collections::std_maps::round_trip::{RoundTripError, lookups_agree, round_trips_equal};
-use rkyv_scan::hash::{FxHasher64, FxHasher64Wide};
+use rkyv_collections::{ArchivedHashSet, HashSetOf, Hashed};
+use rkyv_scan::{FxHasher64, FxHasher64Wide};
 use std::alloc::{AllocError, Global};
 use std::collections::{HashMap, HashSet};
 use std::fmt::Debug;

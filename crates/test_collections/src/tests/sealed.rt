@@ -10,19 +10,15 @@ ghost use Rattle.test_collections.specs.InMaps.{FindsIn, KeepsIn};
 use crate::tests::archives::{four_with, map_archive};
 use crate::tests::opened::{is_text, number_seal, small_seal, text_seal};
 use crate::tests::query_results::{number_of, small};
-use rkyv_base::access::{access_in, access_mut_in};
-use rkyv_base::element::Element;
-use rkyv_base::errors::VerifyError;
-use rkyv_base::scalars::Scalar;
-use rkyv_base::seal::set_at;
-use rkyv_base::view::View;
-use rkyv_base::width::{Narrow, Wide, Width};
+use rkyv_base::{
+    Element, Narrow, Scalar, VerifyError, View, Wide, Width, access_in, access_mut_in, set_at,
+};
 use rkyv_collections::map::laws::in_place::{
     value_writes_keep_lookups, value_writes_keep_maps, values_written_represent,
 };
-use rkyv_collections::map::{ArchivedHashMap, HashMapOf};
-use rkyv_keys::keys::{KeyElement, Query};
-use rkyv_scan::hash::{FxHasher64, KeyHasher};
+use rkyv_collections::{ArchivedHashMap, HashMapOf};
+use rkyv_keys::{KeyElement, Query};
+use rkyv_scan::{FxHasher64, KeyHasher};
 use std::alloc::Global;
 use test_support::archives::{four_pairs, one_number, one_wide_number};
 

@@ -4,12 +4,10 @@ use crate::tests::opened::key_set;
 use crate::tests::query_results::{
     equal_maps, equal_sets, map_prints, member_of, set_counts, set_prints,
 };
-use rkyv_base::access::access_in;
-use rkyv_base::errors::VerifyError;
-use rkyv_base::width::{Narrow, Wide};
-use rkyv_collections::map::{ArchivedHashMap, HashMapOf};
-use rkyv_collections::set::{ArchivedHashSet, HashSetOf, laws};
-use rkyv_scan::hash::{FxHasher64, FxHasher64Wide};
+use rkyv_base::{Narrow, VerifyError, Wide, access_in};
+use rkyv_collections::set::laws;
+use rkyv_collections::{ArchivedHashMap, ArchivedHashSet, HashMapOf, HashSetOf};
+use rkyv_scan::{FxHasher64, FxHasher64Wide};
 use test_support::archives::{no_items, one_unit, set_in_a_map, three_keys, two_units};
 
 #[test]

@@ -2,22 +2,17 @@
 
 use crate::tests::opened::{Nested as ArchivedNested, nested_map, small_map, text_map};
 use rkyv_base::access::access;
-use rkyv_base::archive::Serialize;
-use rkyv_base::errors::{VerifyError, WriteError};
-use rkyv_base::limit::{LimitFault, LimitWriter};
-use rkyv_base::root::{to_bytes, write_root};
-use rkyv_base::text::Text;
-use rkyv_base::width::{Narrow, Wide, Width};
-use rkyv_base::writer::VecWriter;
-use rkyv_collections::map::{ArchivedHashMap, HashMapOf};
-use rkyv_collections::std_maps::equality::EqArchived;
-use rkyv_collections::std_maps::hashed::Hashed;
+use rkyv_base::{
+    LimitFault, LimitWriter, Narrow, Serialize, Text, VecWriter, VerifyError, Wide, Width,
+    WriteError, to_bytes, write_root,
+};
 use rkyv_collections::std_maps::laws;
 use rkyv_collections::std_maps::round_trip::round_trips_equal;
-use rkyv_keys::deserialize::Deserialize;
-use rkyv_keys::equality::{EqualsWritten, MatchesNative, RepresentsUniquely};
-use rkyv_keys::keys::{KeyElement, NativeKey};
-use rkyv_scan::hash::{FxHasher64, FxHasher64Wide, KeyHasher};
+use rkyv_collections::{ArchivedHashMap, EqArchived, HashMapOf, Hashed};
+use rkyv_keys::{
+    Deserialize, EqualsWritten, KeyElement, MatchesNative, NativeKey, RepresentsUniquely,
+};
+use rkyv_scan::{FxHasher64, FxHasher64Wide, KeyHasher};
 use std::alloc::{AllocError, Global};
 use std::collections::HashMap;
 use std::hash::{BuildHasher, BuildHasherDefault, Hash, RandomState};

@@ -3,22 +3,14 @@
 use crate::tests::opened::key_set;
 use crate::tests::std_maps::{archived, map_round_trips, one_of};
 use rkyv_base::access::access;
-use rkyv_base::archive::Serialize;
-use rkyv_base::errors::VerifyError;
-use rkyv_base::root::to_bytes;
-use rkyv_base::text::Text;
-use rkyv_base::width::{Narrow, Wide, Width};
-use rkyv_base::writer::VecWriter;
-use rkyv_collections::map::{ArchivedHashMap, HashMapOf};
-use rkyv_collections::set::{ArchivedHashSet, HashSetOf};
-use rkyv_collections::std_maps::equality::EqArchived;
-use rkyv_collections::std_maps::hashed::Hashed;
+use rkyv_base::{Narrow, Serialize, Text, VecWriter, VerifyError, Wide, Width, to_bytes};
 use rkyv_collections::std_maps::laws;
 use rkyv_collections::std_maps::round_trip::round_trips_equal;
-use rkyv_keys::deserialize::Deserialize;
-use rkyv_keys::equality::{MatchesNative, RepresentsUniquely};
-use rkyv_keys::keys::{KeyElement, NativeKey};
-use rkyv_scan::hash::{FxHasher64, FxHasher64Wide};
+use rkyv_collections::{
+    ArchivedHashMap, ArchivedHashSet, EqArchived, HashMapOf, HashSetOf, Hashed,
+};
+use rkyv_keys::{Deserialize, KeyElement, MatchesNative, NativeKey, RepresentsUniquely};
+use rkyv_scan::{FxHasher64, FxHasher64Wide};
 use std::alloc::{AllocError, Global};
 use std::collections::{HashMap, HashSet};
 use std::hash::{BuildHasherDefault, Hash, RandomState};

@@ -3,12 +3,9 @@
 use crate::tests::archives::map_archive;
 use crate::tests::opened::is_text;
 use rkyv_base::access::access;
-use rkyv_base::errors::VerifyError;
-use rkyv_base::text::Text;
-use rkyv_base::width::Narrow;
-use rkyv_collections::FxHasher64;
-use rkyv_collections::map::HashMapOf;
+use rkyv_base::{Narrow, Text, VerifyError};
 use rkyv_collections::map::in_place::text::make_ascii_uppercase_of;
+use rkyv_collections::{FxHasher64, HashMapOf};
 use std::alloc::Global;
 use std::test::Fail;
 

@@ -1,13 +1,13 @@
 //! Tests of walks over maps and sets: the items, their order, and the number left.
 use crate::tests::opened::{key_set, small_map};
 use rkyv_base::access::access;
-use rkyv_base::element::Element;
-use rkyv_base::errors::VerifyError;
-use rkyv_base::width::Narrow;
-use rkyv_collections::map::read::iter::{Iter, Keys, Values};
-use rkyv_collections::map::{ArchivedHashMap, HashMapOf, laws as map_laws};
-use rkyv_collections::set::{ArchivedHashSet, HashSetOf, laws as set_laws};
-use rkyv_scan::hash::FxHasher64;
+use rkyv_base::{Element, Narrow, VerifyError};
+use rkyv_collections::map::laws as map_laws;
+use rkyv_collections::set::laws as set_laws;
+use rkyv_collections::{
+    ArchivedHashMap, ArchivedHashSet, HashMapOf, HashSetOf, Iter, Keys, Values,
+};
+use rkyv_scan::FxHasher64;
 use test_support::archives::{four_pairs, no_items, one_unit, three_keys};
 
 // Returns the positions of the next key and its value.

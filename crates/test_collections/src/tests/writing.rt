@@ -2,19 +2,13 @@
 
 use crate::tests::archives::{is_map_archive, map_archive};
 use crate::tests::query_results::{counts, small};
-use rkyv_base::archive::Serialize;
-use rkyv_base::element::Represents;
-use rkyv_base::errors::WriteError;
-use rkyv_base::width::Narrow;
-use rkyv_base::writer::{NoMemory, VecWriter};
-use rkyv_collections::MapPairs;
-use rkyv_collections::map::ArchivedHashMap;
+use rkyv_base::{Narrow, NoMemory, Represents, Serialize, VecWriter, WriteError};
 use rkyv_collections::map::laws::written::{listed_pairs_are_written, written_maps_represent};
-use rkyv_collections::set::ArchivedHashSet;
 use rkyv_collections::set::laws::written::{listed_items_are_written, written_sets_represent};
 use rkyv_collections::set::laws::{both_hashers_look_up_alike, sets_are_laid_out};
-use rkyv_keys::keys::{KeyElement, NativeKey};
-use rkyv_scan::hash::FxHasher64;
+use rkyv_collections::{ArchivedHashMap, ArchivedHashSet, MapPairs};
+use rkyv_keys::{KeyElement, NativeKey};
+use rkyv_scan::FxHasher64;
 use std::alloc::Global;
 use test_support::archives::{four_pairs_backwards, nested, no_items, three_keys};
 use test_support::written::is_then_empty;

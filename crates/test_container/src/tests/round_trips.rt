@@ -1,10 +1,7 @@
 //! A written header is read back. A sealed container is opened as its own contents alone.
 ghost use Rattle.std.specs.Prelude.{IsTrue, length, ◌≡◌, ◌↔◌, ◌≤◌};
 
-use rkyv_container::container::{open_as, seal};
-use rkyv_container::contents::Contents;
-use rkyv_container::errors::ContainerError;
-use rkyv_container::header::Header;
+use rkyv_container::{ContainerError, Contents, Header, open_as, seal};
 
 // Returns the header that is read from the bytes of a header.
 fn read_back(header: Header) -> Result<Header, ContainerError>

@@ -2,9 +2,10 @@
 ghost use Rattle.std.specs.Prelude.{IfSome, length, ◌<◌, ◌≤◌, ◌^◌};
 ghost use Rattle.rkyv_table.specs.{AreValidControls, IsFullBucket, control_count};
 
-use rkyv_scan::hash::{FxHasher64, KeyHasher};
-use rkyv_scan::simd::{GroupKind, bytewise, generic, lanes};
-use rkyv_table::controls::find::{Strides, find, find_from};
+use rkyv_scan::simd::{bytewise, generic, lanes};
+use rkyv_scan::{FxHasher64, GroupKind, KeyHasher};
+use rkyv_table::Strides;
+use rkyv_table::controls::find::{find, find_from};
 use rkyv_table::controls::laws;
 use rkyv_table::controls::numbers::{
     CapacityError, bucket_of, capacity, control_count, modulus, probe_capacity, tag,

@@ -1,6 +1,6 @@
 //! Archives of each form, written from pairs and read.
 
-use rkyv_base::errors::{VerifyError, WriteError};
+use rkyv_base::{VerifyError, WriteError};
 use rkyv_dict::archives::{build, check, misplaced, push_pairs, push_value};
 use rkyv_dict::form::{ArchiveWidth, Form, Key, Kind, PairList};
 use rkyv_dict::laws;

@@ -6,7 +6,7 @@ mod maps;
 mod maps_of_std;
 mod sets;
 
-use rkyv_base::errors::VerifyError;
+use rkyv_base::VerifyError;
 
 // Returns the bytes without the first `count`, or none if there are fewer.
 fn without_first(bytes: &[u8], count: usize) -> &[u8] {

@@ -1,16 +1,12 @@
 //! Tests of values of index maps that are written by their key, over the plain bytes.
 
 use crate::tests::archives::{one_key_twice, two_texts, wide_pair, wide_texts};
-use rkyv_base::access::{access, access_in};
-use rkyv_base::errors::VerifyError;
-use rkyv_base::root::to_bytes;
-use rkyv_base::text::Text;
-use rkyv_base::width::{Narrow, Wide};
+use rkyv_base::access::access;
+use rkyv_base::{Narrow, Text, VerifyError, Wide, access_in, to_bytes};
 use rkyv_index::map::in_place::set_value_of;
 use rkyv_index::map::in_place::text::make_ascii_uppercase_of;
-use rkyv_index::width::IndexWidth;
-use rkyv_index::{ArchivedIndexMap, IndexMapOf, OrderedPairs};
-use rkyv_scan::hash::FxHasher64;
+use rkyv_index::{ArchivedIndexMap, IndexMapOf, IndexWidth, OrderedPairs};
+use rkyv_scan::FxHasher64;
 use std::alloc::Global;
 use std::test::Fail;
 use test_support::archives::four_entries;

@@ -1,7 +1,7 @@
 //! Test of an archive with one byte changed, for each byte and each other value.
 
 use crate::tests::opened::small_map;
-use rkyv_base::errors::VerifyError;
+use rkyv_base::VerifyError;
 use test_support::archives::four_entries;
 use test_support::changes::{OutcomeCounts, outcomes_of_changes};
 

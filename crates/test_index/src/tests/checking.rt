@@ -2,11 +2,10 @@
 
 use crate::tests::archives::{no_pairs, no_wide_pairs, one_pair, wide_pair};
 use crate::tests::opened::small_map;
-use rkyv_base::access::{access, access_in};
-use rkyv_base::errors::VerifyError;
-use rkyv_base::width::Wide;
+use rkyv_base::access::access;
+use rkyv_base::{VerifyError, Wide, access_in};
 use rkyv_index::{ArchivedIndexMap, IndexMapOf};
-use rkyv_scan::hash::FxHasher64;
+use rkyv_scan::FxHasher64;
 use std::test::Fail;
 use test_support::archives::four_entries;
 

@@ -1,12 +1,9 @@
 //! Tests of the first and the last pair of index maps, those of index sets, and values by `index`.
 
 use crate::tests::archives::{no_pairs, no_wide_pairs, one_key_twice, wide_key, wide_pair};
-use rkyv_base::access::access_in;
-use rkyv_base::errors::VerifyError;
-use rkyv_base::width::{Narrow, Wide};
-use rkyv_index::width::IndexWidth;
-use rkyv_index::{ArchivedIndexMap, ArchivedIndexSet, IndexMapOf, IndexSetOf};
-use rkyv_scan::hash::FxHasher64;
+use rkyv_base::{Narrow, VerifyError, Wide, access_in};
+use rkyv_index::{ArchivedIndexMap, ArchivedIndexSet, IndexMapOf, IndexSetOf, IndexWidth};
+use rkyv_scan::FxHasher64;
 use test_support::archives::{four_entries, one_index_key};
 
 type Ends = (Option<(i8, i8)>, Option<(i8, i8)>);

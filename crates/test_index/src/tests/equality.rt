@@ -2,20 +2,16 @@
 
 use crate::tests::opened::key_set;
 use crate::tests::writing::{narrow, set_archive, wide};
-use rkyv_base::access::{access, access_in};
-use rkyv_base::errors::VerifyError;
-use rkyv_base::root::to_bytes;
-use rkyv_base::width::{Narrow, Wide};
-use rkyv_collections::MapPairs;
-use rkyv_collections::map::{ArchivedHashMap, HashMapOf};
+use rkyv_base::access::access;
+use rkyv_base::{Narrow, VerifyError, Wide, access_in, to_bytes};
+use rkyv_collections::{ArchivedHashMap, HashMapOf, MapPairs};
 use rkyv_index::map::laws::{
     index_maps_are_compared, matched_keys_are_found, read_index_maps_are_compared,
 };
 use rkyv_index::set::laws::{index_sets_are_compared, read_index_sets_are_compared};
-use rkyv_index::width::IndexWidth;
-use rkyv_index::{ArchivedIndexMap, IndexMapOf, IndexSetOf, OrderedPairs};
-use rkyv_keys::equality::ElementEq;
-use rkyv_scan::hash::FxHasher64;
+use rkyv_index::{ArchivedIndexMap, IndexMapOf, IndexSetOf, IndexWidth, OrderedPairs};
+use rkyv_keys::ElementEq;
+use rkyv_scan::FxHasher64;
 use std::alloc::Global;
 use std::test::Fail;
 use test_support::archives::four_entries;

@@ -1,8 +1,8 @@
 //! The examples of the docs of entry points that no other test has.
 
 use crate::tests::archives::{no_pairs, one_key_twice};
+use rkyv_base::VerifyError;
 use rkyv_base::access::access;
-use rkyv_base::errors::VerifyError;
 use rkyv_index::{ArchivedIndexMap, IndexMapOf};
 use rkyv_table::Strides;
 use test_support::archives::four_entries;

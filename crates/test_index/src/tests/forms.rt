@@ -1,12 +1,9 @@
 //! All forms of a lookup in an index map or an index set.
 
 use crate::tests::archives::{no_pairs, one_key_twice, one_pair, wide_pair};
-use rkyv_base::access::access_in;
-use rkyv_base::errors::VerifyError;
-use rkyv_base::width::{Narrow, Wide};
-use rkyv_index::width::IndexWidth;
-use rkyv_index::{ArchivedIndexMap, ArchivedIndexSet, IndexMapOf, IndexSetOf};
-use rkyv_scan::hash::FxHasher64;
+use rkyv_base::{Narrow, VerifyError, Wide, access_in};
+use rkyv_index::{ArchivedIndexMap, ArchivedIndexSet, IndexMapOf, IndexSetOf, IndexWidth};
+use rkyv_scan::FxHasher64;
 use test_support::archives::{four_entries, one_index_key};
 
 // The results of the forms of a lookup: index, key and value; key and value; the value; the index;

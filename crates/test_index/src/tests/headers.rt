@@ -1,10 +1,8 @@
 //! Headers of written index maps and index sets.
 
-use rkyv_base::errors::WriteError;
-use rkyv_base::width::Narrow;
-use rkyv_base::writer::{NoMemory, VecWriter};
+use rkyv_base::{Narrow, NoMemory, VecWriter, WriteError};
 use rkyv_index::{ArchivedIndexMap, ArchivedIndexSet, IndexMapResolver, IndexSetResolver};
-use rkyv_scan::hash::FxHasher64;
+use rkyv_scan::FxHasher64;
 use std::alloc::Global;
 
 type Numbers = ArchivedIndexMap<'static, i8, i8, FxHasher64, Narrow>;

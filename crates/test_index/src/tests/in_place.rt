@@ -5,18 +5,11 @@ ghost use Rattle.rkyv_table.specs.{len_at};
 ghost use Rattle.rkyv_index.specs.{index_spec};
 
 use crate::tests::archives::{two_texts, wide_pair, wide_texts};
-use rkyv_base::access::access_in;
-use rkyv_base::element::{Element, Represents};
-use rkyv_base::errors::VerifyError;
-use rkyv_base::scalars::Scalar;
-use rkyv_base::text::Text;
-use rkyv_base::view::View;
-use rkyv_base::width::{Narrow, Wide};
+use rkyv_base::{Element, Narrow, Represents, Scalar, Text, VerifyError, View, Wide, access_in};
 use rkyv_index::map::in_place::text::make_ascii_uppercase_at;
-use rkyv_index::width::IndexWidth;
-use rkyv_index::{ArchivedIndexMap, IndexMapOf};
-use rkyv_keys::keys::{KeyElement, Query};
-use rkyv_scan::hash::{FxHasher64, KeyHasher};
+use rkyv_index::{ArchivedIndexMap, IndexMapOf, IndexWidth};
+use rkyv_keys::{KeyElement, Query};
+use rkyv_scan::{FxHasher64, KeyHasher};
 use test_support::archives::four_entries;
 use test_support::changes::change;
 

@@ -1,9 +1,7 @@
 //! Tests of an interning table: texts with numbers.
 
 use rkyv_base::access::access;
-use rkyv_base::errors::VerifyError;
-use rkyv_base::root::to_bytes;
-use rkyv_base::text::Text;
+use rkyv_base::{Text, VerifyError, to_bytes};
 use rkyv_index::{ArchivedIndexSet, IndexSetOf, OrderedItems};
 use std::test::Fail;
 

@@ -4,11 +4,7 @@ use crate::tests::archives::{map_in_a_map, no_pairs, one_key_twice, one_pair};
 use crate::tests::opened::{Small, small_map};
 use crate::tests::writing::narrow;
 use rkyv_base::access::access;
-use rkyv_base::element::Element;
-use rkyv_base::errors::VerifyError;
-use rkyv_base::root::to_bytes;
-use rkyv_base::view::View;
-use rkyv_base::width::Narrow;
+use rkyv_base::{Element, Narrow, VerifyError, View, to_bytes};
 use rkyv_index::map::laws::{
     clones_are_the_same, index_maps_are_laid_out, items_are_yielded, pairs_at_are_listed,
     walks_by_for_are_iterations, walks_visit_in_order,
@@ -16,7 +12,7 @@ use rkyv_index::map::laws::{
 use rkyv_index::{
     ArchivedIndexMap, IndexMapOf, IndexSetOf, Iter, Keys, OrderedItems, OrderedPairs, Values,
 };
-use rkyv_scan::hash::{FxHasher64, FxHasher64Wide};
+use rkyv_scan::{FxHasher64, FxHasher64Wide};
 use rkyv_table::Strides;
 use std::alloc::Global;
 use std::cell::Cell;

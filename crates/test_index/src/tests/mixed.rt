@@ -6,17 +6,14 @@ ghost use Rattle.rkyv_index.specs.{index_spec};
 
 use crate::tests::sealed::{index_of, value_pos};
 use rkyv_base::access::access;
-use rkyv_base::errors::VerifyError;
-use rkyv_base::root::to_bytes;
-use rkyv_base::width::Narrow;
-use rkyv_collections::MapPairs;
+use rkyv_base::{Narrow, VerifyError, to_bytes};
 use rkyv_collections::map::in_place::set_value_of;
 use rkyv_collections::map::laws::nested::{nested_writes_keep_lookups, nested_writes_keep_maps};
-use rkyv_collections::map::{ArchivedHashMap, HashMapOf};
+use rkyv_collections::{ArchivedHashMap, HashMapOf, MapPairs};
 use rkyv_index::map::in_place::set_value_at;
 use rkyv_index::map::laws::nested::nested_writes_keep_index_maps;
 use rkyv_index::{ArchivedIndexMap, IndexMapOf, OrderedPairs};
-use rkyv_scan::hash::FxHasher64;
+use rkyv_scan::FxHasher64;
 use std::alloc::Global;
 use std::test::Fail;
 

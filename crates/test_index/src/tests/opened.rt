@@ -2,10 +2,8 @@
 ghost use Rattle.std.specs.Prelude.{IfOk};
 ghost use Rattle.rkyv_base.specs.{Viewable, archive_in, pos_in};
 
-use rkyv_base::access::{access, access_mut};
-use rkyv_base::element::HasSpec;
-use rkyv_base::errors::VerifyError;
-use rkyv_base::seal::ArchiveSeal;
+use rkyv_base::access::access;
+use rkyv_base::{ArchiveSeal, HasSpec, VerifyError, access_mut};
 use rkyv_index::{ArchivedIndexMap, ArchivedIndexSet, IndexMapOf, IndexSetOf};
 
 pub(crate) type Small = IndexMapOf<i8, i8>;

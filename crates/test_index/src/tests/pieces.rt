@@ -1,12 +1,9 @@
 //! The lengths of the pieces that index maps and index sets append.
 
-use rkyv_base::archive::Serialize;
-use rkyv_base::root::write_root;
-use rkyv_base::width::{Narrow, Wide};
-use rkyv_index::width::IndexWidth;
-use rkyv_index::{ArchivedIndexMap, ArchivedIndexSet, OrderedPairs};
-use rkyv_keys::keys::{KeyElement, NativeKey};
-use rkyv_scan::hash::FxHasher64;
+use rkyv_base::{Narrow, Serialize, Wide, write_root};
+use rkyv_index::{ArchivedIndexMap, ArchivedIndexSet, IndexWidth, OrderedPairs};
+use rkyv_keys::{KeyElement, NativeKey};
+use rkyv_scan::FxHasher64;
 use rkyv_table::table::list_inputs::PairRefs;
 use std::alloc::Global;
 use std::test::Fail;

@@ -3,14 +3,12 @@
 use crate::tests::archives::{no_pairs, one_key_twice, wide_pair};
 use crate::tests::opened::key_set;
 use crate::tests::writing::set_archive;
-use rkyv_base::access::access_in;
-use rkyv_base::width::{Narrow, Wide};
+use rkyv_base::{Narrow, Wide, access_in};
 use rkyv_index::map::laws::pairs_read_back_are_listed;
 use rkyv_index::round_trip::{items_round_trip, pairs_round_trip};
 use rkyv_index::set::laws::items_read_back_are_listed;
-use rkyv_index::width::IndexWidth;
-use rkyv_index::{ArchivedIndexMap, IndexMapOf, OrderedItems, OrderedPairs};
-use rkyv_scan::hash::FxHasher64;
+use rkyv_index::{ArchivedIndexMap, IndexMapOf, IndexWidth, OrderedItems, OrderedPairs};
+use rkyv_scan::FxHasher64;
 use std::alloc::Global;
 use std::test::Fail;
 use test_support::archives::{four_entries, one_index_key};

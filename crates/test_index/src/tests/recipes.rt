@@ -1,9 +1,7 @@
 //! The programs of the page of recipes that are about index maps and index sets.
 
 use rkyv_base::access::access;
-use rkyv_base::errors::VerifyError;
-use rkyv_base::root::to_bytes;
-use rkyv_base::text::Text;
+use rkyv_base::{Text, VerifyError, to_bytes};
 use rkyv_index::{
     ArchivedIndexMap, ArchivedIndexSet, IndexMapOf, IndexSetOf, OrderedItems, OrderedPairs,
 };

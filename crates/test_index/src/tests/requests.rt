@@ -1,9 +1,8 @@
 //! Tests of the number of calls of the iterators of pairs and of keys.
 
-use rkyv_base::width::Narrow;
-use rkyv_base::writer::VecWriter;
+use rkyv_base::{Narrow, VecWriter};
 use rkyv_index::{ArchivedIndexMap, ArchivedIndexSet};
-use rkyv_scan::hash::FxHasher64;
+use rkyv_scan::FxHasher64;
 use std::alloc::Global;
 use std::cell::Cell;
 use std::iter;

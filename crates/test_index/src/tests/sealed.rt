@@ -6,12 +6,11 @@ ghost use Rattle.rkyv_index.specs.{index_spec};
 
 use crate::tests::archives::{map_in_a_map, one_pair, wide_pair};
 use crate::tests::opened::{small_map, small_seal};
-use rkyv_base::access::{access, access_in, access_mut, access_mut_in};
-use rkyv_base::element::{Element, Represents};
-use rkyv_base::errors::VerifyError;
-use rkyv_base::scalars::Scalar;
-use rkyv_base::view::{View, found_pos};
-use rkyv_base::width::{Narrow, Wide};
+use rkyv_base::access::access;
+use rkyv_base::{
+    Element, Narrow, Represents, Scalar, VerifyError, View, Wide, access_in, access_mut,
+    access_mut_in, found_pos,
+};
 use rkyv_index::map::in_place::set_value_at;
 use rkyv_index::map::laws::nested::{
     nested_writes_keep_index_maps, nested_writes_keep_lookups, nested_writes_represent,
@@ -20,10 +19,9 @@ use rkyv_index::map::laws::nested::{
 use rkyv_index::map::laws::{
     value_writes_keep_index_maps, value_writes_keep_lookups, values_written_represent,
 };
-use rkyv_index::width::IndexWidth;
-use rkyv_index::{ArchivedIndexMap, IndexMapOf, OrderedPairs};
-use rkyv_keys::keys::{KeyElement, Query};
-use rkyv_scan::hash::{FxHasher64, KeyHasher};
+use rkyv_index::{ArchivedIndexMap, IndexMapOf, IndexWidth, OrderedPairs};
+use rkyv_keys::{KeyElement, Query};
+use rkyv_scan::{FxHasher64, KeyHasher};
 use test_support::archives::four_entries;
 
 type Small = IndexMapOf<i8, i8>;

@@ -5,16 +5,14 @@ use crate::tests::lookups::{Lengths, next_key};
 use crate::tests::opened::key_set;
 use crate::tests::writing::set_archive;
 use rkyv_base::access::access;
-use rkyv_base::errors::{VerifyError, WriteError};
-use rkyv_base::width::Narrow;
-use rkyv_base::writer::{NoMemory, VecWriter};
+use rkyv_base::{Narrow, NoMemory, VecWriter, VerifyError, WriteError};
 use rkyv_index::set::laws::{
     both_hashers_look_up_alike, clones_are_the_same, index_sets_are_laid_out, items_at_are_listed,
     listed_items_are_written, ordered_items_are_written, walks_by_for_are_iterations,
     walks_visit_in_order,
 };
 use rkyv_index::{ArchivedIndexMap, ArchivedIndexSet, IndexSetOf};
-use rkyv_scan::hash::FxHasher64;
+use rkyv_scan::FxHasher64;
 use std::alloc::Global;
 use std::test::Fail;
 use test_support::archives::one_index_key;

@@ -5,20 +5,17 @@ use crate::tests::archives::{
 };
 use crate::tests::headers::{map_resolver, set_resolver};
 use rkyv_base::access::access;
-use rkyv_base::archive::Serialize;
-use rkyv_base::errors::{IteratorLengthMismatch, VerifyError, WriteError};
-use rkyv_base::limit::{LimitFault, LimitWriter};
-use rkyv_base::root::{to_bytes, to_bytes_in, write_root};
-use rkyv_base::width::{Narrow, Wide};
-use rkyv_base::writer::{NoMemory, VecWriter};
+use rkyv_base::{
+    IteratorLengthMismatch, LimitFault, LimitWriter, Narrow, NoMemory, Serialize, VecWriter,
+    VerifyError, Wide, WriteError, to_bytes, to_bytes_in, write_root,
+};
 use rkyv_index::map::laws::written::{
     listed_pairs_are_written, ordered_pairs_are_written, written_index_maps_represent,
 };
 use rkyv_index::set::laws::written::written_index_sets_represent;
-use rkyv_index::width::IndexWidth;
-use rkyv_index::{ArchivedIndexMap, IndexMapOf, OrderedItems, OrderedPairs};
-use rkyv_keys::keys::{KeyElement, NativeKey};
-use rkyv_scan::hash::FxHasher64;
+use rkyv_index::{ArchivedIndexMap, IndexMapOf, IndexWidth, OrderedItems, OrderedPairs};
+use rkyv_keys::{KeyElement, NativeKey};
+use rkyv_scan::FxHasher64;
 use std::alloc::{AllocError, Global};
 use std::test::Fail;
 use test_support::archives::four_entries;

@@ -2,7 +2,7 @@
 
 use crate::tests::archives::{NAMES, ONE_HASH, ONE_NUMBER};
 use crate::tests::support::{narrow, numbers, wide};
-use rkyv_container::contents::{Contents, ItemType, Kind};
+use rkyv_container::{Contents, ItemType, Kind};
 use rkyv_inspect::{Drawing, inspect};
 use std::alloc::Global;
 use std::test::Fail;

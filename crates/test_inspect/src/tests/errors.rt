@@ -2,8 +2,8 @@
 
 use crate::tests::archives::ONE_NUMBER;
 use crate::tests::support::{narrow, numbers};
-use rkyv_base::errors::VerifyError;
-use rkyv_container::contents::{ItemType, Kind};
+use rkyv_base::VerifyError;
+use rkyv_container::{ItemType, Kind};
 use rkyv_inspect::{InspectError, inspect};
 use std::test::Fail;
 

@@ -5,7 +5,7 @@ use crate::tests::archives::{
     WIDE_SET,
 };
 use crate::tests::support::{narrow, numbers, wide};
-use rkyv_container::contents::{Contents, ItemType, Kind};
+use rkyv_container::{Contents, ItemType, Kind};
 use rkyv_inspect::{Lookups, Summary, inspect};
 use std::alloc::Global;
 use std::test::Fail;

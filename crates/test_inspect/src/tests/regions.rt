@@ -4,7 +4,7 @@ use crate::tests::archives::{
     EMPTY, INDEX_NUMBER, NAMES, NUMBERED_TEXTS, ONE_NUMBER, WIDE_NUMBERS, WIDE_SET,
 };
 use crate::tests::support::{narrow, numbers, wide};
-use rkyv_container::contents::{Contents, ItemType, Kind};
+use rkyv_container::{Contents, ItemType, Kind};
 use rkyv_inspect::{RegionKind, inspect};
 use std::alloc::Global;
 use std::test::Fail;

@@ -1,6 +1,6 @@
 //! The contents of the archives of these tests.
 
-use rkyv_container::contents::{Contents, ItemType, Kind, Width};
+use rkyv_container::{Contents, ItemType, Kind, Width};
 
 /// Returns the contents of a narrow archive.
 pub(crate) fn narrow(kind: Kind, key: ItemType, value: ItemType) -> Contents {

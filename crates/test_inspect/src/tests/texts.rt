@@ -2,9 +2,8 @@
 
 use crate::tests::archives::{EMPTY, NAMES, NUMBERED_TEXTS, ONE_HASH, ONE_NUMBER};
 use crate::tests::support::{narrow, numbers, wide};
-use rkyv_base::width::{Narrow, Wide};
-use rkyv_container::Header;
-use rkyv_container::contents::{Contents, ItemType, Kind};
+use rkyv_base::{Narrow, Wide};
+use rkyv_container::{Contents, Header, ItemType, Kind};
 use rkyv_inspect::{ContainerLine, Printed, inspect, laws};
 use std::alloc::Global;
 use std::test::Fail;

@@ -9,8 +9,7 @@ ghost use Rattle.test_keys.specs.Lemmas.LowByte.{low_element, low_equivalence, l
 ghost use Rattle.test_keys.specs.Lemmas.LowByte.{low_query};
 
 use rkyv_base::access::access;
-use rkyv_base::element::HasSpec;
-use rkyv_base::{Element, PartRange, ReadError, Represents, VerifyError, View};
+use rkyv_base::{Element, HasSpec, PartRange, ReadError, Represents, VerifyError, View};
 use rkyv_keys::{Deserialize, ElementEq, ElementEquiv, KeyElement, KeyHash, Query, hash_value};
 use rkyv_scan::{FxHasher64, KeyHasher};
 use std::alloc::Global;

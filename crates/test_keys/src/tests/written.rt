@@ -1,13 +1,10 @@
 //! Tests of keys that are archived, and looked up by themselves.
 ghost use Rattle.std.specs.Prelude.{◌≡◌, IfOk, true};
 
-use rkyv_base::access::access_in;
-use rkyv_base::archive::Serialize;
-use rkyv_base::errors::WriteError;
-use rkyv_base::root::to_bytes_in;
-use rkyv_base::width::{Narrow, Wide, Width};
-use rkyv_base::writer::{NoMemory, VecWriter};
-use rkyv_keys::keys::{KeyElement, NativeKey};
+use rkyv_base::{
+    Narrow, NoMemory, Serialize, VecWriter, Wide, Width, WriteError, access_in, to_bytes_in,
+};
+use rkyv_keys::{KeyElement, NativeKey};
 use std::alloc::Global;
 
 // Archives a key. Returns `true` if the key fits its archived form. The contract is for all keys.

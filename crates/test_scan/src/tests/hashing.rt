@@ -2,8 +2,7 @@
 ghost use Rattle.std.specs.Prelude.{◌≡◌, [], ◌∷◌};
 ghost use Rattle.rkyv_scan.specs.{Isize, Usize, hash_of_calls};
 
-use rkyv_scan::hash::{FxHasher64, FxHasher64Wide, KeyHasher};
-use rkyv_scan::laws;
+use rkyv_scan::{FxHasher64, FxHasher64Wide, KeyHasher, laws};
 
 const SEED: u64 = 0x517c_c1b7_2722_0a95;
 

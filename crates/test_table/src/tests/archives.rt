@@ -1,12 +1,10 @@
 //! Tables and archives that the tests write, and the bytes that they compare.
 
-use rkyv_base::archive::{Serialize, WriteResult};
-use rkyv_base::errors::WriteError;
-use rkyv_base::width::Narrow;
-use rkyv_base::writer::{NoMemory, VecWriter, Writer, align_for, append};
-use rkyv_scan::hash::{FxHasher64, KeyHasher};
-use rkyv_table::table::ArchivedHashTable;
-use rkyv_table::table::resolve::HashTableResolver;
+use rkyv_base::{
+    Narrow, NoMemory, Serialize, VecWriter, WriteError, WriteResult, Writer, align_for, append,
+};
+use rkyv_scan::{FxHasher64, KeyHasher};
+use rkyv_table::{ArchivedHashTable, HashTableResolver};
 use std::alloc::Global;
 use test_support::archives::archive;
 

@@ -3,10 +3,8 @@
 use crate::tests::archives::hash_of_u32;
 use crate::tests::reading::{count_walked, value_of, walks_over};
 use rkyv_base::access::access;
-use rkyv_base::entry::Entry;
-use rkyv_base::errors::VerifyError;
-use rkyv_base::width::Narrow;
-use rkyv_table::table::TableOf;
+use rkyv_base::{Entry, Narrow, VerifyError};
+use rkyv_table::TableOf;
 use test_support::archives::one_number;
 use test_support::changes::{OutcomeCounts, outcomes_of_changes};
 

@@ -1,11 +1,9 @@
 //! The calls of a cursor over the items of a table, each by itself.
 
 use crate::tests::archives::two_archived;
-use rkyv_base::access::{access, access_mut};
-use rkyv_base::entry::Entry;
-use rkyv_base::errors::VerifyError;
-use rkyv_base::width::Narrow;
-use rkyv_table::table::{ArchivedHashTable, TableOf};
+use rkyv_base::access::access;
+use rkyv_base::{Entry, Narrow, VerifyError, access_mut};
+use rkyv_table::{ArchivedHashTable, TableOf};
 use test_support::archives::one_number;
 
 // The positions of the items of the table of 10 and 20, by ascending bucket, and the number of

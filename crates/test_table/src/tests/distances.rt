@@ -1,11 +1,8 @@
 //! Headers that are too far from their tables.
 ghost use Rattle.std.specs.Prelude.{◌+◌, ◌<◌, ◌^◌};
 
-use rkyv_base::errors::WriteError;
-use rkyv_base::width::{Narrow, Wide, Width};
-use rkyv_base::writer::{NoMemory, VecWriter};
-use rkyv_table::table::ArchivedHashTable;
-use rkyv_table::table::resolve::HashTableResolver;
+use rkyv_base::{Narrow, NoMemory, VecWriter, Wide, Width, WriteError};
+use rkyv_table::{ArchivedHashTable, HashTableResolver};
 use std::alloc::Global;
 
 // Writes the table of the number 7 under the hash 0: its control bytes begin at position 2.

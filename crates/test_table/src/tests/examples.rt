@@ -2,9 +2,8 @@
 
 use crate::tests::archives::hash_of_i8;
 use rkyv_base::access::access;
-use rkyv_base::entry::Entry;
-use rkyv_base::errors::VerifyError;
-use rkyv_table::table::{ArchivedHashTable, TableOf};
+use rkyv_base::{Entry, VerifyError};
+use rkyv_table::{ArchivedHashTable, TableOf};
 use test_support::archives::four_pairs;
 
 // Returns the value of a key, which is looked up under its hash.

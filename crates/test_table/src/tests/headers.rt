@@ -2,12 +2,8 @@
 ghost use Rattle.std.specs.Prelude.{◌+◌, ◌<◌, ◌^◌};
 
 use crate::tests::archives::hash_of_u32;
-use rkyv_base::entry::Entry;
-use rkyv_base::errors::WriteError;
-use rkyv_base::width::{Narrow, Wide};
-use rkyv_base::writer::{NoMemory, VecWriter};
-use rkyv_table::table::ArchivedHashTable;
-use rkyv_table::table::resolve::HashTableResolver;
+use rkyv_base::{Entry, Narrow, NoMemory, VecWriter, Wide, WriteError};
+use rkyv_table::{ArchivedHashTable, HashTableResolver};
 use std::alloc::Global;
 
 // Returns the resolver of the table of the pair 1 and 2, which is at position 16.

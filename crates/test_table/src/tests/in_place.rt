@@ -6,13 +6,10 @@ ghost use Rattle.rkyv_base.specs.{seal_pos};
 ghost use Rattle.rkyv_table.specs.{CanCompareOf, table_spec};
 
 use crate::tests::archives::two_archived;
-use rkyv_base::access::{access, access_mut};
-use rkyv_base::errors::VerifyError;
-use rkyv_base::scalars::Scalar;
-use rkyv_base::seal::Seal;
-use rkyv_base::view::View;
-use rkyv_base::width::{Narrow, Width};
-use rkyv_table::table::{ArchivedHashTable, TableOf, laws};
+use rkyv_base::access::access;
+use rkyv_base::{Narrow, Scalar, Seal, VerifyError, View, Width, access_mut};
+use rkyv_table::table::laws;
+use rkyv_table::{ArchivedHashTable, TableOf};
 
 // Sets each item of a table, which stays valid.
 fn set_all<N: Scalar, W: Width>(archive: &mut [u8], pos: u64, value: N)

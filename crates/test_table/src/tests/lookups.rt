@@ -5,16 +5,13 @@ use crate::tests::archives::{
     tags_archived, two_archived,
 };
 use crate::tests::reading::{counts, counts_and_lookup, first_pos, value_of, value_of_small};
-use rkyv_base::access::{access, access_in};
-use rkyv_base::element::Element;
-use rkyv_base::entry::Entry;
-use rkyv_base::errors::VerifyError;
-use rkyv_base::width::{Narrow, Width};
-use rkyv_scan::hash::{FxHasher64, FxHasher64Wide};
-use rkyv_scan::simd::{GroupKind, bytewise, generic, lanes, paired};
-use rkyv_table::controls::find::Strides;
+use rkyv_base::access::access;
+use rkyv_base::{Element, Entry, Narrow, VerifyError, Width, access_in};
+use rkyv_scan::simd::{bytewise, generic, lanes, paired};
+use rkyv_scan::{FxHasher64, FxHasher64Wide, GroupKind};
 use rkyv_table::controls::numbers::start;
-use rkyv_table::table::{ArchivedHashTable, TableOf, laws};
+use rkyv_table::table::laws;
+use rkyv_table::{ArchivedHashTable, Strides, TableOf};
 use std::alloc::Global;
 use std::cell::Cell;
 use test_support::archives::{four_pairs, no_items, one_key_twice, one_number, one_unit};

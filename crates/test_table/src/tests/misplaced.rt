@@ -2,11 +2,10 @@
 
 use crate::tests::archives::{hash_of_i8, hash_of_u32, two_archived};
 use rkyv_base::access::access;
-use rkyv_base::entry::Entry;
-use rkyv_base::errors::VerifyError;
-use rkyv_table::controls::find::Strides;
+use rkyv_base::{Entry, VerifyError};
+use rkyv_table::table::laws;
 use rkyv_table::table::misplaced::{finds_another_or_none, is_past};
-use rkyv_table::table::{ArchivedHashTable, TableOf, laws};
+use rkyv_table::{ArchivedHashTable, Strides, TableOf};
 use std::cmp::Ordering;
 use test_support::archives::{four_pairs, no_items, one_key_twice, one_number, two_units};
 

@@ -4,13 +4,8 @@ ghost use Rattle.rkyv_table.specs.{table_spec};
 
 use crate::tests::archives::{archived, hash_of_i8, written};
 use rkyv_base::access::access;
-use rkyv_base::element::Element;
-use rkyv_base::entry::Entry;
-use rkyv_base::errors::VerifyError;
-use rkyv_base::text::Text;
-use rkyv_base::view::View;
-use rkyv_base::width::Width;
-use rkyv_table::table::{ArchivedHashTable, TableOf};
+use rkyv_base::{Element, Entry, Text, VerifyError, View, Width};
+use rkyv_table::{ArchivedHashTable, TableOf};
 use std::alloc::Global;
 use test_support::archives::nested;
 use test_support::written::is_then_empty;

@@ -1,12 +1,8 @@
 //! The pieces in which tables are written.
 
 use crate::tests::archives::{FOUR_PAIRS, SIXTEEN, write_header};
-use rkyv_base::archive::Serialize;
-use rkyv_base::errors::WriteError;
-use rkyv_base::limit::{LimitFault, LimitWriter};
-use rkyv_base::width::{Narrow, Wide, Width};
-use rkyv_base::writer::append;
-use rkyv_table::table::ArchivedHashTable;
+use rkyv_base::{LimitFault, LimitWriter, Narrow, Serialize, Wide, Width, WriteError, append};
+use rkyv_table::ArchivedHashTable;
 use std::alloc::Global;
 use test_support::writers::PieceWriter;
 

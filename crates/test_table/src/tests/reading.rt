@@ -1,12 +1,8 @@
 //! Reading archived tables, for the tests.
 
-use rkyv_base::access::{access, access_in};
-use rkyv_base::element::Element;
-use rkyv_base::entry::Entry;
-use rkyv_base::errors::VerifyError;
-use rkyv_base::width::Width;
-use rkyv_table::controls::find::Strides;
-use rkyv_table::table::{ArchivedHashTable, TableOf};
+use rkyv_base::access::access;
+use rkyv_base::{Element, Entry, VerifyError, Width, access_in};
+use rkyv_table::{ArchivedHashTable, Strides, TableOf};
 
 /// Returns the number of items of a table, and the number of its buckets.
 pub(crate) fn counts<T: Element, W: Width>(bytes: &[u8]) -> Result<(usize, usize), VerifyError> {

@@ -1,9 +1,7 @@
 //! The number of calls of the iterators of items, of hashes and of pairs.
 
-use rkyv_base::errors::WriteError;
-use rkyv_base::width::Wide;
-use rkyv_base::writer::VecWriter;
-use rkyv_table::table::ArchivedHashTable;
+use rkyv_base::{VecWriter, Wide, WriteError};
+use rkyv_table::ArchivedHashTable;
 use std::alloc::Global;
 use std::cell::Cell;
 use std::iter;

@@ -2,9 +2,9 @@
 
 use crate::tests::archives::{sixteen_archived, two_archived};
 use crate::tests::lookups::CallRecord;
-use rkyv_base::access::{access, access_mut};
-use rkyv_base::errors::VerifyError;
-use rkyv_table::table::{ArchivedHashTable, TableOf};
+use rkyv_base::access::access;
+use rkyv_base::{VerifyError, access_mut};
+use rkyv_table::{ArchivedHashTable, TableOf};
 use test_support::archives::no_items;
 
 // Returns `true` if a sealed lookup compares each item that it is to compare. It is in the table

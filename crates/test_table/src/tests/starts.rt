@@ -1,12 +1,9 @@
 //! Lookups, each from the start that is computed with the reciprocal of the capacity.
 
 use crate::tests::archives::{SIXTEEN, archived};
-use rkyv_base::access::access_in;
-use rkyv_base::errors::VerifyError;
-use rkyv_base::width::{Narrow, Wide, Width};
-use rkyv_table::controls::find::Strides;
+use rkyv_base::{Narrow, VerifyError, Wide, Width, access_in};
 use rkyv_table::controls::reciprocal::Reciprocal;
-use rkyv_table::table::{ArchivedHashTable, TableOf};
+use rkyv_table::{ArchivedHashTable, Strides, TableOf};
 use std::test::Fail;
 
 // One bucket without an item.

@@ -2,12 +2,9 @@
 
 use crate::tests::archives::{bools_archived, fifteen_archived};
 use crate::tests::reading::{counts, counts_and_lookup};
-use rkyv_base::access::{access, access_in};
-use rkyv_base::element::PartRange;
-use rkyv_base::entry::Entry;
-use rkyv_base::errors::VerifyError;
-use rkyv_base::width::{Narrow, Wide};
-use rkyv_table::table::{ArchivedHashTable, TableOf};
+use rkyv_base::access::access;
+use rkyv_base::{Entry, Narrow, PartRange, VerifyError, Wide, access_in};
+use rkyv_table::{ArchivedHashTable, TableOf};
 use test_support::archives::one_number;
 
 #[test]

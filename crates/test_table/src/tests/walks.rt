@@ -3,13 +3,10 @@
 use crate::tests::archives::{sixteen_archived, two_archived};
 use crate::tests::reading::walks_over;
 use rkyv_base::access::access;
-use rkyv_base::element::Element;
-use rkyv_base::entry::Entry;
-use rkyv_base::errors::VerifyError;
-use rkyv_base::width::Narrow;
+use rkyv_base::{Element, Entry, Narrow, VerifyError};
+use rkyv_table::table::laws;
 use rkyv_table::table::list_inputs::{PairRefs, Refs, WithUnits};
-use rkyv_table::table::raw_iter::RawIter;
-use rkyv_table::table::{ArchivedHashTable, TableOf, laws};
+use rkyv_table::{ArchivedHashTable, RawIter, TableOf};
 use test_support::archives::{four_pairs, no_items, one_key_twice, two_units};
 
 // Returns `true` if a walk over a table of numbers returns `items` and then `None`. The number

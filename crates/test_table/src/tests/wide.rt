@@ -2,14 +2,12 @@
 
 use crate::tests::archives::hash_of_u32;
 use crate::tests::reading::{counts, first_pos, value_of, walks_over};
-use rkyv_base::access::access_in;
-use rkyv_base::element::{Element, PartRange};
-use rkyv_base::entry::Entry;
-use rkyv_base::errors::{VerifyError, WriteError};
-use rkyv_base::width::Wide;
-use rkyv_base::writer::{NoMemory, VecWriter, align_for_in, append_in};
+use rkyv_base::{
+    Element, Entry, NoMemory, PartRange, VecWriter, VerifyError, Wide, WriteError, access_in,
+    align_for_in, append_in,
+};
 use rkyv_scan::simd::lanes;
-use rkyv_table::table::{ArchivedHashTable, TableOf};
+use rkyv_table::{ArchivedHashTable, TableOf};
 use std::alloc::Global;
 use test_support::archives::one_wide_number;
 

@@ -1,11 +1,8 @@
 //! Tables for which writing fails before the first byte.
 
-use rkyv_base::errors::WriteError;
-use rkyv_base::width::Narrow;
-use rkyv_base::writer::{NoMemory, VecWriter, append};
+use rkyv_base::{Narrow, NoMemory, VecWriter, WriteError, append};
 use rkyv_scan::simd::lanes;
-use rkyv_table::table::ArchivedHashTable;
-use rkyv_table::table::resolve::HashTableResolver;
+use rkyv_table::{ArchivedHashTable, HashTableResolver};
 use std::alloc::Global;
 
 // Returns `true` if writing failed with this text, and nothing was written after a nine.

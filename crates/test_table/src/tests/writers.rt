@@ -1,12 +1,8 @@
 //! Writers that fail in the middle of a table.
 
 use crate::tests::archives::{hash_of_u32, write_header};
-use rkyv_base::archive::WriteResult;
-use rkyv_base::errors::WriteError;
-use rkyv_base::limit::{LimitFault, LimitWriter};
-use rkyv_base::width::Narrow;
-use rkyv_base::writer::{VecWriter, Writer};
-use rkyv_table::table::ArchivedHashTable;
+use rkyv_base::{LimitFault, LimitWriter, Narrow, VecWriter, WriteError, WriteResult, Writer};
+use rkyv_table::ArchivedHashTable;
 use std::alloc::Global;
 use test_support::archives::one_number;
 use test_support::writers::{Broken, BrokenWriter, LateWriter};

@@ -5,13 +5,11 @@ use crate::tests::archives::{
     hash_of_u32, hash_of_usize, is_archive, sixteen_archived, tags_archived, two_archived, written,
 };
 use crate::tests::reading::counts;
-use rkyv_base::archive::Serialize;
-use rkyv_base::errors::WriteError;
-use rkyv_base::width::Narrow;
-use rkyv_base::writer::{NoMemory, VecWriter, append};
-use rkyv_scan::hash::{FxHasher64, FxHasher64Wide, KeyHasher};
-use rkyv_scan::simd::{GroupKind, bytewise, generic, lanes, paired};
-use rkyv_table::table::{ArchivedHashTable, laws};
+use rkyv_base::{Narrow, NoMemory, Serialize, VecWriter, WriteError, append};
+use rkyv_scan::simd::{bytewise, generic, lanes, paired};
+use rkyv_scan::{FxHasher64, FxHasher64Wide, GroupKind, KeyHasher};
+use rkyv_table::ArchivedHashTable;
+use rkyv_table::table::laws;
 use std::alloc::Global;
 use test_support::archives::{
     four_pairs, no_items, one_key_twice, one_number, one_unit, two_units,

@@ -2,12 +2,9 @@
 
 use crate::point::Point;
 use rkyv_base::access::access;
-use rkyv_base::entry::Entry;
-use rkyv_base::errors::VerifyError;
-use rkyv_base::root::to_bytes;
-use rkyv_collections::MapPairs;
-use rkyv_collections::map::{ArchivedHashMap, HashMapOf};
-use rkyv_user_types::pair::PairEntry;
+use rkyv_base::{Entry, VerifyError, to_bytes};
+use rkyv_collections::{ArchivedHashMap, HashMapOf, MapPairs};
+use rkyv_user_types::PairEntry;
 use std::alloc::Global;
 
 type Heights = HashMapOf<Entry<i32, i32>, u8>;

@@ -4,18 +4,16 @@ ghost use Rattle.std.specs.Prelude.{◌≡◌, IfOk, true};
 
 use crate::pixel::Pixel;
 use crate::point::Point;
-use rkyv_base::entry::Entry;
 use rkyv_base::errors::RoundTripError;
-use rkyv_base::width::{Narrow, Wide};
-use rkyv_collections::std_maps::hashed::Hashed;
+use rkyv_base::{Entry, Narrow, Wide};
+use rkyv_collections::Hashed;
 use rkyv_collections::std_maps::round_trip::round_trips_equal;
 use rkyv_user_types::laws::{
     pairs_are_archived_as_their_parts, pairs_are_compared_as_their_parts,
     pairs_fail_as_their_parts, pairs_hash_as_their_parts, tuples_are_archived_as_their_parts,
     tuples_are_compared_as_their_parts, tuples_fail_as_their_parts, tuples_hash_as_their_parts,
 };
-use rkyv_user_types::pair::PairEntry;
-use rkyv_user_types::tuple::TupleEntry;
+use rkyv_user_types::{PairEntry, TupleEntry};
 use std::alloc::{AllocError, Global};
 use std::collections::HashMap;
 use std::test::Fail;

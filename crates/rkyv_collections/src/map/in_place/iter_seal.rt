@@ -19,16 +19,13 @@ ghost use Rattle.rkyv_collections.specs.{StepsAndWritesValue, YieldsKeyPos, Yiel
 ghost use Rattle.rkyv_collections.specs.{entries_in, entries_of, map_spec};
 
 use crate::map::{ArchivedHashMap, HashMapOf};
-use rkyv_base::element::Element;
-use rkyv_base::entry::{Entry, LARGEST, value_offset, whole_size};
-use rkyv_base::scalars::Scalar;
-use rkyv_base::seal::{ArchiveSeal, Seal};
-use rkyv_base::view::View;
-use rkyv_base::width::{Narrow, Width};
+use rkyv_base::{
+    ArchiveSeal, Element, Entry, LARGEST, Narrow, Scalar, Seal, View, Width, value_offset,
+    whole_size,
+};
 use rkyv_keys::valid_at;
-use rkyv_scan::hash::FxHasher64;
-use rkyv_table::table::ArchivedHashTable;
-use rkyv_table::table::raw_iter_seal::RawIterSeal;
+use rkyv_scan::FxHasher64;
+use rkyv_table::{ArchivedHashTable, RawIterSeal};
 use std::marker::PhantomData;
 
 /// Returns a view of the key at `pos` and a seal of the value behind it.

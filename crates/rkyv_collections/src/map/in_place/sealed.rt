@@ -16,13 +16,9 @@ ghost use Rattle.rkyv_collections.specs.{IsValueSealAt, map_bytes, map_pos, map_
 ghost use Rattle.rkyv_keys.specs.{hash_at, hash_of, query_of};
 
 use crate::map::{ArchivedHashMap, HashMapOf};
-use rkyv_base::element::Element;
-use rkyv_base::seal::{ArchiveSeal, Seal};
-use rkyv_base::view::{View, found_pos};
-use rkyv_base::width::Width;
-use rkyv_keys::hash::KeyHash;
-use rkyv_keys::keys::{KeyElement, Query};
-use rkyv_scan::hash::KeyHasher;
+use rkyv_base::{ArchiveSeal, Element, Seal, View, Width, found_pos};
+use rkyv_keys::{KeyElement, KeyHash, Query};
+use rkyv_scan::KeyHasher;
 
 /// Returns the map at the seal, to be read.
 #[inline]

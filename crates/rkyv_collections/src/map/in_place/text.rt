@@ -8,12 +8,10 @@ ghost use Rattle.rkyv_collections.specs.{map_to_texts_spec, query_of_value};
 ghost use Rattle.rkyv_keys.specs.{query_of};
 
 use crate::map::ArchivedHashMap;
-use rkyv_base::element::Represents;
 use rkyv_base::seal_text::uppercase_at;
-use rkyv_base::text::Text;
-use rkyv_base::width::Width;
-use rkyv_keys::keys::{KeyElement, NativeKey};
-use rkyv_scan::hash::KeyHasher;
+use rkyv_base::{Represents, Text, Width};
+use rkyv_keys::{KeyElement, NativeKey};
+use rkyv_scan::KeyHasher;
 
 /// Writes each letter from a to z of the text of a key in upper case, if the text is inline.
 ///

@@ -4,10 +4,9 @@ ghost use Rattle.rkyv_keys.specs.{hash_at, hash_of};
 ghost use Rattle.rkyv_collections.specs.{ValueWritesKeepLookups, ValueWritesKeepMaps};
 ghost use Rattle.rkyv_collections.specs.{ValuesWrittenRepresent};
 
-use rkyv_base::element::{Element, Represents};
-use rkyv_base::width::Width;
-use rkyv_keys::keys::{KeyElement, Query};
-use rkyv_scan::hash::KeyHasher;
+use rkyv_base::{Element, Represents, Width};
+use rkyv_keys::{KeyElement, Query};
+use rkyv_scan::KeyHasher;
 
 /// States that a write of one value in place that keeps it valid keeps the map.
 ///

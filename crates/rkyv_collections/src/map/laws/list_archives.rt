@@ -5,12 +5,9 @@
 ghost use Rattle.rkyv_collections.specs.{FoundAreListed};
 ghost use Rattle.rkyv_keys.specs.{found_scalars, found_texts, found_views, hash_at, native_keys};
 
-use rkyv_base::element::{HasSpec, Represents};
-use rkyv_base::scalars::Scalar;
-use rkyv_base::text::Text;
-use rkyv_base::width::Width;
-use rkyv_keys::keys::{KeyElement, NativeQuery};
-use rkyv_scan::hash::KeyHasher;
+use rkyv_base::{HasSpec, Represents, Scalar, Text, Width};
+use rkyv_keys::{KeyElement, NativeQuery};
+use rkyv_scan::KeyHasher;
 
 /// States that `get` in a root map returns a view of the value of the first equal key.
 ///

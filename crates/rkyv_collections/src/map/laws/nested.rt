@@ -3,10 +3,9 @@ ghost use Rattle.rkyv_keys.specs.{hash_at, hash_of, native_keys};
 ghost use Rattle.rkyv_collections.specs.{NestedWritesKeepLookups, NestedWritesKeepMaps};
 ghost use Rattle.rkyv_collections.specs.{NestedWritesRepresent, ValueWritesAreNested};
 
-use rkyv_base::element::{Element, Represents};
-use rkyv_base::width::Width;
-use rkyv_keys::keys::{KeyElement, NativeQuery, Query};
-use rkyv_scan::hash::KeyHasher;
+use rkyv_base::{Element, Represents, Width};
+use rkyv_keys::{KeyElement, NativeQuery, Query};
+use rkyv_scan::KeyHasher;
 
 /// States that a write of one value that keeps it valid is a write among its map's parts.
 ///

@@ -9,12 +9,9 @@ ghost use Rattle.rkyv_collections.specs.{map_archive, map_bytes, map_cap, map_le
 ghost use Rattle.rkyv_collections.specs.{map_spec};
 
 use crate::map::{ArchivedHashMap, HashMapOf};
-use rkyv_base::element::Element;
-use rkyv_base::entry::Entry;
-use rkyv_base::view::View;
-use rkyv_base::width::Width;
+use rkyv_base::{Element, Entry, View, Width};
 use rkyv_table::table::decoded::Decoded;
-use rkyv_table::table::{ArchivedHashTable, TableOf};
+use rkyv_table::{ArchivedHashTable, TableOf};
 
 impl<'a, K: Element, V: Element, H, W: Width> ArchivedHashMap<'a, K, V, H, W> {
     /// Returns the map at a view of its header, which is decoded here, once.
@@ -26,9 +23,9 @@ impl<'a, K: Element, V: Element, H, W: Width> ArchivedHashMap<'a, K, V, H, W> {
     /// # Examples
     ///
     /// ```rust
+    /// use rkyv_base::VerifyError;
     /// use rkyv_base::access::access;
-    /// use rkyv_base::errors::VerifyError;
-    /// use rkyv_collections::map::{ArchivedHashMap, HashMapOf};
+    /// use rkyv_collections::{ArchivedHashMap, HashMapOf};
     ///
     /// // Returns the number of pairs of a map, and the value of a key.
     /// fn look_up(archive: &[u8], key: i8) -> Result<(usize, Option<i8>), VerifyError> {

@@ -8,11 +8,9 @@ ghost use Rattle.rkyv_keys.specs.{at_views, hash_at};
 ghost use Rattle.rkyv_collections.specs.{finds_same, map_equal, map_spec, map_view};
 
 use crate::map::{ArchivedHashMap, HashMapOf};
-use rkyv_base::view::View;
-use rkyv_base::width::Width;
-use rkyv_keys::equality::ElementEq;
-use rkyv_keys::keys::KeyElement;
-use rkyv_scan::hash::KeyHasher;
+use rkyv_base::{View, Width};
+use rkyv_keys::{ElementEq, KeyElement};
+use rkyv_scan::KeyHasher;
 
 impl<'a, K: KeyElement, V: ElementEq, H: KeyHasher, W: Width> ArchivedHashMap<'a, K, V, H, W> {
     /// Returns `true` if and only if a lookup of the key finds a value that is the same.

@@ -9,12 +9,10 @@ ghost use Rattle.rkyv_table.specs.{HintsExactly, YieldsKey, YieldsPair, YieldsVa
 ghost use Rattle.rkyv_collections.specs.{WalksAll, key_positions, map_archive, map_len};
 
 use crate::map::ArchivedHashMap;
-use rkyv_base::element::{Element, HasSpec};
-use rkyv_base::entry::Entry;
-use rkyv_base::view::{PairView, View};
-use rkyv_base::width::{Narrow, Width};
-use rkyv_scan::hash::FxHasher64;
-use rkyv_table::table::raw_iter::RawIter;
+use rkyv_base::view::PairView;
+use rkyv_base::{Element, Entry, HasSpec, Narrow, View, Width};
+use rkyv_scan::FxHasher64;
+use rkyv_table::RawIter;
 use std::marker::{Model, PhantomData};
 
 /// The pairs of a map that remain, in bucket order.

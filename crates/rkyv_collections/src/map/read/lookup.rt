@@ -16,13 +16,10 @@ ghost use Rattle.rkyv_collections.specs.{map_bytes, pair_part, value_part};
 ghost use Rattle.rkyv_keys.specs.{IsFoundAt, hash_at, hash_of, query_of};
 
 use crate::map::ArchivedHashMap;
-use rkyv_base::element::Element;
-use rkyv_base::entry::Entry;
-use rkyv_base::view::{PairView, View};
-use rkyv_base::width::Width;
-use rkyv_keys::hash::{KeyHash, hash_value};
-use rkyv_keys::keys::{KeyElement, Query};
-use rkyv_scan::hash::KeyHasher;
+use rkyv_base::view::PairView;
+use rkyv_base::{Element, Entry, View, Width};
+use rkyv_keys::{KeyElement, KeyHash, Query, hash_value};
+use rkyv_scan::KeyHasher;
 
 /// Returns `true` if and only if an entry is found.
 #[inline]

@@ -11,13 +11,10 @@ ghost use Rattle.rkyv_keys.specs.{hash_at};
 ghost use Rattle.rkyv_collections.specs.{CountsKeysUpTo, misplaced_keys};
 
 use crate::map::ArchivedHashMap;
-use rkyv_base::element::Element;
-use rkyv_base::view::View;
-use rkyv_base::width::Width;
-use rkyv_keys::hash::hash_value;
-use rkyv_keys::keys::KeyElement;
-use rkyv_scan::hash::KeyHasher;
-use rkyv_table::controls::find::Strides;
+use rkyv_base::{Element, View, Width};
+use rkyv_keys::{KeyElement, hash_value};
+use rkyv_scan::KeyHasher;
+use rkyv_table::Strides;
 
 impl<'a, K: KeyElement, V: Element, H: KeyHasher, W: Width> ArchivedHashMap<'a, K, V, H, W> {
     /// Returns the number of keys that a lookup of their own doesn't find.

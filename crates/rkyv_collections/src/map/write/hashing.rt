@@ -4,10 +4,9 @@ ghost use Rattle.std.specs.Prelude.{◌≡◌};
 ghost use Rattle.rkyv_keys.specs.{hash_of};
 ghost use Rattle.rkyv_collections.specs.{HashedStep};
 
-use rkyv_base::adapter::EntryAdapter;
-use rkyv_base::lend::Lend;
-use rkyv_keys::hash::{KeyHash, hash_value};
-use rkyv_scan::hash::KeyHasher;
+use rkyv_base::{EntryAdapter, Lend};
+use rkyv_keys::{KeyHash, hash_value};
+use rkyv_scan::KeyHasher;
 use std::marker::PhantomData;
 
 /// The pairs of an iterator, each as an entry under the hash of its key.

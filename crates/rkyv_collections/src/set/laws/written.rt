@@ -5,11 +5,9 @@ ghost use Rattle.rkyv_collections.specs.{WrittenSetsRepresent, set_list_format};
 ghost use Rattle.rkyv_keys.specs.{hash_at, hash_of, native_key_format};
 
 use crate::lists::SetItems;
-use rkyv_base::archive::Archive;
-use rkyv_base::element::Represents;
-use rkyv_base::width::Width;
-use rkyv_keys::keys::{KeyElement, NativeKey};
-use rkyv_scan::hash::KeyHasher;
+use rkyv_base::{Archive, Represents, Width};
+use rkyv_keys::{KeyElement, NativeKey};
+use rkyv_scan::KeyHasher;
 
 /// States that a written set with its header is valid in any archive that has its bytes.
 ///

@@ -23,12 +23,9 @@ use crate::map::read::accessors::begin;
 use crate::map::read::entries::entry_in;
 use crate::map::{ArchivedIndexMap, IndexMapOf};
 use crate::width::IndexWidth;
-use rkyv_base::element::Element;
-use rkyv_base::seal::{ArchiveSeal, Seal};
-use rkyv_base::view::View;
-use rkyv_keys::hash::KeyHash;
-use rkyv_keys::keys::{KeyElement, Query};
-use rkyv_scan::hash::KeyHasher;
+use rkyv_base::{ArchiveSeal, Element, Seal, View};
+use rkyv_keys::{KeyElement, KeyHash, Query};
+use rkyv_scan::KeyHasher;
 use rkyv_table::Strides;
 
 // Every sealed lookup finds an index, and then returns a seal of the pair or value at it.

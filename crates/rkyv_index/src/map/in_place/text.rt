@@ -12,11 +12,10 @@ ghost use Rattle.rkyv_index.specs.{index_to_texts_over, index_to_texts_spec, pai
 use crate::map::ArchivedIndexMap;
 use crate::map::in_place::value_pos_at;
 use crate::width::IndexWidth;
-use rkyv_base::element::Represents;
 use rkyv_base::seal_text::uppercase_at;
-use rkyv_base::text::Text;
-use rkyv_keys::keys::{KeyElement, NativeKey};
-use rkyv_scan::hash::KeyHasher;
+use rkyv_base::{Represents, Text};
+use rkyv_keys::{KeyElement, NativeKey};
+use rkyv_scan::KeyHasher;
 
 /// Writes each letter from a to z of the text at `index` in upper case, if the text is inline.
 ///

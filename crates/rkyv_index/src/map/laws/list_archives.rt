@@ -9,11 +9,9 @@ ghost use Rattle.rkyv_index.specs.{FoundAreListed};
 ghost use Rattle.rkyv_keys.specs.{found_scalars, found_texts, found_views, hash_at, native_keys};
 
 use crate::width::IndexWidth;
-use rkyv_base::element::{HasSpec, Represents};
-use rkyv_base::scalars::Scalar;
-use rkyv_base::text::Text;
-use rkyv_keys::keys::{KeyElement, NativeQuery};
-use rkyv_scan::hash::KeyHasher;
+use rkyv_base::{HasSpec, Represents, Scalar, Text};
+use rkyv_keys::{KeyElement, NativeQuery};
+use rkyv_scan::KeyHasher;
 
 /// States that a lookup in a root index map finds the index of the first equal key and its value.
 ///

@@ -6,9 +6,9 @@ ghost use Rattle.rkyv_index.specs.{NestedWritesKeepIndexMaps, ValueWritesAreNest
 ghost use Rattle.rkyv_index.specs.{WritesKeepLookups, WritesRepresent};
 
 use crate::width::IndexWidth;
-use rkyv_base::element::{Element, Represents};
-use rkyv_keys::keys::{KeyElement, Query};
-use rkyv_scan::hash::KeyHasher;
+use rkyv_base::{Element, Represents};
+use rkyv_keys::{KeyElement, Query};
+use rkyv_scan::KeyHasher;
 
 /// States that a write of one value that keeps it valid is a write among its index map's parts.
 ///

@@ -9,10 +9,9 @@ use crate::lists::OrderedPairs;
 use crate::map::IndexMapOf;
 use crate::map::write::serialize::ListFormat;
 use crate::width::IndexWidth;
-use rkyv_base::archive::Archive;
-use rkyv_base::element::Represents;
-use rkyv_keys::keys::{KeyElement, NativeKey};
-use rkyv_scan::hash::KeyHasher;
+use rkyv_base::{Archive, Represents};
+use rkyv_keys::{KeyElement, NativeKey};
+use rkyv_scan::KeyHasher;
 
 /// States that a written index map with its header is valid in any archive with its bytes.
 ///

@@ -11,10 +11,10 @@ ghost use Rattle.rkyv_index.specs.{index_pos, index_spec};
 use crate::map::check::decode_entries;
 use crate::map::{ArchivedIndexMap, IndexMapOf};
 use crate::width::IndexWidth;
-use rkyv_base::element::Element;
-use rkyv_base::view::{PairView, View};
+use rkyv_base::view::PairView;
+use rkyv_base::{Element, View};
 use rkyv_table::table::decoded::Decoded;
-use rkyv_table::table::{ArchivedHashTable, TableOf};
+use rkyv_table::{ArchivedHashTable, TableOf};
 
 // Converts a position that is at least 0 and below 2^64.
 #[inline]
@@ -57,8 +57,8 @@ impl<'a, K: Element, V: Element, H, W: IndexWidth> ArchivedIndexMap<'a, K, V, H,
     /// # Examples
     ///
     /// ```rust
+    /// use rkyv_base::VerifyError;
     /// use rkyv_base::access::access;
-    /// use rkyv_base::errors::VerifyError;
     /// use rkyv_index::{ArchivedIndexMap, IndexMapOf};
     ///
     /// // Returns the number of pairs of an index map, and the value of a key.

@@ -4,8 +4,8 @@ ghost use Rattle.rkyv_index.specs.{index_spec};
 
 use crate::map::{ArchivedIndexMap, IndexMapOf};
 use crate::width::IndexWidth;
-use rkyv_base::view::View;
-use rkyv_keys::debug::{ElementDebug, Shown};
+use rkyv_base::View;
+use rkyv_keys::{ElementDebug, Shown};
 use std::fmt::{self, Debug, Formatter, Write};
 
 impl<K: ElementDebug, V: ElementDebug, H, W: IndexWidth> ElementDebug for IndexMapOf<K, V, H, W> {

@@ -5,10 +5,8 @@ ghost use Rattle.rkyv_index.specs.{pair_deserialize_fails, pairs_deserialize_fai
 
 use crate::map::ArchivedIndexMap;
 use crate::width::IndexWidth;
-use rkyv_base::element::Element;
-use rkyv_base::entry::Entry;
-use rkyv_base::errors::ReadError;
-use rkyv_keys::deserialize::Deserialize;
+use rkyv_base::{Element, Entry, ReadError};
+use rkyv_keys::Deserialize;
 use std::alloc::Global;
 
 impl<'a, K: Element, V: Element, H, W: IndexWidth> ArchivedIndexMap<'a, K, V, H, W> {

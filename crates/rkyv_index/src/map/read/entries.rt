@@ -11,11 +11,9 @@ ghost use Rattle.rkyv_index.specs.{pair_at, stored_index};
 
 use crate::map::{ArchivedIndexMap, IndexMapOf};
 use crate::width::IndexWidth;
-use rkyv_base::element::Element;
-use rkyv_base::entry::Entry;
-use rkyv_base::view::{PairView, View};
-use rkyv_table::Strides;
-use rkyv_table::table::{ArchivedHashTable, TableOf};
+use rkyv_base::view::PairView;
+use rkyv_base::{Element, Entry, View};
+use rkyv_table::{ArchivedHashTable, Strides, TableOf};
 
 /// Returns the position of entry `i` of a row of entries from `begin` on.
 #[inline]

@@ -14,9 +14,8 @@ ghost use Rattle.rkyv_index.specs.{index_map_equal, index_maps_equal, index_spec
 
 use crate::map::{ArchivedIndexMap, IndexMapOf};
 use crate::width::IndexWidth;
-use rkyv_base::entry::Entry;
-use rkyv_base::view::View;
-use rkyv_keys::equality::{ElementEq, ElementEquiv};
+use rkyv_base::{Entry, View};
+use rkyv_keys::{ElementEq, ElementEquiv};
 
 impl<'a, K: ElementEq, V: ElementEq, H, W: IndexWidth> ArchivedIndexMap<'a, K, V, H, W> {
     /// Returns `true` if and only if both maps have the same length and the same pairs in order.

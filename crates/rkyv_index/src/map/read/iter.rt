@@ -9,9 +9,8 @@ ghost use Rattle.rkyv_index.specs.{WalksAll, index_archive, index_len, key_posit
 
 use crate::map::ArchivedIndexMap;
 use crate::width::IndexWidth;
-use rkyv_base::element::{Element, HasSpec};
-use rkyv_base::entry::Entry;
-use rkyv_base::view::{PairView, View};
+use rkyv_base::view::PairView;
+use rkyv_base::{Element, Entry, HasSpec, View};
 use std::marker::{Model, PhantomData};
 
 /// The pairs of an index map that remain, in order.

@@ -25,11 +25,10 @@ ghost use Rattle.rkyv_index.specs.{index_part, index_spec, pair_part, value_part
 use crate::map::ArchivedIndexMap;
 use crate::map::read::entries::{find_index, key_in};
 use crate::width::IndexWidth;
-use rkyv_base::element::Element;
-use rkyv_base::view::{PairView, View};
-use rkyv_keys::hash::{KeyHash, hash_value};
-use rkyv_keys::keys::{KeyElement, Query};
-use rkyv_scan::hash::KeyHasher;
+use rkyv_base::view::PairView;
+use rkyv_base::{Element, View};
+use rkyv_keys::{KeyElement, KeyHash, Query, hash_value};
+use rkyv_scan::KeyHasher;
 use rkyv_table::Strides;
 
 // Every lookup is one call of `find`.

@@ -10,9 +10,9 @@ ghost use Rattle.rkyv_index.specs.{index_of, is_misplaced, own_strides};
 
 use crate::map::ArchivedIndexMap;
 use crate::width::IndexWidth;
-use rkyv_base::element::Element;
-use rkyv_keys::keys::KeyElement;
-use rkyv_scan::hash::KeyHasher;
+use rkyv_base::Element;
+use rkyv_keys::KeyElement;
+use rkyv_scan::KeyHasher;
 use rkyv_table::Strides;
 use rkyv_table::table::misplaced::{finds_another_or_none, is_past};
 

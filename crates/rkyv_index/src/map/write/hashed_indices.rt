@@ -7,10 +7,9 @@ ghost use Rattle.rkyv_keys.specs.{hash_of};
 ghost use Rattle.rkyv_index.specs.{indices_from};
 
 use crate::width::IndexWidth;
-use rkyv_base::adapter::EntryAdapter;
-use rkyv_base::lend::Lend;
-use rkyv_keys::hash::{KeyHash, hash_value};
-use rkyv_scan::hash::KeyHasher;
+use rkyv_base::{EntryAdapter, Lend};
+use rkyv_keys::{KeyHash, hash_value};
+use rkyv_scan::KeyHasher;
 use std::marker::PhantomData;
 
 /// A value that has a hash under the hasher `H`.

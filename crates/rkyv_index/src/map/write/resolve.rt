@@ -5,12 +5,8 @@ ghost use Rattle.rkyv_index.specs.{IndexResolver, WritesIndexHeader};
 
 use crate::map::ArchivedIndexMap;
 use crate::width::IndexWidth;
-use rkyv_base::archive::ResolveResult;
-use rkyv_base::element::HasSpec;
-use rkyv_base::errors::DistanceTooLarge;
-use rkyv_base::width::Narrow;
-use rkyv_table::table::ArchivedHashTable;
-use rkyv_table::table::resolve::HashTableResolver;
+use rkyv_base::{DistanceTooLarge, HasSpec, Narrow, ResolveResult};
+use rkyv_table::{ArchivedHashTable, HashTableResolver};
 use std::marker::Model;
 
 /// The resolver of a written index map: that of its table, and the position of its entries.

@@ -5,8 +5,7 @@ ghost use Rattle.rkyv_base.specs.{end_of};
 ghost use Rattle.rkyv_index.specs.{SerializesRow, WritesRow, row_of};
 
 use crate::width::IndexWidth;
-use rkyv_base::archive::{Archive, Serialize, WriteResult};
-use rkyv_base::writer::{Writer, append_in};
+use rkyv_base::{Archive, Serialize, WriteResult, Writer, append_in};
 use std::alloc::Global;
 
 // Serializes the values in order, and pushes the resolver of each.

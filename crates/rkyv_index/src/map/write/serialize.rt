@@ -14,16 +14,12 @@ use crate::map::write::source::{Room, take_entries};
 use crate::map::write::write_index;
 use crate::map::{ArchivedIndexMap, IndexMapOf};
 use crate::width::IndexWidth;
-use rkyv_base::adapter::EntryAdapter;
-use rkyv_base::archive::{Archive, Serialize, WriteResult};
-use rkyv_base::element::{Element, Represents};
-use rkyv_base::entry::Entry;
-use rkyv_base::errors::{IteratorLengthMismatch, WriteError};
-use rkyv_base::lend::Lend;
-use rkyv_base::writer::Writer;
-use rkyv_keys::hash::KeyHash;
-use rkyv_keys::keys::{KeyElement, NativeKey};
-use rkyv_scan::hash::KeyHasher;
+use rkyv_base::{
+    Archive, Element, Entry, EntryAdapter, IteratorLengthMismatch, Lend, Represents, Serialize,
+    WriteError, WriteResult, Writer,
+};
+use rkyv_keys::{KeyElement, KeyHash, NativeKey};
+use rkyv_scan::KeyHasher;
 use rkyv_table::controls::numbers::capacity;
 use std::alloc::Global;
 

@@ -6,8 +6,7 @@ ghost use Rattle.std.specs.Iterator.{Drains};
 ghost use Rattle.rkyv_table.specs.{YieldsOtherCount};
 ghost use Rattle.rkyv_index.specs.{pairs_of};
 
-use rkyv_base::adapter::EntryAdapter;
-use rkyv_base::lend::Lend;
+use rkyv_base::{EntryAdapter, Lend};
 use rkyv_table::table::take::next_item;
 use std::alloc::{AllocError, Global};
 

@@ -4,10 +4,9 @@ ghost use Rattle.rkyv_keys.specs.{hash_at, hash_of};
 ghost use Rattle.rkyv_index.specs.{WrittenIndexSets, element, indices};
 
 use crate::width::IndexWidth;
-use rkyv_base::archive::Archive;
-use rkyv_base::element::Represents;
-use rkyv_keys::keys::{KeyElement, NativeKey};
-use rkyv_scan::hash::KeyHasher;
+use rkyv_base::{Archive, Represents};
+use rkyv_keys::{KeyElement, NativeKey};
+use rkyv_scan::KeyHasher;
 
 /// States that a written index set with its header is valid in any archive with its bytes.
 ///

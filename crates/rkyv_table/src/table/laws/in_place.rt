@@ -6,8 +6,7 @@ ghost use Rattle.rkyv_table.specs.{IsWalked, ItemsWrittenRepresent, KeepsArchive
 ghost use Rattle.rkyv_table.specs.{KeptByValueWrites, KeptByWrites, SameLookups, WritesAmongParts};
 ghost use Rattle.rkyv_table.specs.{table_spec};
 
-use rkyv_base::element::{Element, Represents};
-use rkyv_base::width::Width;
+use rkyv_base::{Element, Represents, Width};
 
 /// States that if a write changes one item alone and keeps it valid, the table stays valid.
 ///

@@ -5,9 +5,7 @@ ghost use Rattle.rkyv_base.specs.{RepresentsAs, RepresentsLocally, written_as};
 ghost use Rattle.rkyv_table.specs.{RepresentedWereWritten, TableRepresents, WrittenTablesPass};
 ghost use Rattle.rkyv_table.specs.{WrittenTablesRepresent, table_spec};
 
-use rkyv_base::archive::Archive;
-use rkyv_base::lend::Lend;
-use rkyv_base::width::Width;
+use rkyv_base::{Archive, Lend, Width};
 
 /// States that a written table with its header is valid in any archive that has its bytes.
 ///

@@ -3,7 +3,7 @@
 use super::out_of_range;
 use example_first_map::look_up;
 use example_lists::in_place::set_count;
-use rkyv_base::root::to_bytes;
+use rkyv_base::to_bytes;
 use rkyv_collections::MapPairs;
 use std::alloc::Global;
 use std::test::Fail;

@@ -2,7 +2,7 @@
 
 use super::{out_of_range, without_first};
 use example_lists::index_maps::{PricePairs, index_of_name, price_of};
-use rkyv_base::root::to_bytes;
+use rkyv_base::to_bytes;
 use rkyv_index::OrderedPairs;
 use std::alloc::Global;
 use std::test::Fail;

@@ -4,8 +4,7 @@ use super::{out_of_range, without_first};
 use example_lists::maps::{
     NumberPairs, SpotPairs, TitlePairs, number_of, spot_of, title_of, write_numbers,
 };
-use rkyv_base::root::{to_bytes, to_bytes_in};
-use rkyv_base::width::Wide;
+use rkyv_base::{Wide, to_bytes, to_bytes_in};
 use rkyv_collections::MapPairs;
 use std::alloc::Global;
 use std::test::Fail;

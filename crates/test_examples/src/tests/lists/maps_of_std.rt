@@ -2,8 +2,8 @@
 
 use super::{out_of_range, without_first};
 use example_lists::maps_of_std::{AgeMap, FareMap, LineSet, age_of, fare_of, has_line};
-use rkyv_base::root::to_bytes;
-use rkyv_collections::std_maps::hashed::Hashed;
+use rkyv_base::to_bytes;
+use rkyv_collections::Hashed;
 use std::alloc::Global;
 use std::collections::{HashMap, HashSet};
 use std::test::Fail;

@@ -2,7 +2,7 @@
 
 use super::{out_of_range, without_first};
 use example_lists::sets::{WordItems, has_word, index_of_id, name_at};
-use rkyv_base::root::to_bytes;
+use rkyv_base::to_bytes;
 use rkyv_collections::SetItems;
 use rkyv_index::OrderedItems;
 use std::alloc::Global;

@@ -1,7 +1,7 @@
 //! Messages without their last bytes, and messages with a changed byte.
 
 use example_message::message::{archive, number_of, set_number};
-use rkyv_base::errors::VerifyError;
+use rkyv_base::VerifyError;
 use rkyv_collections::MapPairs;
 use std::alloc::Global;
 use std::test::Fail;

@@ -1,7 +1,7 @@
 //! Tables without their last bytes, and tables with a changed byte.
 
 use example_symbols::table::{address_of, archive};
-use rkyv_base::errors::VerifyError;
+use rkyv_base::VerifyError;
 use std::alloc::Global;
 use std::test::Fail;
 use test_support::changes::permitted_flips;
