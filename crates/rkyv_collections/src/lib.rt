@@ -5,7 +5,7 @@
 //! types of the headers. `ArchivedHashMap` and `ArchivedHashSet` are a map and a set that are read.
 //!
 //! - To archive a list, wrap it in `MapPairs` or `SetItems`. To archive a map or set of std,
-//!   wrap it in `std_maps::hashed::Hashed`.
+//!   wrap it in `Hashed`.
 //! - To archive from an iterator, `serialize_from_iter` writes a map or set and returns
 //!   its resolver.
 //! - To read, `ArchivedHashMap::of` and `ArchivedHashSet::of` decode the header at a view,

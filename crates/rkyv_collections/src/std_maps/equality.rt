@@ -5,16 +5,14 @@
 //! - `MatchesNative` compares maps that are values.
 
 ghost use Rattle.std.specs.Prelude.{IsTrue, ◌↔◌};
-ghost use Rattle.rkyv_base.specs.Lemmas.Pairs.{written_as-format};
 ghost use Rattle.rkyv_base.specs.{AtView, IsValidView};
 ghost use Rattle.rkyv_keys.specs.{hash_of, queried};
 ghost use Rattle.rkyv_table.specs.{listed};
 ghost use Rattle.rkyv_collections.specs.{EntriesEqual, FindsFirstAcceptedIn, FindsPairIn};
 ghost use Rattle.rkyv_collections.specs.{StdMapEquals, StdMapEqualsIn, map_format, map_spec};
 ghost use Rattle.rkyv_collections.specs.{of_entries};
-ghost use Rattle.rkyv_collections.specs.Lemmas.MapSound.{listed_map_sound};
 ghost use Rattle.rkyv_collections.specs.Lemmas.StdOnce.{std_map_once};
-ghost use Rattle.rkyv_collections.specs.Lemmas.StdEqualLaws.{entries_equal};
+ghost use Rattle.rkyv_collections.specs.Lemmas.StdMapSound.{std_map_equal};
 
 use crate::map::{ArchivedHashMap, HashMapOf};
 use crate::std_maps::hashed::Hashed;
@@ -150,18 +148,9 @@ where
     B::Archived: MatchesNative<B>,
     A: NativeKey<A::Archived>,
 {
-    ghost equal = { let format = map_format W.word A.Archived.spec B.Archived.spec A.format
-        B.format (hash_of H.hasher A.calls) (7, 8) in
-        let spec = map_spec W.word A.Archived.spec B.Archived.spec in
-        let whole = listed W.MAX_CAPACITY (7, 8) format in
-        written_as-format (λ x. x.map.entries) spec
-        (EntriesEqual W.word A.Archived.spec B.Archived.spec (hash_of H.hasher A.calls) A.fits
-        B.Archived.equals) (of_entries A.eq whole)
-        (entries_equal H.hasher W.word W.layout.kind A.Archived.laws B.Archived.laws (7, 8) A.query
-        A.native A.Eq.laws A.reads whole
-        (listed_map_sound H.hasher W.word A.Archived.laws B.Archived.laws (7, 8) W.MAX_CAPACITY
-        W.layout.kind
-        A.query A.native A.Eq.laws.refl A.reads A.Archive.laws B.equal)) };
+    ghost equal = { std_map_equal (λ x. x.map.entries) H.hasher W.word A.Archived.laws
+        B.Archived.laws W.MAX_CAPACITY W.layout.kind A.query A.native A.Eq.laws A.reads
+        A.Archive.laws B.equal };
 }
 
 /// A map or set of std that can be compared with an archived one of the type `C`.

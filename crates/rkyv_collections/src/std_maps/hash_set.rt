@@ -4,18 +4,15 @@ ghost use Rattle.std.specs.Prelude.{IsTrue, MatchResult, ◌↔◌};
 ghost use Rattle.rkyv_base.specs.{AtView, IsValidView, RepresentsAs, unit_format, unit_represents};
 ghost use Rattle.rkyv_base.specs.{unit_spec, written_as};
 ghost use Rattle.rkyv_base.specs.Lemmas.Empty.{unit_element, unit_is_format, unit_local};
-ghost use Rattle.rkyv_base.specs.Lemmas.Pairs.{written_as-format};
 ghost use Rattle.rkyv_keys.specs.{Deserializes, hash_of, native_format, queried};
 ghost use Rattle.rkyv_table.specs.{listed, with_units};
 ghost use Rattle.rkyv_collections.specs.{EntriesEqual, InsertsKey, ReadsStdSet, SerializesEntries};
 ghost use Rattle.rkyv_collections.specs.{StdSetEquals, StdSetEqualsIn, StdSetRepresents, inner};
 ghost use Rattle.rkyv_collections.specs.{insert_key_fails, map_format, of_entries, set_spec};
 ghost use Rattle.rkyv_collections.specs.{set_view, std_set_fails};
-ghost use Rattle.rkyv_collections.specs.Lemmas.MapSound.{listed_map_sound};
 ghost use Rattle.rkyv_collections.specs.Lemmas.StdOnce.{std_set_once};
-ghost use Rattle.rkyv_collections.specs.Lemmas.StdEqualLaws.{entries_equal};
 ghost use Rattle.rkyv_collections.specs.Lemmas.StdMapLaws.{entries_local};
-ghost use Rattle.rkyv_collections.specs.Lemmas.StdMapSound.{std_map_sound};
+ghost use Rattle.rkyv_collections.specs.Lemmas.StdMapSound.{std_map_equal, std_map_sound};
 ghost use Rattle.rkyv_collections.specs.Lemmas.StdSet.{set_equal_written};
 
 use crate::set::write::HashSetResolver;
@@ -258,20 +255,12 @@ where
     A::Archived: KeyElement,
     A: NativeKey<A::Archived>,
 {
-    ghost equal = { let own = hash_of H.hasher A.calls in
-        let equals = EntriesEqual W.word A.Archived.spec unit_spec own A.fits unit_represents in
-        let format = map_format W.word A.Archived.spec unit_spec A.format unit_format own
-        (7, 8) in
-        let spec = set_spec W.word A.Archived.spec in
-        let whole = listed W.MAX_CAPACITY (7, 8) format in
-        set_equal_written W.word A.Archived.spec spec own A.fits (λ x. x.map.keys)
-        (written_as (λ x. with_units x.map.keys) (of_entries A.eq whole))
-        (written_as-format (λ x. with_units x.map.keys) spec equals (of_entries A.eq whole)
-        (entries_equal H.hasher W.word W.layout.kind A.Archived.laws unit_element (7, 8) A.query
-        A.native A.Eq.laws A.reads whole
-        (listed_map_sound H.hasher W.word A.Archived.laws unit_element (7, 8) W.MAX_CAPACITY
-        W.layout.kind
-        A.query A.native A.Eq.laws.refl A.reads A.Archive.laws unit_is_format))) };
+    ghost equal = { let set = set_spec W.word A.Archived.spec in
+        set_equal_written W.word A.Archived.spec set (hash_of H.hasher A.calls) A.fits
+        (λ x. x.map.keys) ⟦<Hashed<HashSet<A, T>, H> as Archive<W>>⟧.format
+        (std_map_equal (λ x. with_units x.map.keys) H.hasher W.word A.Archived.laws unit_element
+        W.MAX_CAPACITY W.layout.kind A.query A.native A.Eq.laws A.reads A.Archive.laws
+        unit_is_format) };
 }
 
 impl<K: Deserialize<A>, H, W: Width, A: Eq + Hash + Drop> Deserialize<HashSet<A>>

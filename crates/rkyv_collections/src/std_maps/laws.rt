@@ -80,17 +80,23 @@ where
 
 /// States that a map represents the map of std of its pairs, inserted in bucket order.
 ///
-/// Without a hasher, `Hashed` has `FxHasher64`.
-pub fn std_maps_are_represented<K, V, A, B, T: BuildHasher, H, W: Width>()
+/// It represents a reference to that map too. Without a hasher, `Hashed` has `FxHasher64`.
+pub fn std_maps_are_represented<'a, K, V, A, B, T: BuildHasher, H, W: Width>()
 where
     K: Represents<A>,
     V: Represents<B>,
-    A: Eq + Hash,
+    A: Eq + Hash + 'a,
+    B: 'a,
+    T: 'a,
     ensures maps { SameValues ⟦<HashMapOf<K, V, H, W> as Represents<HashMap<A, B, T>>>⟧.represents
         (StdMapRepresents K.spec V.spec K.represents V.represents W.word A.eq) }
     ensures hashed { let m = ⟦<HashMapOf<K, V, H, W> as Represents<Hashed<HashMap<A, B, T>, H>>>⟧ in
         SameValues m.represents (RepresentsAs inner
         (StdMapRepresents K.spec V.spec K.represents V.represents W.word A.eq)) }
+    ensures references { SameValues
+        ⟦<HashMapOf<K, V, H, W> as Represents<Hashed<&'a HashMap<A, B, T>, H>>>⟧.represents
+        (RepresentsAs referent
+        ⟦<HashMapOf<K, V, H, W> as Represents<Hashed<HashMap<A, B, T>, H>>>⟧.represents) }
     ensures default_hasher { SameValues
         ⟦<HashMapOf<K, V> as Represents<Hashed<HashMap<A, B, T>>>>⟧.represents
         ⟦<HashMapOf<K, V> as Represents<Hashed<HashMap<A, B, T>, FxHasher64>>>⟧.represents }
@@ -98,16 +104,21 @@ where
 
 /// States that a set represents the set of std of its keys, inserted in bucket order.
 ///
-/// Without a hasher, `Hashed` has `FxHasher64`.
-pub fn std_sets_are_represented<K, A, T: BuildHasher, H, W: Width>()
+/// It represents a reference to that set too. Without a hasher, `Hashed` has `FxHasher64`.
+pub fn std_sets_are_represented<'a, K, A, T: BuildHasher, H, W: Width>()
 where
     K: Represents<A>,
-    A: Eq + Hash,
+    A: Eq + Hash + 'a,
+    T: 'a,
     ensures sets { SameValues ⟦<HashSetOf<K, H, W> as Represents<HashSet<A, T>>>⟧.represents
         (StdSetRepresents K.spec K.represents W.word A.eq) }
     ensures hashed { let s = ⟦<HashSetOf<K, H, W> as Represents<Hashed<HashSet<A, T>, H>>>⟧ in
         SameValues s.represents (RepresentsAs inner
         (StdSetRepresents K.spec K.represents W.word A.eq)) }
+    ensures references { SameValues
+        ⟦<HashSetOf<K, H, W> as Represents<Hashed<&'a HashSet<A, T>, H>>>⟧.represents
+        (RepresentsAs referent
+        ⟦<HashSetOf<K, H, W> as Represents<Hashed<HashSet<A, T>, H>>>⟧.represents) }
     ensures default_hasher { SameValues
         ⟦<HashSetOf<K> as Represents<Hashed<HashSet<A, T>>>>⟧.represents
         ⟦<HashSetOf<K> as Represents<Hashed<HashSet<A, T>, FxHasher64>>>⟧.represents }
