@@ -6,7 +6,7 @@ ghost use Rattle.std.specs.List.{find};
 ghost use Rattle.rkyv_table.specs.{AreWrittenControls, HasRoom, IsWrapped, empty_index};
 ghost use Rattle.rkyv_table.specs.{fresh_controls, is_empty_at, probed, tag, with_control};
 
-use crate::controls::numbers::{bucket_of, tag};
+use crate::controls::numbers::{bucket_of, start, tag};
 use crate::controls::probe::Probe;
 use rkyv_scan::{GroupKind, Marks};
 use std::alloc::{AllocError, Global};
@@ -41,7 +41,7 @@ pub fn place_one<G: GroupKind>(controls: &mut [u8], cap: usize, hash: u64) -> us
     ensures first { find (is_empty_at controls.old) (probed hash cap) ≡ Some result }
     ensures after { controls.new ≡ with_control controls.old cap result (tag hash) }
 {
-    place_from::<G>(controls, cap, (hash % cap as u64) as usize, hash)
+    place_from::<G>(controls, cap, start(hash, cap), hash)
 }
 
 /// Places an item by its hash and a given start, and returns its home bucket.

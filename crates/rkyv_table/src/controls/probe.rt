@@ -41,7 +41,7 @@ impl Probe {
         requires fits { control_count cap ≤ 2 ^ 63 }
         ensures { result ≡ strides hash cap }
     {
-        Probe::starting_at((hash % cap as u64) as usize, cap)
+        Probe::starting_at(numbers::start(hash, cap), cap)
     }
 
     /// Returns the probe sequence of each hash that is `start` modulo `cap`.

@@ -91,6 +91,7 @@ impl<'a, T: Element, W: Width> ArchivedHashTable<'a, T, W> {
         requires view { IsValidView (table_spec W.word T.spec) view }
         requires header { IsDecoded W.word (bytes_of view) (pos_of view) header }
         ensures view { result.view ≡ view.entry }
+        ensures header { result.header ≡ header }
     {
         ArchivedHashTable { view, header }
     }

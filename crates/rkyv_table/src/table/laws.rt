@@ -3,8 +3,8 @@
 //! - `written` is about the bytes of written tables, `misplaced` about misplaced items.
 //! - `in_place` is about writes of one item in place.
 ghost use Rattle.std.specs.Int.{w32};
-ghost use Rattle.std.specs.Iterator.{YieldsFirstBy};
-ghost use Rattle.std.specs.Prelude.{List, [], ℕ, ◌↔◌, ◌≡◌};
+ghost use Rattle.std.specs.Iterator.{YieldsFirstBy, at_most};
+ghost use Rattle.std.specs.Prelude.{List, [], length, ℕ, ◌↔◌, ◌≡◌};
 ghost use Rattle.std.specs.Slice.Iter.{iter_rest};
 ghost use Rattle.rkyv_base.specs.{RepresentsAs, SameSpec, pair_format, scalar_format, text_format};
 ghost use Rattle.rkyv_base.specs.{unit_format, written_as};
@@ -41,7 +41,8 @@ pub fn positions_are_yielded<'a, T: 'a>()
 
 /// States that the iterators over a list yield its pairs or items in turn.
 ///
-/// Those with units yield the keys of another iterator, each with the unit value.
+/// Those with units yield the keys of another iterator, each with the unit value. At most as many
+/// items remain as are left in the list, and `next` has no condition of its own.
 pub fn lists_are_yielded<'a, A: 'a, B: 'a, BK, I: Iterator<Item = BK>>()
     ensures pairs { SameSteps ⟦<PairRefs<'a, A, B> as Iterator>⟧.next_gives
         (YieldsFirstBy (λ pair. (pair.0.now, pair.1.now)) (λ s. iter_rest s.pairs)) }
@@ -49,6 +50,15 @@ pub fn lists_are_yielded<'a, A: 'a, B: 'a, BK, I: Iterator<Item = BK>>()
         (YieldsFirstBy (λ item. item.now) (λ s. iter_rest s.items)) }
     ensures units { SameSteps ⟦<WithUnits<I> as Iterator>⟧.next_gives
         (λ s r t. UnitStep I.next_gives s.keys r t.keys) }
+    ensures pairs_remain { (s : _) → ⟦<PairRefs<'a, A, B> as Iterator>⟧.remaining s
+        ≡ at_most (length (iter_rest s.pairs)) }
+    ensures items_remain { (s : _) → ⟦<Refs<'a, A> as Iterator>⟧.remaining s
+        ≡ at_most (length (iter_rest s.items)) }
+    ensures units_remain { (s : _) → ⟦<WithUnits<I> as Iterator>⟧.remaining s
+        ≡ I.remaining s.keys }
+    ensures pairs_ready { (s : _) → ⟦<PairRefs<'a, A, B> as Iterator>⟧.can_next s }
+    ensures items_ready { (s : _) → ⟦<Refs<'a, A> as Iterator>⟧.can_next s }
+    ensures units_ready { (s : _) → ⟦<WithUnits<I> as Iterator>⟧.can_next s ↔ I.can_next s.keys }
 {}
 
 /// States that a lookup in a written table finds the first accepted item of its list.

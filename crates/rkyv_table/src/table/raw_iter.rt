@@ -69,7 +69,8 @@ impl<T> RawIter<'static, T> {
     /// Returns a walk over no items.
     #[inline]
     pub fn empty() -> RawIter<'static, T>
-        ensures { result.positions ≡ [] }
+        ensures positions { result.positions ≡ [] }
+        ensures archive { result.archive.now ≡ [] }
     {
         RawIter {
             archive: &[],

@@ -277,9 +277,15 @@ impl<'a, T: Element, W: Width> ArchivedHashTable<'a, T, W> {
     ///     let whole = access_mut::<TableOf<u8>>(bytes)?;
     ///     let mut rest = ArchivedHashTable::raw_iter_seal(whole);
     ///     let positions = [
-    ///         rest.next_with(|archive: &mut [u8], pos: u64| change(archive, pos, 7)),
-    ///         rest.next_with(|archive: &mut [u8], pos: u64| change(archive, pos, 9)),
-    ///         rest.next_with(|archive: &mut [u8], pos: u64| change(archive, pos, 11)),
+    ///         rest.next_with(|archive: &mut [u8], pos: u64| {
+    ///             change(archive, pos, 7);
+    ///         }),
+    ///         rest.next_with(|archive: &mut [u8], pos: u64| {
+    ///             change(archive, pos, 9);
+    ///         }),
+    ///         rest.next_with(|archive: &mut [u8], pos: u64| {
+    ///             change(archive, pos, 11);
+    ///         }),
     ///     ];
     ///     Ok((positions, rest.len()))
     /// }

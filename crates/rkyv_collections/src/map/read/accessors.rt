@@ -64,6 +64,7 @@ impl<'a, K: Element, V: Element, H, W: Width> ArchivedHashMap<'a, K, V, H, W> {
         requires view { IsValidView (map_spec W.word K.spec V.spec) view }
         requires header { IsDecoded W.word (bytes_of view) (pos_of view) header }
         ensures view { result.view ≡ view.entry }
+        ensures header { result.header ≡ header }
     {
         ArchivedHashMap { view, header }
     }

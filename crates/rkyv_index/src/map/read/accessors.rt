@@ -94,6 +94,7 @@ impl<'a, K: Element, V: Element, H, W: IndexWidth> ArchivedIndexMap<'a, K, V, H,
         requires view { IsValidView (index_spec W.word (entry_spec K.spec V.spec)) view }
         requires header { IsDecoded W.word (bytes_of view) (pos_of view) header }
         ensures view { result.view ≡ view.entry }
+        ensures header { result.header ≡ header }
     {
         ArchivedIndexMap {
             view,
@@ -144,10 +145,7 @@ impl<'a, K: Element, V: Element, H, W: IndexWidth> ArchivedIndexMap<'a, K, V, H,
     /// // Returns the name at an index, borrowed from the archive.
     /// fn name_at(archive: &[u8], index: usize) -> Result<Option<&str>, VerifyError> {
     ///     let prices = ArchivedIndexMap::of(access::<Prices>(archive)?);
-    ///     match prices.get_index(index) {
-    ///         Some((name, _)) => Ok(Some(name.as_str())),
-    ///         None => Ok(None),
-    ///     }
+    ///     Ok(prices.get_index(index).map(|(name, _)| name.as_str()))
     /// }
     /// ```
     #[inline]
@@ -172,10 +170,7 @@ impl<'a, K: Element, V: Element, H, W: IndexWidth> ArchivedIndexMap<'a, K, V, H,
     /// // Returns the first name, borrowed from the archive.
     /// fn first_name(archive: &[u8]) -> Result<Option<&str>, VerifyError> {
     ///     let prices = ArchivedIndexMap::of(access::<Prices>(archive)?);
-    ///     match prices.first() {
-    ///         Some((name, _)) => Ok(Some(name.as_str())),
-    ///         None => Ok(None),
-    ///     }
+    ///     Ok(prices.first().map(|(name, _)| name.as_str()))
     /// }
     /// ```
     #[inline]
@@ -197,10 +192,7 @@ impl<'a, K: Element, V: Element, H, W: IndexWidth> ArchivedIndexMap<'a, K, V, H,
     /// // Returns the last price.
     /// fn last_price(archive: &[u8]) -> Result<Option<u32>, VerifyError> {
     ///     let prices = ArchivedIndexMap::of(access::<Prices>(archive)?);
-    ///     match prices.last() {
-    ///         Some((_, price)) => Ok(Some(price.to_native())),
-    ///         None => Ok(None),
-    ///     }
+    ///     Ok(prices.last().map(|(_, price)| price.to_native()))
     /// }
     /// ```
     #[inline]
