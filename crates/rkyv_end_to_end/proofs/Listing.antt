@@ -2,7 +2,7 @@
 use Rattle.std.proofs.Common.{◌≡◌, ℕ, ◌+◌, ◌-◌, ◌*◌, ◌%◌, ◌≤◌, ◌∙◌, inl, inr, refl, sym, ap, subst, arith, append_assoc, length-append, length-take, Bool, List, [], ◌++◌, ◌^◌, ◌<◌, length, take}
 use Rattle.std.specs.Int.{Width, byte_len}
 use Rattle.std.proofs.lemmas.List.{length-map, length-replicate, take_all}
-use Rattle.rkyv_base.specs.{Appends, ElementMembers, ElementSpec, Fails, Format, IsArchiveWord, IsElement, IsFormat, OccursAt, Output, WidthMembers, end_of, padding, round_up, zeros}
+use Rattle.rkyv_base.specs.{Appends, ElementMembers, ElementSpec, Fails, Format, IsArchiveWord, IsElement, IsFormat, ModifiesOnly, OccursAt, Output, RepresentsLocally, StaysValid, Viewable, WidthMembers, end_of, padding, round_up, zeros}
 use Rattle.rkyv_base.specs.Lemmas.Bytes.{occurs_back, occurs_front}
 use Rattle.rkyv_base.specs.Lemmas.Entry.{round_up-multiple}
 use Rattle.rkyv_base.specs.Lemmas.Text.{by_archive_word}
@@ -16,9 +16,14 @@ use Rattle.rkyv_base.specs.declared.width.Word.{Ghosts as Words}
 use Rattle.rkyv_base.proofs.WritingSteps.{appends_after, end-appends}
 use Rattle.rkyv_scan.specs.{generic_kind}
 use Rattle.rkyv_scan.specs.Lemmas.KindLaws.{word_lawful}
+use Rattle.std.specs.Prelude.{slice_set, slice_index}
+use Rattle.std.proofs.lemmas.Option.{slice_get_within}
+use Rattle.rkyv_table.proofs.NewItems.{items_written, same_hashes}
+use Rattle.rkyv_table.proofs.SealedTable.{table_kept}
+use Rattle.rkyv_table.proofs.WrittenTables.{home_count, home_pos, home_walked}
 use Rattle.rkyv_table.specs.Lemmas.TableLaws.{table_element}
-use Rattle.rkyv_table.specs.{IsFirstOf, IsHeader, IsValidAround, IsWrittenOf, LookupFindsFirst, RepresentedWereWritten, TableIn, TableRepresents, TableResolver, VisitsHomes, WalkVisitsHomes, WrittenTablesPass, cap_at, capacity, hashes_of, items_of, len_at, resolved_capacity, table_controls, table_format, table_spec}
-use Rattle.rkyv_end_to_end.specs.{Encoding, IsWrittenList, ListBytes, ListInput, ListsAreValid, LookOverFails, ReportsList, ReportsTable, VisitsItems, WriteAndFindFails, WroteList, table_of}
+use Rattle.rkyv_table.specs.{IsFirstOf, IsHeader, IsValidAround, IsWrittenOf, LookupFindsFirst, RepresentedWereWritten, TableIn, TableRepresents, TableResolver, VisitsHomes, WalkVisitsHomes, WrittenTablesPass, cap_at, capacity, hashes_of, item_at, items_of, len_at, resolved_capacity, table_controls, table_format, table_spec}
+use Rattle.rkyv_end_to_end.specs.{Encoding, IsWrittenList, ItemsAreReplaced, ListBytes, ListInput, ListsAreValid, LookOverFails, LookupsFindListed, ReportsList, ReportsTable, VisitsItems, WriteAndFindFails, WroteList, table_of}
 use Rattle.rkyv_end_to_end.specs.declared.looking.LookError.{LookError}
 use Rattle.rkyv_end_to_end.specs.declared.looking.LookError.TheVariants.{Memory, Verify}
 use Rattle.rkyv_end_to_end.specs.declared.looking.TableReport.{TableReport}
@@ -90,26 +95,20 @@ appended_sits o o' x from a =
     let at : 0 + length o.bytes ≡ end_of o = omega (arith, from) in
     subst (λ (c : List ℕ). OccursAt c (end_of o) x) (sym a.bytes) (subst (λ q. OccursAt b q x) at (occurs_back b 0 o.bytes x all))
 
-module _ {X : Type 0} (w : Width) (s : ElementSpec) (represents : List ℕ → ℕ → X → Type 0) (load_factor : ℕ × ℕ) (were : RepresentedWereWritten w s represents load_factor) (visits : WalkVisitsHomes) (none_visits : (controls : List ℕ) → VisitsHomes 0 [] controls) where
-  -- the walk over a valid table
-  items_visited : (c : List ℕ) (p : ℕ) (pairs : List (ℕ × X)) → TableRepresents w s represents load_factor c p pairs → VisitsItems (record { word = w; spec = s; bytes = c; pos = p }) represents pairs
-  items_visited c p pairs table_represents =
-      let is = were c p pairs table_represents in
-      let written = is.written in
-      let count = length-map pairs (λ (x : ℕ × X). x.0) in
-      record {
-        homes = is.homes;
-        written = written;
-        at = is.at;
-        visits = elim written.placed [
-          | inl none ↦
-              let n : length pairs ≡ 0 = omega (arith, ap length none.0, count) in
-              let cap : cap_at w c p ≡ 0 = table_represents.cap ∙ rw n refl in
-              let controls : List ℕ = table_controls w c p in
-              subst (λ n. VisitsHomes n is.homes controls) (sym cap) (subst (λ (xs : List ℕ). VisitsHomes 0 xs controls) (sym none.1) (none_visits controls))
-          | inr some ↦ visits (cap_at w c p) (hashes_of pairs) is.homes (table_controls w c p) some.0 written.fit some.1
-        ];
-      }
+-- the walk over a table that was written from pairs. `none_visits`: if there are no pairs
+items_visited : {X : Type 0} (w : Width) (s : ElementSpec) (represents : List ℕ → ℕ → X → Type 0) (visits : WalkVisitsHomes) (c : List ℕ) (p : ℕ) (pairs : List (ℕ × X)) (is : IsWrittenOf w s.size represents c p pairs)
+    → (none_visits : hashes_of pairs ≡ [] → VisitsHomes (cap_at w c p) [] (table_controls w c p)) → VisitsItems (record { word = w; spec = s; bytes = c; pos = p }) represents pairs
+items_visited w s represents visits c p pairs is none_visits =
+    let controls : List ℕ = table_controls w c p in
+    record {
+      homes = is.homes;
+      written = is.written;
+      at = is.at;
+      visits = elim is.written.placed [
+        | inl none ↦ subst (λ (xs : List ℕ). VisitsHomes (cap_at w c p) xs controls) (sym none.1) (none_visits none.0)
+        | inr some ↦ visits (cap_at w c p) (hashes_of pairs) is.homes controls some.0 is.written.fit some.1
+      ];
+    }
 
 module _ {X R : Type 0} (w : Width) (items : Encoding X R) (load_factor : ℕ × ℕ) (were : RepresentedWereWritten w items.spec items.represents load_factor) (visits : WalkVisitsHomes)
     (none_visits : (controls : List ℕ) → VisitsHomes 0 [] controls) (kind : IsArchiveWord w) (law : IsElement items.spec)
@@ -135,14 +134,60 @@ module _ {X R : Type 0} (w : Width) (items : Encoding X R) (load_factor : ℕ ×
       let around = passing pairs l.resolver c begin p part out l.parts l.image sp so up aligned in
       let len : length bytes ≡ length part + (length z + length out) = ap length l.is ∙ length-append part (z ++ out) ∙ ap (λ k. length part + k) (length-append z out) in (
         record {
-          behind = (omega (arith, l.ends), omega (arith, l.at));
-          aligned = aligned;
-          passes = subst (IsValidAround (table_spec w s) c p begin) (sym l.ends) around;
+          holds = record {
+            behind = (omega (arith, l.ends), omega (arith, l.at));
+            inside = omega (arith, whole, so.inside);
+            aligned = aligned;
+            passes = subst (IsValidAround (table_spec w s) c p begin) (sym l.ends) around;
+            items = items_visited w s items.represents visits c p pairs (were c p pairs table_represents) (λ none.
+                let count = length-map pairs (λ (x : ℕ × X). x.0) in
+                let n : length pairs ≡ 0 = omega (arith, ap length none, count) in
+                subst (λ m. VisitsHomes m [] (table_controls w c p)) (sym (table_represents.cap ∙ rw n refl)) (none_visits (table_controls w c p)));
+          };
           table_represents = table_represents;
-          items = items_visited w s items.represents load_factor were visits none_visits c p pairs table_represents;
         },
         omega (arith, len, whole, at),
       )
+
+-- after a write of one item in place, the table holds the list with the new item
+module _ {X R : Type 0} (w : Width) (items : Encoding X R) (visits : WalkVisitsHomes) (kind : IsArchiveWord w) (law : IsElement items.spec) (local : RepresentsLocally items.spec items.represents) where
+  pub items_replaced : ItemsAreReplaced w items
+  items_replaced b c p begin end n hash pairs old new list at_n sealed keeps one =
+      let s : ElementSpec = items.spec in
+      let homes : List ℕ = list.items.homes in
+      let count = home_count w b p (hashes_of pairs) homes list.items.written in
+      let less : n < length homes = omega (arith, slice_get_within pairs n (hash, old) at_n, count, length-map pairs (λ (x : ℕ × X). x.0)) in
+      let q : ℕ = item_at w s.size b p (slice_index homes n) in
+      let at = home_pos w s.size b p homes n less in
+      let sealed_at : ModifiesOnly b q s.size c = subst (λ r. ModifiesOnly b r s.size c) at sealed in
+      let keeps_at : StaysValid s b c q = subst (StaysValid s b c) at keeps in
+      let one_at : items.represents c q new = subst (λ r. items.represents c r new) at one in
+      let valid = list.passes 0 p (omega arith) list.behind.1 in
+      let view : Viewable (table_spec w s) b p = record { inside = list.inside; aligned = list.aligned; valid = (valid.0, valid.1) } in
+      let walked = home_walked w b p (hashes_of pairs) homes list.items.written n less in
+      let kept = table_kept w s law b p (slice_index homes n) view walked c sealed_at keeps_at in
+      let of : IsWrittenOf w s.size items.represents b p pairs = record { homes = homes; written = list.items.written; at = list.items.at } in
+      let is = items_written w s law items.represents local b c p n hash pairs old new view of at_n sealed_at keeps_at one_at in
+      let same = same_hashes pairs n hash old new at_n in
+      record {
+        behind = list.behind;
+        inside = omega (arith, list.inside, sealed.same_length);
+        aligned = list.aligned;
+        passes = λ lo hi low high.
+            let was = list.passes lo end low (omega arith) in
+            let there = kept.is_valid lo end was.0 (omega (arith, low, list.behind.0)) list.behind.1 was.1 in
+            (was.0, (table_element w kind s law).widen_hi c p lo end hi was.0 high there, was.2, was.3);
+        items = items_visited w s items.represents visits c p (slice_set pairs n (hash, new)) is (λ none. absurd (omega (arith, less, count, ap length (sym same ∙ none))));
+      }
+
+-- the lookup of a report on a table that holds a list finds the first accepted item
+module _ {T X R : Type 0} (w : Width) (items : Encoding X R) (post : View T → Bool → Type 0) (law : LookupFindsFirst w items.spec items.represents) where
+  pub lookups_listed : LookupsFindListed w items post
+  lookups_listed b p begin end hash pairs report list fits reports = λ accept accept_at compares agrees under.
+      let of : IsWrittenOf w items.spec.size items.represents b p pairs = record { homes = list.items.homes; written = list.items.written; at = list.items.at } in
+      let found = reports.looks.finds accept_at compares in
+      let is = law generic_kind b p hash pairs accept accept_at word_lawful fits of under agrees in
+      (subst (IsFirstOf items.represents b accept (items_of pairs)) (sym found) is.0, found ∙ is.1)
 
 -- a written list that was looked up
 module _ {T X R : Type 0} (list : ListInput X R) (post : View T → Bool → Type 0) (hash : ℕ) (o o' : Output) (fits : hash < 2 ^ 64) (law : LookupFindsFirst list.width.word list.items.spec list.items.represents) where
@@ -153,22 +198,16 @@ module _ {T X R : Type 0} (list : ListInput X R) (post : View T → Bool → Typ
       let t : TableIn = table_of list o' p in
       let there : ReportsTable t post hash report =
       subst (λ (c : List ℕ). ReportsTable (record { word = list.width.word; spec = list.items.spec; bytes = c; pos = p }) post hash report) same reports in
-      let pairs : List (ℕ × X) = wrote.1 in
-      let items : IsWrittenOf t.word t.spec.size list.items.represents t.bytes t.pos pairs =
-      record { homes = valid.items.homes; written = valid.items.written; at = valid.items.at } in
       record {
         fits = wrote.0;
-        pairs = pairs;
+        pairs = wrote.1;
         bytes = wrote.2;
         end = end;
         p = p;
         appends = wrote.3;
         ends = whole ∙ sym (end-appends o o' wrote.2 wrote.3.1.0);
         written = valid;
-        first = λ accept accept_at compares agrees under.
-            let found = there.looks.finds accept_at compares in
-            let is = law generic_kind t.bytes t.pos hash pairs accept accept_at word_lawful fits items under agrees in
-            (subst (IsFirstOf list.items.represents o'.bytes accept (items_of pairs)) (sym found) is.0, found ∙ is.1);
+        first = lookups_listed list.width.word list.items post law o'.bytes p (end_of o) end hash wrote.1 report valid.holds fits there;
         reports = there;
       }
 

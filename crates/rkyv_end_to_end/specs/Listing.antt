@@ -1,10 +1,11 @@
 -- A list that is written as a table followed by its header, and the result of its lookup.
-use Rattle.std.specs.Prelude.{◌≡◌, ℕ, ◌+◌, ◌*◌, ◌%◌, ◌<◌, ◌≤◌, ◌⊎◌, Bool, List, ◌++◌, length}
-use Rattle.std.specs.Prelude.{MatchResult, Option, Result, Some, slice_get, slice_index}
+use Rattle.std.specs.Prelude.{◌≡◌, ℕ, ◌+◌, ◌*◌, ◌%◌, ◌^◌, ◌<◌, ◌≤◌, ◌⊎◌, Bool, List, ◌++◌, length}
+use Rattle.std.specs.Prelude.{MatchResult, Option, Result, Some, slice_get, slice_index, slice_set}
 use Rattle.std.specs.Int.{Width, byte_len}
 use Rattle.std.specs.declared.iter.Iterator.{Ghosts as Iterators}
-use Rattle.rkyv_base.specs.{Appended, ElementMembers, ElementSpec, Format, IsValidView, OccursAt}
-use Rattle.rkyv_base.specs.{Output, RepresentsAs, Step, ValueStep, WidthMembers, WriteFails}
+use Rattle.rkyv_base.specs.{Appended, ElementMembers, ElementSpec, Format, IsValidView}
+use Rattle.rkyv_base.specs.{ModifiesOnly, OccursAt, Output, RepresentsAs, StaysValid, Step}
+use Rattle.rkyv_base.specs.{ValueStep, WidthMembers, WriteFails}
 use Rattle.rkyv_base.specs.{end_of, padding, piece, round_up, vec_output, written_as, zeros}
 use Rattle.rkyv_base.specs.declared.archive.Archive.{Ghosts as Archives}
 use Rattle.rkyv_base.specs.declared.errors.WriteError.{WriteError}
@@ -150,15 +151,25 @@ abbrev pub positions_of : {X : Type 0} {t : TableIn} {represents : List ℕ → 
 positions_of {t = t} visits =
     home_positions t.word t.spec.size t.bytes t.pos visits.homes
 
--- a list that was written as a table from `begin` to `end`. The table is valid in each range
--- around it, each item is in its home bucket, and the walk visits these alone
-pub record IsWrittenList {X : Type 0} (t : TableIn) (represents : List ℕ → ℕ → X → Type 0)
-    (load_factor : ℕ × ℕ) (begin end : ℕ) (pairs : List (ℕ × X)) : Type 0 where
+-- a list in a table that lies from `begin` to `end`, before its header. The table is valid
+-- in each range around it, each item is in its home bucket, and the walk visits these alone
+pub record HoldsList {X : Type 0} (t : TableIn) (represents : List ℕ → ℕ → X → Type 0)
+    (begin end : ℕ) (pairs : List (ℕ × X)) : Type 0 where
   pub behind : (begin ≤ end) × (end ≤ t.pos)
+  pub inside : t.pos + 3 * byte_len t.word ≤ length t.bytes
   pub aligned : t.pos % byte_len t.word ≡ 0
   pub passes : IsValidAround (table_spec t.word t.spec) t.bytes t.pos begin end
-  pub table_represents : TableRepresents t.word t.spec represents load_factor t.bytes t.pos pairs
   pub items : VisitsItems t represents pairs
+
+-- a list that was written as a table from `begin` to `end`, with the buckets of its load factor
+pub record IsWrittenList {X : Type 0} (t : TableIn) (represents : List ℕ → ℕ → X → Type 0)
+    (load_factor : ℕ × ℕ) (begin end : ℕ) (pairs : List (ℕ × X)) : Type 0 where
+  pub holds : HoldsList t represents begin end pairs
+  pub table_represents : TableRepresents t.word t.spec represents load_factor t.bytes t.pos pairs
+
+-- the table of encoded items in the bytes, with its header at `pos`
+abbrev pub table_with : {X R : Type 0} → Width → Encoding X R → List ℕ → ℕ → TableIn
+table_with w items bytes pos = record { word = w; spec = items.spec; bytes = bytes; pos = pos }
 
 -- each written list is valid, in each archive that has its bytes
 abbrev pub ListsAreValid : {X R : Type 0} → Width → Encoding X R → ℕ × ℕ → Type 0
@@ -166,9 +177,20 @@ ListsAreValid {X} w items load_factor =
     (pairs : List (ℕ × X)) (begin end p : ℕ) (bytes c : List ℕ)
     → ListBytes (byte_len w) (table_format w items.spec items.format load_factor) pairs begin
     end p bytes → OccursAt c begin bytes
-    → IsWrittenList (record { word = w; spec = items.spec; bytes = c; pos = p })
-    items.represents load_factor begin end pairs
+    → IsWrittenList (table_with w items c p) items.represents load_factor begin end pairs
     × (p + 3 * byte_len w ≡ begin + length bytes)
+
+-- after a write of the `n`th item alone, which keeps it valid, the table holds the list with
+-- the new item in its place. Its hash is that of the old item
+abbrev pub ItemsAreReplaced : {X R : Type 0} → Width → Encoding X R → Type 0
+ItemsAreReplaced {X} w items =
+    (b c : List ℕ) (p begin end n hash : ℕ) (pairs : List (ℕ × X)) (old new : X)
+    → (list : HoldsList (table_with w items b p) items.represents begin end pairs)
+    → slice_get pairs n ≡ Some (hash, old)
+    → ModifiesOnly b (slice_index (positions_of list.items) n) items.spec.size c
+    → StaysValid items.spec b c (slice_index (positions_of list.items) n)
+    → items.represents c (slice_index (positions_of list.items) n) new
+    → HoldsList (table_with w items c p) items.represents begin end (slice_set pairs n (hash, new))
 
 -- the lookup finds the first accepted item at its position, or none if no item is accepted.
 -- The comparison must be a function of the position, agree with `accept` at the position of each
@@ -183,14 +205,18 @@ FindsFirstItem {X = X} {t = t} {represents = represents} {pairs = pairs} visits 
     → IsFirstOf represents t.bytes accept (items_of pairs) found
     × (found ≡ first_pos (positions_of visits) accept (items_of pairs))
 
+-- the lookup of each report on a table that holds a list finds the first accepted item
+abbrev pub LookupsFindListed : {T X R : Type 0} → Width → Encoding X R
+    → (View T → Bool → Type 0) → Type 0
+LookupsFindListed {X = X} w items post =
+    (b : List ℕ) (p begin end hash : ℕ) (pairs : List (ℕ × X)) (report : TableReport)
+    → (list : HoldsList (table_with w items b p) items.represents begin end pairs)
+    → hash < 2 ^ 64 → ReportsTable (table_with w items b p) post hash report
+    → FindsFirstItem list.items post hash report.found
+
 -- the table of the list in the output `o`, with its header at `p`
 abbrev pub table_of : {X R : Type 0} → ListInput X R → Output → ℕ → TableIn
-table_of list o p = record {
-  word = list.width.word;
-  spec = list.items.spec;
-  bytes = o.bytes;
-  pos = p;
-}
+table_of list o p = table_with list.width.word list.items o.bytes p
 
 -- `report`: the items and the lookup of a written list. The earlier bytes are unchanged, and the
 -- appended bytes are those of the list. Its table ends at `end`, and the header at `p` ends the
@@ -207,7 +233,7 @@ pub record ReportsList {T X R : Type 0} (list : ListInput X R) (post : View T �
   pub ends : p + 3 * byte_len list.width.word ≡ end_of o'
   pub written : IsWrittenList (table_of list o' p) list.items.represents list.load_factor
       (end_of o) end pairs
-  pub first : FindsFirstItem written.items post hash report.found
+  pub first : FindsFirstItem written.holds.items post hash report.found
   pub reports : ReportsTable (table_of list o' p) post hash report
 
 -- the list was not written, or it has items, and memory for their positions could not be

@@ -1,12 +1,15 @@
-//! The law of written lists.
+//! The laws of written lists.
+//!
+//! They hold after writes of items in place too.
 ghost use Rattle.std.specs.Prelude.{ℕ};
-ghost use Rattle.rkyv_end_to_end.specs.{ListsAreValid, encoding};
+ghost use Rattle.rkyv_end_to_end.specs.{ItemsAreReplaced, ListsAreValid, LookupsFindListed};
+ghost use Rattle.rkyv_end_to_end.specs.{encoding};
 
-use rkyv_base::{Archive, Lend, Width};
-use rkyv_table::table::laws::walk_visits_homes;
+use rkyv_base::{Archive, Lend, View, Width};
 use rkyv_table::table::laws::written::{
     represented_lists_were_written, written_tables_pass, written_tables_represent,
 };
+use rkyv_table::table::laws::{lookups_find_the_first, walk_visits_homes};
 
 /// States that a written table with its header is valid in each archive that has its bytes.
 ///
@@ -20,4 +23,31 @@ pub fn written_lists_represent<W: Width, U: Archive<W>, X: Lend<U>>()
     written_tables_pass::<W, U, X>();
     represented_lists_were_written::<W, U, X>();
     walk_visits_homes();
+}
+
+/// States that a write of one item in place puts the new item into the list of the table.
+///
+/// The write must change the bytes of this item alone and keep it valid, and they must represent
+/// the new item, as after a write through a seal of a lookup or a cursor. The new item has the hash
+/// of the old one. The table is valid in the same ranges, and the walk visits the same buckets.
+pub fn written_items_are_replaced<W: Width, U: Archive<W>, X: Lend<U>>()
+    ensures { ItemsAreReplaced W.word (encoding U.Archived.Represents U.Archive X.Lend) }
+{
+    walk_visits_homes();
+}
+
+/// States that the lookup of `look_over` in a table of a list finds the first accepted item.
+///
+/// The list was written, or is that of `written_items_are_replaced` after writes in place.
+/// The conditions on the comparison are those of `write_and_look_over`.
+pub fn lookups_find_listed<
+    W: Width,
+    U: Archive<W>,
+    X: Lend<U>,
+    F: Fn(View<'_, U::Archived>) -> bool,
+>()
+    ensures { (cmp : _) → LookupsFindListed W.word
+        (encoding U.Archived.Represents U.Archive X.Lend) (F.post cmp) }
+{
+    lookups_find_the_first::<W, U, X>();
 }

@@ -1,11 +1,16 @@
 //! Tests of a list in both widths, and of archives from other sources.
+ghost use Rattle.rkyv_base.specs.{LiesIn, Viewable};
+ghost use Rattle.rkyv_table.specs.{CanCompareOf, table_spec};
 
 use rkyv_base::{
-    Entry, LimitWriter, Narrow, PartRange, VecWriter, VerifyError, Wide, Width, Writer,
+    Entry, LimitWriter, Narrow, PartRange, Scalar, Seal, VecWriter, VerifyError, View, Wide, Width,
+    Writer, access_in,
 };
 use rkyv_end_to_end::{
-    LookError, TableReport, look_over, write_and_look_over, write_list, written_lists_represent,
+    LookError, TableReport, look_over, lookups_find_listed, write_and_look_over, write_list,
+    written_items_are_replaced, written_lists_represent,
 };
+use rkyv_table::{ArchivedHashTable, TableOf};
 use std::alloc::Global;
 
 // Returns `true` if the walk, the result and the strides of a lookup are these.
@@ -94,6 +99,97 @@ fn a_list_is_written_by_any_writer(rt: HostRuntime) {
         is_limited::<Wide>(alloc, 64),
     ];
     assert_eq!(rt; results, [true, false, true]);
+}
+
+// Writes a number over the first item that is accepted under the hash 2. Returns `None` if there
+// is no such item.
+fn set_found<N: Scalar, W: Width, F: Fn(View<'_, N>) -> bool>(
+    archive: &mut [u8],
+    pos: u64,
+    accepts: F,
+    number: N,
+) -> Option<()>
+    requires table { Viewable (table_spec W.word N.spec) archive.old pos }
+    requires callable { CanCompareOf (F.pre accepts) W.word N.spec archive.old pos }
+{
+    ArchivedHashTable::<N, W>::found_with(
+        archive,
+        pos,
+        2,
+        accepts,
+        |seal: &mut Seal<'_, N>|
+            requires { LiesIn N.spec seal.old }
+        {
+            seal.set(number);
+        },
+    )
+}
+
+// Writes 40 over the first item above 10 of the table at the root of an archive.
+fn set_above_ten<W: Width>(archive: &mut [u8]) -> Result<Option<()>, VerifyError> {
+    let pos = access_in::<W, TableOf<u8, W>>(&*archive)?.pos();
+    Ok(set_found::<u8, W, _>(archive, pos, |item| item.to_native() > 10, 40))
+}
+
+// Writes the list of 10, 20 and 30, and 40 over the 20. Returns `true` if the walk is as before,
+// and a lookup finds 40 where the 20 was, and the 20 no more.
+fn is_changed<W: Width>(alloc: Global) -> bool {
+    let mut writer = VecWriter::new(alloc);
+    let items = [10u8, 20, 30];
+    let hashes = [2u64, 2, 5];
+    let wrote = write_list::<W, _, u8, &u8, _, _>(
+        alloc,
+        items.iter(),
+        hashes.iter().copied(),
+        3,
+        (1, 1),
+        &mut writer,
+    );
+    let Ok(at) = wrote else {
+        return false;
+    };
+    let mut bytes = writer.into_vec();
+    let written = set_above_ten::<W>(bytes.as_mut_slice());
+    let range = PartRange { lo: 0, hi: at.end };
+    let bytes = bytes.as_slice();
+    let new = look_over::<W, u8, _>(
+        alloc,
+        bytes,
+        at.pos,
+        range,
+        2,
+        |item| item.to_native() == 40,
+    );
+    let old = look_over::<W, u8, _>(
+        alloc,
+        bytes,
+        at.pos,
+        range,
+        2,
+        |item| item.to_native() == 20,
+    );
+    match (written, new, old) {
+        (Ok(Some(())), Ok(new), Ok(old)) => {
+            is_report(&new, &[2, 1, 0], Some(0), 1) && is_report(&old, &[2, 1, 0], None, 1)
+        }
+        _ => false,
+    }
+}
+
+// Calls the law of lookups for a comparison.
+fn finds_listed<F: Fn(View<'_, u8>) -> bool>(_cmp: F) {
+    lookups_find_listed::<Narrow, u8, &u8, F>();
+}
+
+#[test]
+fn a_changed_list_is_found_with_its_new_item(rt: HostRuntime) {
+    written_items_are_replaced::<Narrow, u8, &u8>();
+    finds_listed(|item| item.to_native() > 10);
+    let alloc = rt.alloc();
+    assert_eq!(rt;
+        [is_changed::<Narrow>(alloc), is_changed::<Wide>(alloc)],
+        [true; 2]
+    );
 }
 
 // The archive of a table of one pair of numbers, in the second of two buckets.
