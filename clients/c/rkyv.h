@@ -7,7 +7,7 @@
  * and what is said of a map applies to a set too. Its archive has a width: 32 or 64, the number of
  * bits of its positions. The bytes of an archive record neither: open an archive with the kind and
  * the width that it was built with. An archive of one kind may be valid as another, and then has
- * meaningless pairs. A container records both: it is a header of 32 bytes with the archive behind
+ * meaningless pairs. A container records both: it is a header of 32 bytes, and the archive after
  * it. A container of one kind is never opened as another.
  *
  * `rkyv_map_open` and `rkyv_map_open_container` validate untrusted bytes once and fill a handle.
@@ -98,7 +98,7 @@ typedef enum rkyv_status {
     RKYV_INVALID_LENGTH = 18,
     /* The number of full buckets differs from the number of pairs. */
     RKYV_WRONG_NUMBER_OF_ELEMENTS = 19,
-    /* A mirrored control byte differs from the one that it mirrors, or one behind them is not empty. */
+    /* A mirrored control byte differs from the one that it mirrors, or one after them is not empty. */
     RKYV_UNWRAPPED_CONTROL_BYTE = 20,
     /* An index in the table of an index map is not less than the number of pairs. */
     RKYV_PLACE_OUT_OF_RANGE = 21,
@@ -152,7 +152,7 @@ typedef enum rkyv_status {
     RKYV_CONTAINER_WRONG_VALUE_TYPE = 44,
     /* The archive in the container has another width. */
     RKYV_CONTAINER_WRONG_WIDTH = 45,
-    /* The number of bytes behind the header is not the length in the header. */
+    /* The number of bytes after the header is not the length in the header. */
     RKYV_CONTAINER_WRONG_LENGTH = 46,
     /* The checksum in the header is not that of the archive. */
     RKYV_CONTAINER_WRONG_CHECKSUM = 47
@@ -1044,7 +1044,7 @@ void rkyv_bytes_free(uint8_t *bytes);
 rkyv_status rkyv_container_size(size_t length, size_t *size);
 
 /* Writes the header of the container of an archive over the RKYV_CONTAINER_HEADER bytes at
- * `header`. A program writes them to a file, and the archive behind them. `kind` and `width` are
+ * `header`. A program writes them to a file, and the archive after them. `kind` and `width` are
  * those that the archive was built with. The header has a checksum if `checksum` is true. The
  * archive is not validated. `archive` may be null if `length` is 0.
  *
@@ -1059,7 +1059,7 @@ rkyv_status rkyv_container_header(const void *archive, size_t length, uint32_t k
 
 /* Writes the container of an archive over the `size` bytes at `container`: the header, as
  * `rkyv_container_header` does, and a copy of the archive. `size` is that of `rkyv_container_size`.
- * The archive may be a part of these bytes: if it is behind room for the header, it stays there.
+ * The archive may be a part of these bytes: if it follows room for the header, it stays there.
  *
  * Errors, after which no byte is changed:
  *   - RKYV_UNKNOWN_KIND, RKYV_UNKNOWN_WIDTH;

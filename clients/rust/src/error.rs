@@ -152,7 +152,7 @@ pub enum ErrorKind {
     InvalidLength,
     /// The number of full buckets differs from the number of pairs.
     WrongNumberOfElements,
-    /// A mirrored control byte differs from the one that it mirrors, or one behind them is not empty.
+    /// A mirrored control byte differs from the one that it mirrors, or one after them is not empty.
     UnwrappedControlByte,
     /// An index in the table of an index map is not less than the number of pairs.
     PlaceOutOfRange,
@@ -198,7 +198,7 @@ pub enum ErrorKind {
     WrongValueType,
     /// The archive in a container has another width.
     WrongWidth,
-    /// The number of bytes behind the header of a container is not the length in the header.
+    /// The number of bytes after the header of a container is not the length in the header.
     WrongLength,
     /// The checksum in the header of a container is not that of the archive.
     WrongChecksum,

@@ -120,7 +120,7 @@ pub extern "C" fn rkyv_c_explain_container(
 /// # Errors
 ///
 /// - 32 to 41: the first error of the header.
-/// - 46: the number of bytes behind the header isn't the length in the header.
+/// - 46: the number of bytes after the header isn't the length in the header.
 ///
 /// After an error no byte is changed.
 #[unsafe(no_mangle)]

@@ -20,7 +20,7 @@ use crate::header::{HEADER_LEN, Header};
 /// # Errors
 ///
 /// - The errors of `Header::read`.
-/// - `WrongLength`: the number of bytes behind the header isn't the length in the header.
+/// - `WrongLength`: the number of bytes after the header isn't the length in the header.
 /// - `WrongChecksum`: the header has a checksum that isn't the archive's.
 ///
 /// # Examples
@@ -52,7 +52,7 @@ pub fn open(bytes: &[u8]) -> Result<(Header, &[u8]), ContainerError>
 /// - The errors of `Header::read`.
 /// - `WrongKind`, `WrongKeyType`, `WrongValueType`, `WrongWidth`: that part of the contents isn't
 ///   the expected one.
-/// - `WrongLength`: the number of bytes behind the header isn't the length in the header.
+/// - `WrongLength`: the number of bytes after the header isn't the length in the header.
 /// - `WrongChecksum`: the header has a checksum that isn't the archive's.
 ///
 /// # Examples
@@ -75,7 +75,7 @@ pub fn open_as(bytes: &[u8], expected: Contents) -> Result<&[u8], ContainerError
     open_expected(bytes, expected)
 }
 
-/// Makes a container of the archive behind the first 32 bytes, and returns its header.
+/// Makes a container of the archive after the first 32 bytes, and returns its header.
 ///
 /// The header is written over the first 32 bytes. It has a checksum if `checked` is `true`.
 ///

@@ -8,7 +8,10 @@ use thiserror::Error;
 pub enum ContainerError {
     /// There are fewer bytes than a header has.
     #[error("container of {len} bytes is shorter than its header of 32 bytes")]
-    TooShort { len: usize },
+    TooShort {
+        /// The number of bytes.
+        len: usize,
+    },
     /// The first eight bytes aren't the magic bytes: this is no container.
     #[error("wrong magic bytes, this is no container")]
     WrongMagic,
@@ -38,20 +41,50 @@ pub enum ContainerError {
     NonzeroReserved(u32),
     /// The container is of another kind of collection.
     #[error("wrong kind of collection (expected: {expected}, found: {found})")]
-    WrongKind { expected: Kind, found: Kind },
+    WrongKind {
+        /// The kind that the caller expects.
+        expected: Kind,
+        /// The kind in the header.
+        found: Kind,
+    },
     /// The keys are of another type.
     #[error("wrong key type (expected: {expected}, found: {found})")]
-    WrongKeyType { expected: ItemType, found: ItemType },
+    WrongKeyType {
+        /// The type of the keys that the caller expects.
+        expected: ItemType,
+        /// The type of the keys in the header.
+        found: ItemType,
+    },
     /// The values are of another type.
     #[error("wrong value type (expected: {expected}, found: {found})")]
-    WrongValueType { expected: ItemType, found: ItemType },
+    WrongValueType {
+        /// The type of the values that the caller expects.
+        expected: ItemType,
+        /// The type of the values in the header.
+        found: ItemType,
+    },
     /// The archive has the other width.
     #[error("wrong width (expected: {expected}, found: {found})")]
-    WrongWidth { expected: Width, found: Width },
-    /// The number of bytes behind the header isn't the length in the header.
+    WrongWidth {
+        /// The width that the caller expects.
+        expected: Width,
+        /// The width in the header.
+        found: Width,
+    },
+    /// The number of bytes after the header isn't the length in the header.
     #[error("wrong archive length (expected: {expected}, found: {found})")]
-    WrongLength { expected: u64, found: u64 },
+    WrongLength {
+        /// The length in the header.
+        expected: u64,
+        /// The number of bytes after the header.
+        found: u64,
+    },
     /// The checksum of the archive isn't the one in the header.
     #[error("wrong checksum (expected: {expected}, found: {found})")]
-    WrongChecksum { expected: u32, found: u32 },
+    WrongChecksum {
+        /// The checksum in the header.
+        expected: u32,
+        /// The checksum of the archive.
+        found: u32,
+    },
 }

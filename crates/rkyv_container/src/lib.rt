@@ -4,7 +4,7 @@
 //! the length of the archive, and its checksum if the writer asks for one. `open_as` opens
 //! no container of other contents. No function compares the contents with the archive itself.
 //!
-//! - To write, `seal` writes the header of an archive that is behind room for it. `Header::new` and
+//! - To write, `seal` writes the header of an archive that follows room for it. `Header::new` and
 //!   `Header::to_bytes` are its two steps.
 //! - To read, `open_as` returns the archive of a container with the expected contents. `open`
 //!   returns the header and the archive of any container.
