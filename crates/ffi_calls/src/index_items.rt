@@ -105,8 +105,8 @@ fn texts_by<'a, P: PairOf<&'a [u8], u64>>(
 /// # Errors
 ///
 /// - `NO_MEMORY`: an allocation fails.
-/// - `NOT_TEXT`: a key isn't UTF-8.
-/// - `VALUE_TOO_LARGE`: a value has more bits than the values of the map.
+/// - `NOT_TEXT` or `VALUE_TOO_LARGE`, of the first item with an error: the key isn't UTF-8, or the
+///   value has more bits than the values of the map.
 /// - 23 to 29: the status of the write error.
 ///
 /// After an error `built` is unchanged.
