@@ -70,6 +70,7 @@ pub(crate) fn index_of<'a, K: Element, V: Element, W: IndexWidth>(
 /// Looks up a key in a valid archive, and stores the index and the value of its pair in `found`.
 ///
 /// # Errors
+#[inline]
 ///
 /// - `NOT_FOUND`: the lookup doesn't find the key; `found` is unchanged then.
 pub(crate) fn find_in<

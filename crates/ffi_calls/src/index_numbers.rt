@@ -70,6 +70,7 @@ pub fn decode_index_numbers<K: NumberKey>(archive: &[u8], form: Form) -> Decoded
 /// # Errors
 ///
 /// - `NOT_FOUND`: the lookup doesn't find the key; `found` is unchanged then.
+#[inline]
 pub fn get_index_number<K: NumberKey, I: IndexedOf<u64>>(
     archive: &[u8],
     form: Form,

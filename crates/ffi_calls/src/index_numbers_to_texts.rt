@@ -67,6 +67,7 @@ pub fn decode_index_numbers_to_texts<K: NumberKey>(archive: &[u8], wide: bool) -
 /// # Errors
 ///
 /// - `NOT_FOUND`: the lookup doesn't find the key; `found` is unchanged then.
+#[inline]
 pub fn get_index_text_of_number<'a, K: NumberKey, I: IndexedOf<&'a [u8]>>(
     archive: &'a [u8],
     wide: bool,

@@ -63,6 +63,7 @@ pub fn decode_index_texts(archive: &[u8], form: Form) -> Decoded
 }
 
 /// Looks up a text, and stores the index and the value of its pair in `found`.
+#[inline]
 fn get_of<I: IndexedOf<u64>>(
     archive: &[u8],
     form: Form,
@@ -117,6 +118,7 @@ fn get_of<I: IndexedOf<u64>>(
 /// - `NOT_FOUND`: the lookup doesn't find the key.
 ///
 /// After an error `found` is unchanged.
+#[inline]
 pub fn get_index_text<I: IndexedOf<u64>>(
     archive: &[u8],
     form: Form,

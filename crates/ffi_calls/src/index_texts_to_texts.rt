@@ -60,6 +60,7 @@ pub fn decode_index_texts_to_texts(archive: &[u8], wide: bool) -> Decoded
 }
 
 /// Looks up a text, and stores the index and the text of its pair in `found`.
+#[inline]
 fn get_of<'a, I: IndexedOf<&'a [u8]>>(
     archive: &'a [u8],
     wide: bool,
@@ -104,6 +105,7 @@ fn get_of<'a, I: IndexedOf<&'a [u8]>>(
 /// - `NOT_FOUND`: the lookup doesn't find the key.
 ///
 /// After an error `found` is unchanged.
+#[inline]
 pub fn get_index_text_of_text<'a, I: IndexedOf<&'a [u8]>>(
     archive: &'a [u8],
     wide: bool,

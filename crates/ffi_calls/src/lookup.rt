@@ -43,6 +43,7 @@ pub(crate) fn value_pos_in<
 /// # Errors
 ///
 /// - `NOT_FOUND`: the lookup doesn't find the key; `value` is unchanged then.
+#[inline]
 pub(crate) fn get_in<
     'a,
     A: NativeKey<K>,

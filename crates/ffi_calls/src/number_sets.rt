@@ -71,6 +71,7 @@ pub fn decode_number_set<K: NumberKey>(archive: &[u8], wide: bool) -> Decoded
 /// # Errors
 ///
 /// - `NOT_FOUND`: the lookup doesn't find the item.
+#[inline]
 pub fn contains_number<K: NumberKey>(archive: &[u8], wide: bool, header: &Decoded, item: K) -> u32
     requires archive { IsNumberSet K.NumberKey wide archive.now }
     requires header { IsHeaderOf (number_set_in K.NumberKey wide archive.now) header.now }

@@ -68,6 +68,7 @@ pub fn decode_numbers<K: NumberKey>(archive: &[u8], form: Form) -> Decoded
 /// # Errors
 ///
 /// - `NOT_FOUND`: the lookup doesn't find the key; `value` is unchanged then.
+#[inline]
 pub fn get_number<K: NumberKey>(
     archive: &[u8],
     form: Form,

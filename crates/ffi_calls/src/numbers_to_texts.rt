@@ -69,6 +69,7 @@ pub fn decode_numbers_to_texts<K: NumberKey>(archive: &[u8], wide: bool) -> Deco
 /// # Errors
 ///
 /// - `NOT_FOUND`: the lookup doesn't find the key; `value` is unchanged then.
+#[inline]
 pub fn get_text_of_number<'a, K: NumberKey>(
     archive: &'a [u8],
     wide: bool,

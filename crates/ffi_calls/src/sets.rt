@@ -21,6 +21,7 @@ use std::alloc::Global;
 /// # Errors
 ///
 /// - `NOT_FOUND`: the lookup doesn't find the item.
+#[inline]
 pub(crate) fn contains_in<A: NativeKey<K>, K: KeyElement + Represents<A>, W: Width>(
     archive: &[u8],
     header: &Decoded,

@@ -58,6 +58,7 @@ pub fn decode_text_set(archive: &[u8], wide: bool) -> Decoded
 }
 
 /// Looks up a text, and returns `DONE` if it is found.
+#[inline]
 fn contains_of(archive: &[u8], wide: bool, header: &Decoded, item: &str) -> u32
     requires archive { IsTextSet wide archive.now }
     requires header { IsHeaderOf (text_set_in wide archive.now) header.now }
@@ -82,6 +83,7 @@ fn contains_of(archive: &[u8], wide: bool, header: &Decoded, item: &str) -> u32
 ///
 /// - `NOT_TEXT`: the bytes of the item aren't UTF-8.
 /// - `NOT_FOUND`: the lookup doesn't find the item.
+#[inline]
 pub fn contains_text(archive: &[u8], wide: bool, header: &Decoded, item: &[u8]) -> u32
     requires archive { IsTextSet wide archive.now }
     requires header { IsHeaderOf (text_set_in wide archive.now) header.now }

@@ -21,6 +21,7 @@ use rkyv_base::{Narrow, Text, Wide};
 use rkyv_table::table::decoded::Decoded;
 
 /// Returns the bytes as a text, or `None` if they aren't UTF-8.
+#[inline]
 pub(crate) fn text_of(bytes: &[u8]) -> Option<&str>
     ensures { MatchOption result (IsUtf8 bytes.now → ⊥)
         (λ text. IsUtf8 bytes.now × (text.now ≡ bytes.now)) }
@@ -77,6 +78,7 @@ pub fn decode_texts(archive: &[u8], form: Form) -> Decoded
 }
 
 /// Looks up a text, and stores its value in `value`.
+#[inline]
 fn get_of(archive: &[u8], form: Form, header: &Decoded, key: &str, value: &mut u64) -> u32
     requires archive { IsTextArchive form archive.now }
     requires header { IsHeaderOf (texts_in form archive.now) header.now }
@@ -125,6 +127,7 @@ fn get_of(archive: &[u8], form: Form, header: &Decoded, key: &str, value: &mut u
 /// - `NOT_FOUND`: the lookup doesn't find the key.
 ///
 /// After an error `value` is unchanged.
+#[inline]
 pub fn get_text(archive: &[u8], form: Form, header: &Decoded, key: &[u8], value: &mut u64) -> u32
     requires archive { IsTextArchive form archive.now }
     requires header { IsHeaderOf (texts_in form archive.now) header.now }

@@ -62,6 +62,7 @@ pub fn decode_texts_to_texts(archive: &[u8], wide: bool) -> Decoded
 }
 
 /// Looks up a text, and stores its text in `value`.
+#[inline]
 fn get_of<'a>(
     archive: &'a [u8],
     wide: bool,
@@ -105,6 +106,7 @@ fn get_of<'a>(
 /// - `NOT_FOUND`: the lookup doesn't find the key.
 ///
 /// After an error `value` is unchanged.
+#[inline]
 pub fn get_text_of_text<'a>(
     archive: &'a [u8],
     wide: bool,
