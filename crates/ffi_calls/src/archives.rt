@@ -11,14 +11,21 @@ use rkyv_base::{Element, Width, access_in, access_unchecked};
 use rkyv_collections::{ArchivedHashMap, FxHasher64, HashMapOf};
 use rkyv_table::table::decoded::Decoded;
 
+/// Validates an archive, and returns the first error, if there is one.
+pub(crate) fn explain_root<T: Element, W: Width>(archive: &[u8]) -> Explanation
+    ensures { Explains W.LIMIT T.spec archive.now result }
+{
+    match access_in::<W, T>(archive) {
+        Ok(_) => explained(DONE, 0, 0, 0),
+        Err(error) => explain(&error),
+    }
+}
+
 /// Validates the archive of a map, and returns the first error, if there is one.
 pub(crate) fn explain_map<K: Element, V: Element, W: Width>(archive: &[u8]) -> Explanation
     ensures { Explains W.LIMIT (map_spec W.word K.spec V.spec) archive.now result }
 {
-    match access_in::<W, HashMapOf<K, V, FxHasher64, W>>(archive) {
-        Ok(_) => explained(DONE, 0, 0, 0),
-        Err(error) => explain(&error),
-    }
+    explain_root::<HashMapOf<K, V, FxHasher64, W>, W>(archive)
 }
 
 /// Returns the position of the root of a valid archive.

@@ -7,11 +7,12 @@ ghost use Rattle.ffi_calls.specs.{ReturnsFirstIndexed, ReturnsIndexed, StoresLis
 ghost use Rattle.ffi_calls.specs.{StoresPairs, found_index, fx_pairs, index_at, index_in};
 ghost use Rattle.ffi_calls.specs.{index_map, index_root, query_of_key};
 
-use crate::explanation::{Explanation, explain, explained};
+use crate::archives::explain_root;
+use crate::explanation::Explanation;
 use crate::pairs::{Indexed, IndexedOf, Pair, PairOf};
 use crate::reading::{ReadAs, StoresNative};
 use crate::status::{DONE, NOT_FOUND};
-use rkyv_base::{Element, Represents, access_in, access_unchecked};
+use rkyv_base::{Element, Represents, access_unchecked};
 use rkyv_index::map::laws::lookups_find_listed;
 use rkyv_index::{ArchivedIndexMap, IndexMapOf, IndexWidth};
 use rkyv_keys::{KeyElement, NativeKey};
@@ -22,10 +23,7 @@ use rkyv_table::table::decoded::Decoded;
 pub(crate) fn explain_index<K: Element, V: Element, W: IndexWidth>(archive: &[u8]) -> Explanation
     ensures { Explains W.LIMIT (index_map W.word K.spec V.spec) archive.now result }
 {
-    match access_in::<W, IndexMapOf<K, V, FxHasher64, W>>(archive) {
-        Ok(_) => explained(DONE, 0, 0, 0),
-        Err(error) => explain(&error),
-    }
+    explain_root::<IndexMapOf<K, V, FxHasher64, W>, W>(archive)
 }
 
 /// Returns the decoded header of the index map in a valid archive.
@@ -70,9 +68,9 @@ pub(crate) fn index_of<'a, K: Element, V: Element, W: IndexWidth>(
 /// Looks up a key in a valid archive, and stores the index and the value of its pair in `found`.
 ///
 /// # Errors
-#[inline]
 ///
 /// - `NOT_FOUND`: the lookup doesn't find the key; `found` is unchanged then.
+#[inline]
 pub(crate) fn find_in<
     'a,
     A: NativeKey<K>,
