@@ -6,7 +6,7 @@ use Rattle.rkyv_base.specs.declared.errors.VerifyError.{VerifyError}
 use Rattle.rkyv_base.specs.declared.errors.VerifyError.TheVariants as verify
 use Rattle.rkyv_container.specs.declared.errors.ContainerError.{ContainerError}
 use Rattle.rkyv_container.specs.declared.errors.ContainerError.TheVariants as container
-use Rattle.ffi_calls.specs.{Explains, Opens, container_status, explain, explained, verify_status}
+use Rattle.ffi_calls.specs.{Explains, Opens, container_status, explain, explain_container_error, explained, verify_status}
 use Rattle.ffi_calls.specs.declared.explanation.Explanation.{Explanation}
 
 -- the status of an error's explanation is that of the error
@@ -28,6 +28,26 @@ opened_by limit s b result (inr h) = inr (h.0, h.1, ap (λ r. r.status) h.2 ∙ 
 -- the status of the explanation is that of opening the archive
 pub opened : {limit : ℕ} {s : ElementSpec} {b : List ℕ} {result : Explanation} → Explains limit s b result → Opens limit s b result.status
 opened {limit} {s} {b} {result} e = opened_by limit s b result e.explains
+
+-- the status of the explanation of a container's error is that of the error
+pub explained_container_status : (e : ContainerError) → (explain_container_error e).status ≡ container_status e
+unfolding explain_container_error container_status
+explained_container_status (container.TooShort len) = refl
+explained_container_status container.WrongMagic = refl
+explained_container_status (container.UnsupportedVersion version) = refl
+explained_container_status (container.UnknownKind code) = refl
+explained_container_status (container.UnknownKeyType code) = refl
+explained_container_status (container.UnknownValueType code) = refl
+explained_container_status (container.UnknownWidth code) = refl
+explained_container_status (container.UnknownFlags flags) = refl
+explained_container_status (container.UnexpectedChecksum checksum) = refl
+explained_container_status (container.NonzeroReserved number) = refl
+explained_container_status (container.WrongKind expected found) = refl
+explained_container_status (container.WrongKeyType expected found) = refl
+explained_container_status (container.WrongValueType expected found) = refl
+explained_container_status (container.WrongWidth expected found) = refl
+explained_container_status (container.WrongLength expected found) = refl
+explained_container_status (container.WrongChecksum expected found) = refl
 
 -- no status of a container's error is that of success
 pub container_status_above_0 : (e : ContainerError) → container_status e ≡ 0 → ⊥

@@ -3,6 +3,7 @@
 ghost use Rattle.std.specs.Prelude.{Err, MatchResult, Ok, ◌≡◌};
 ghost use Rattle.ffi_calls.specs.{container_status, write_status};
 
+use crate::explanation::explain_container_error;
 use rkyv_base::{NoMemory, WriteError};
 use rkyv_container::ContainerError;
 
@@ -24,7 +25,7 @@ pub const UNKNOWN_CODES: u32 = 7;
 /// An allocation failed.
 pub const NO_MEMORY: u32 = 12;
 
-/// The length in a container's header isn't the number of bytes behind the header.
+/// The length in a container's header isn't the number of bytes after the header.
 pub const WRONG_LENGTH: u32 = 46;
 
 /// Returns the status of a write error: `NO_MEMORY`, or 23 to 29.
@@ -53,26 +54,8 @@ pub(crate) fn or_status(archive: Result<Vec<u8>, WriteError<NoMemory>>) -> Resul
 }
 
 /// Returns the status of a container's error: 32 to 47.
-#[tactic(auto, unfolding(crate::specs::Status::container_status))]
 pub(crate) fn container_status(error: &ContainerError) -> u32
     ensures { result ≡ container_status error.now }
 {
-    match error {
-        ContainerError::TooShort { .. } => 32,
-        ContainerError::WrongMagic => 33,
-        ContainerError::UnsupportedVersion(_) => 34,
-        ContainerError::UnknownKind(_) => 35,
-        ContainerError::UnknownKeyType(_) => 36,
-        ContainerError::UnknownValueType(_) => 37,
-        ContainerError::UnknownWidth(_) => 38,
-        ContainerError::UnknownFlags(_) => 39,
-        ContainerError::UnexpectedChecksum(_) => 40,
-        ContainerError::NonzeroReserved(_) => 41,
-        ContainerError::WrongKind { .. } => 42,
-        ContainerError::WrongKeyType { .. } => 43,
-        ContainerError::WrongValueType { .. } => 44,
-        ContainerError::WrongWidth { .. } => 45,
-        ContainerError::WrongLength { .. } => 46,
-        ContainerError::WrongChecksum { .. } => 47,
-    }
+    explain_container_error(error).status
 }
