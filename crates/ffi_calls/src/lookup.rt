@@ -105,9 +105,8 @@ pub(crate) fn set_in<A: NativeKey<K>, K: KeyElement + Represents<A>, V: Value, W
     ensures listed { SetsFirstOf (map_in W.word K.spec V.spec archive.old)
         (query_of_key K.represents K.key_calls (A.eq key.now)) V.encoding value result archive.new }
 {
-    let number = match V::of_number(value) {
-        Some(number) => number,
-        None => return VALUE_TOO_LARGE,
+    let Some(number) = V::of_number(value) else {
+        return VALUE_TOO_LARGE;
     };
     let root = root_of::<HashMapOf<K, V, FxHasher64, W>, W>(&*archive);
     let found = set_value_of::<A, K, V, FxHasher64, W>(archive, root, key, number);

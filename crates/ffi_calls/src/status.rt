@@ -34,8 +34,7 @@ fn write_status(error: &WriteError<NoMemory>) -> u32
     ensures { result ≡ write_status error.now }
 {
     match error {
-        WriteError::Memory => NO_MEMORY,
-        WriteError::Writer(_) => NO_MEMORY,
+        WriteError::Memory | WriteError::Writer(_) => NO_MEMORY,
         WriteError::Refused(_) => 23,
         WriteError::CapacityTooLarge { .. } => 24,
         WriteError::PositionTooLarge => 25,

@@ -7,8 +7,8 @@ use Rattle.ffi_calls.proofs.Writing.{overwrite_status, set_keeps_header, set_kep
 use Rattle.ffi_calls.proofs.First.{first_set}
 use Rattle.ffi_calls.proofs.lookup.set_in.Goals as goal
 
-pub returns-in-None-clause-sets : goal.returns-in-None-clause-sets
-returns-in-None-clause-sets g c = inl (c.in-None.ensures.exact, refl, refl)
+pub returns-in_default-clause-sets : goal.returns-in_default-clause-sets
+returns-in_default-clause-sets g c = inl (c.in_default.ensures.exact, refl, refl)
 
 pub returns-clause-kept : goal.returns-clause-kept
 returns-clause-kept g c =
@@ -17,8 +17,8 @@ returns-clause-kept g c =
     set_kept g.W.Word.word g.K.HasSpec.spec g.V.HasSpec.spec g.V.Scalar.encoding (hash_at (fx_hasher low_halves) g.K.KeyElement.key_calls) c.args.archive.now c.root_of-root.result (g.A.KeyHash.calls c.args.key.now)
     (g.A.Query.fits c.args.key.now c.args.archive.now) c.in-Some.number set.result set.new.archive c.root_of-root.ensures.at set.ensures.sets.finds g.W.Width.LIMIT c.requires.archive c.root_of-root.ensures.viewable same
 
-pub returns-in-None-clause-header : goal.returns-in-None-clause-header
-returns-in-None-clause-header g c = λ header is. is
+pub returns-in_default-clause-header : goal.returns-in_default-clause-header
+returns-in_default-clause-header g c = λ header is. is
 
 pub returns-clause-header : goal.returns-clause-header
 returns-clause-header g c =
@@ -34,8 +34,8 @@ returns-clause-sets g c =
     (g.A.Query.fits c.args.key.now c.args.archive.now) c.in-Some.number set.result set.new.archive c.root_of-root.ensures.at set.ensures.sets.finds c.status_of.result c.status_of.ensures.yes c.status_of.ensures.no in
     inr (c.in-Some.ensures.read.0, (c.in-Some.number, c.in-Some.ensures.exact, overwrites))
 
-pub returns-in-None-clause-listed : goal.returns-in-None-clause-listed
-returns-in-None-clause-listed g c = λ factor pairs represents. inl (c.in-None.ensures.exact, refl)
+pub returns-in_default-clause-listed : goal.returns-in_default-clause-listed
+returns-in_default-clause-listed g c = λ factor pairs represents. inl (c.in_default.ensures.exact, refl)
 
 pub returns-clause-listed : goal.returns-clause-listed
 returns-clause-listed g c = λ factor pairs represents.
