@@ -22,7 +22,7 @@ pub mod building;
 pub mod containers;
 pub mod explanation;
 pub mod form;
-pub mod index;
+mod index;
 mod index_in_place;
 pub mod index_items;
 pub mod index_numbers;
