@@ -1,9 +1,13 @@
-//! Laws of archives that represent lists of pairs, each a function whose contract is the statement.
+//! Laws of archives that represent lists, and of the pairs that calls take and store.
+//!
+//! Each law is a function whose contract is the statement.
 
+ghost use Rattle.std.specs.Prelude.{◌≡◌};
 ghost use Rattle.rkyv_keys.specs.{fx_format, fx_key_format};
 ghost use Rattle.ffi_calls.specs.{ArchivesRepresent, IndexesRepresent, SetArchivesRepresent};
 ghost use Rattle.ffi_calls.specs.{WalksVisitListed, archive_width, fx_pairs, index_width};
 
+use crate::pairs::{Indexed, IndexedOf, Pair, PairOf, Step, StepOf};
 use rkyv_base::{Archive, Represents, Width};
 use rkyv_collections::map::laws::walks_visit_each;
 use rkyv_collections::{FxHasher64, KeyElement, NativeKey};
@@ -51,4 +55,11 @@ where
     ensures { IndexesRepresent (index_width W.Width W.Index.spec W.Index.encoding)
         (fx_format K.spec V.spec A.format B.format A.calls)
         (fx_pairs K.represents V.represents K.key_calls) }
+{}
+
+/// States that a call takes and stores a `Pair`, a `Step` or an `Indexed` as it is.
+pub fn pairs_are_stored_as_they_are<K: Copy, V: Copy>()
+    ensures pair { (x : _) → ⟦<Pair<K, V> as PairOf<K, V>>⟧.pair_of x ≡ x }
+    ensures step { (x : _) → ⟦<Step<Pair<K, V>> as StepOf<K, V>>⟧.step_of x ≡ x }
+    ensures indexed { (x : _) → ⟦<Indexed<V> as IndexedOf<V>>⟧.indexed_of x ≡ x }
 {}

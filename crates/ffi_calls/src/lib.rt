@@ -14,7 +14,8 @@
 //! - `pairs` has the pairs that calls take and store, and `reading` the form of keys and values.
 //! - `explanation` explains the first error of an archive or of a container, with its numbers.
 //! - `form` has the two flags of a map's form, and `status` the statuses that calls return.
-//! - `laws` states that archives represent their lists, and that walks visit each pair once.
+//! - `laws` states that archives represent their lists, that walks visit each pair once, and that
+//!   the pairs of `pairs` are stored as they are.
 #![tactic(auto)]
 
 mod archives;

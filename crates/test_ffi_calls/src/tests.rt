@@ -34,6 +34,7 @@ mod number_items;
 mod number_sets;
 mod numbers;
 mod numbers_to_texts;
+mod pairs;
 mod support;
 mod text_archives;
 mod text_items;
