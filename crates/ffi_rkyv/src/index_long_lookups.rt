@@ -10,7 +10,7 @@ ghost use Rattle.ffi_calls.specs.{numbers_at};
 ghost use Rattle.ffi_rkyv.specs.Pairs.{indexed_number};
 
 use crate::pairs::IndexedNumber;
-use ffi_calls::form::Form;
+use ffi_calls::form::{LONG, SHORT, WIDE, WIDE_LONG};
 use ffi_calls::index_numbers::get_index_number;
 use rkyv_table::table::decoded::Decoded;
 
@@ -41,11 +41,7 @@ pub extern "C" fn rkyv_c_index_get_long_number_u32_narrow(
     ensures listed { ReturnsFirstIndexedNumber (numbers_at long_key (form_of false false)
         archive.now) key (indexed_number found.old) result (indexed_number found.new) }
 {
-    let form = Form {
-        long_values: false,
-        wide: false,
-    };
-    get_index_number::<u64, _>(archive, form, header, key, found)
+    get_index_number::<u64, _>(archive, SHORT, header, key, found)
 }
 
 /// Looks up a key of a narrow index map of numbers of 64 bits to `u64`.
@@ -75,11 +71,7 @@ pub extern "C" fn rkyv_c_index_get_long_number_u64_narrow(
     ensures listed { ReturnsFirstIndexedNumber (numbers_at long_key (form_of true false)
         archive.now) key (indexed_number found.old) result (indexed_number found.new) }
 {
-    let form = Form {
-        long_values: true,
-        wide: false,
-    };
-    get_index_number::<u64, _>(archive, form, header, key, found)
+    get_index_number::<u64, _>(archive, LONG, header, key, found)
 }
 
 /// Looks up a key of a wide index map of numbers of 64 bits to `u32`.
@@ -109,11 +101,7 @@ pub extern "C" fn rkyv_c_index_get_long_number_u32_wide(
     ensures listed { ReturnsFirstIndexedNumber (numbers_at long_key (form_of false true)
         archive.now) key (indexed_number found.old) result (indexed_number found.new) }
 {
-    let form = Form {
-        long_values: false,
-        wide: true,
-    };
-    get_index_number::<u64, _>(archive, form, header, key, found)
+    get_index_number::<u64, _>(archive, WIDE, header, key, found)
 }
 
 /// Looks up a key of a wide index map of numbers of 64 bits to `u64`.
@@ -143,9 +131,5 @@ pub extern "C" fn rkyv_c_index_get_long_number_u64_wide(
     ensures listed { ReturnsFirstIndexedNumber (numbers_at long_key (form_of true true) archive.now)
         key (indexed_number found.old) result (indexed_number found.new) }
 {
-    let form = Form {
-        long_values: true,
-        wide: true,
-    };
-    get_index_number::<u64, _>(archive, form, header, key, found)
+    get_index_number::<u64, _>(archive, WIDE_LONG, header, key, found)
 }

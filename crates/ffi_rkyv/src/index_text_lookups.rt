@@ -9,7 +9,7 @@ ghost use Rattle.ffi_calls.specs.{ReturnsIndexedBytes, form_of, text_index_in};
 ghost use Rattle.ffi_rkyv.specs.Pairs.{indexed_number};
 
 use crate::pairs::IndexedNumber;
-use ffi_calls::form::Form;
+use ffi_calls::form::{LONG, SHORT, WIDE, WIDE_LONG};
 use ffi_calls::index_texts::get_index_text;
 use rkyv_table::table::decoded::Decoded;
 
@@ -44,11 +44,7 @@ pub extern "C" fn rkyv_c_index_get_text_u32_narrow(
         (indexed_number found.old)
         result (indexed_number found.new) }
 {
-    let form = Form {
-        long_values: false,
-        wide: false,
-    };
-    get_index_text(archive, form, header, key, found)
+    get_index_text(archive, SHORT, header, key, found)
 }
 
 /// Looks up a key of a narrow index map of texts to `u64`.
@@ -82,11 +78,7 @@ pub extern "C" fn rkyv_c_index_get_text_u64_narrow(
         (indexed_number found.old)
         result (indexed_number found.new) }
 {
-    let form = Form {
-        long_values: true,
-        wide: false,
-    };
-    get_index_text(archive, form, header, key, found)
+    get_index_text(archive, LONG, header, key, found)
 }
 
 /// Looks up a key of a wide index map of texts to `u32`.
@@ -120,11 +112,7 @@ pub extern "C" fn rkyv_c_index_get_text_u32_wide(
         (indexed_number found.old)
         result (indexed_number found.new) }
 {
-    let form = Form {
-        long_values: false,
-        wide: true,
-    };
-    get_index_text(archive, form, header, key, found)
+    get_index_text(archive, WIDE, header, key, found)
 }
 
 /// Looks up a key of a wide index map of texts to `u64`.
@@ -157,9 +145,5 @@ pub extern "C" fn rkyv_c_index_get_text_u64_wide(
         → ReturnsFirstIndexedText (form_of true true) archive.now key.now (indexed_number found.old)
         result (indexed_number found.new) }
 {
-    let form = Form {
-        long_values: true,
-        wide: true,
-    };
-    get_index_text(archive, form, header, key, found)
+    get_index_text(archive, WIDE_LONG, header, key, found)
 }

@@ -6,7 +6,7 @@ ghost use Rattle.std.specs.Prelude.{false, true};
 ghost use Rattle.ffi_calls.specs.{IsHeaderOf, IsNumberArchive, ReturnsFirstNumber, ReturnsNumber};
 ghost use Rattle.ffi_calls.specs.{form_of, long_key, numbers_at, numbers_in};
 
-use ffi_calls::form::Form;
+use ffi_calls::form::{LONG, SHORT, WIDE, WIDE_LONG};
 use ffi_calls::numbers::get_number;
 use rkyv_table::table::decoded::Decoded;
 
@@ -35,11 +35,7 @@ pub extern "C" fn rkyv_c_get_long_number_u32_narrow(
     ensures listed { ReturnsFirstNumber (numbers_at long_key (form_of false false) archive.now) key
         value.old result value.new }
 {
-    let form = Form {
-        long_values: false,
-        wide: false,
-    };
-    get_number::<u64>(archive, form, header, key, value)
+    get_number::<u64>(archive, SHORT, header, key, value)
 }
 
 /// Looks up a key of a narrow map of numbers of 64 bits to `u64`, and stores its value in `value`.
@@ -66,11 +62,7 @@ pub extern "C" fn rkyv_c_get_long_number_u64_narrow(
     ensures listed { ReturnsFirstNumber (numbers_at long_key (form_of true false) archive.now) key
         value.old result value.new }
 {
-    let form = Form {
-        long_values: true,
-        wide: false,
-    };
-    get_number::<u64>(archive, form, header, key, value)
+    get_number::<u64>(archive, LONG, header, key, value)
 }
 
 /// Looks up a key of a wide map of numbers of 64 bits to `u32`, and stores its value in `value`.
@@ -97,11 +89,7 @@ pub extern "C" fn rkyv_c_get_long_number_u32_wide(
     ensures listed { ReturnsFirstNumber (numbers_at long_key (form_of false true) archive.now) key
         value.old result value.new }
 {
-    let form = Form {
-        long_values: false,
-        wide: true,
-    };
-    get_number::<u64>(archive, form, header, key, value)
+    get_number::<u64>(archive, WIDE, header, key, value)
 }
 
 /// Looks up a key of a wide map of numbers of 64 bits to `u64`, and stores its value in `value`.
@@ -128,9 +116,5 @@ pub extern "C" fn rkyv_c_get_long_number_u64_wide(
     ensures listed { ReturnsFirstNumber (numbers_at long_key (form_of true true) archive.now) key
         value.old result value.new }
 {
-    let form = Form {
-        long_values: true,
-        wide: true,
-    };
-    get_number::<u64>(archive, form, header, key, value)
+    get_number::<u64>(archive, WIDE_LONG, header, key, value)
 }

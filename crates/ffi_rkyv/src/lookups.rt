@@ -8,7 +8,7 @@ ghost use Rattle.ffi_calls.specs.{IsHeaderOf, IsNumberArchive, IsTextArchive, Re
 ghost use Rattle.ffi_calls.specs.{ReturnsFirstText, ReturnsNumber, ReturnsText, form_of};
 ghost use Rattle.ffi_calls.specs.{numbers_at, numbers_in, short_key, texts_in};
 
-use ffi_calls::form::Form;
+use ffi_calls::form::{LONG, SHORT, WIDE, WIDE_LONG};
 use ffi_calls::numbers::get_number;
 use ffi_calls::texts::get_text;
 use rkyv_table::table::decoded::Decoded;
@@ -38,11 +38,7 @@ pub extern "C" fn rkyv_c_get_number_u32_narrow(
     ensures listed { ReturnsFirstNumber (numbers_at short_key (form_of false false) archive.now) key
         value.old result value.new }
 {
-    let form = Form {
-        long_values: false,
-        wide: false,
-    };
-    get_number::<u32>(archive, form, header, key, value)
+    get_number::<u32>(archive, SHORT, header, key, value)
 }
 
 /// Looks up a key of a narrow map of numbers to `u64`, and stores its value in `value`.
@@ -70,11 +66,7 @@ pub extern "C" fn rkyv_c_get_number_u64_narrow(
     ensures listed { ReturnsFirstNumber (numbers_at short_key (form_of true false) archive.now) key
         value.old result value.new }
 {
-    let form = Form {
-        long_values: true,
-        wide: false,
-    };
-    get_number::<u32>(archive, form, header, key, value)
+    get_number::<u32>(archive, LONG, header, key, value)
 }
 
 /// Looks up a key of a wide map of numbers to `u32`, and stores its value in `value`.
@@ -102,11 +94,7 @@ pub extern "C" fn rkyv_c_get_number_u32_wide(
     ensures listed { ReturnsFirstNumber (numbers_at short_key (form_of false true) archive.now) key
         value.old result value.new }
 {
-    let form = Form {
-        long_values: false,
-        wide: true,
-    };
-    get_number::<u32>(archive, form, header, key, value)
+    get_number::<u32>(archive, WIDE, header, key, value)
 }
 
 /// Looks up a key of a wide map of numbers to `u64`, and stores its value in `value`.
@@ -133,11 +121,7 @@ pub extern "C" fn rkyv_c_get_number_u64_wide(
     ensures listed { ReturnsFirstNumber (numbers_at short_key (form_of true true) archive.now) key
         value.old result value.new }
 {
-    let form = Form {
-        long_values: true,
-        wide: true,
-    };
-    get_number::<u32>(archive, form, header, key, value)
+    get_number::<u32>(archive, WIDE_LONG, header, key, value)
 }
 
 /// Looks up a key of a narrow map of texts to `u32`, and stores its value in `value`.
@@ -167,11 +151,7 @@ pub extern "C" fn rkyv_c_get_text_u32_narrow(
     ensures listed { IsUtf8 key.now
         → ReturnsFirstText (form_of false false) archive.now key.now value.old result value.new }
 {
-    let form = Form {
-        long_values: false,
-        wide: false,
-    };
-    get_text(archive, form, header, key, value)
+    get_text(archive, SHORT, header, key, value)
 }
 
 /// Looks up a key of a narrow map of texts to `u64`, and stores its value in `value`.
@@ -201,11 +181,7 @@ pub extern "C" fn rkyv_c_get_text_u64_narrow(
     ensures listed { IsUtf8 key.now
         → ReturnsFirstText (form_of true false) archive.now key.now value.old result value.new }
 {
-    let form = Form {
-        long_values: true,
-        wide: false,
-    };
-    get_text(archive, form, header, key, value)
+    get_text(archive, LONG, header, key, value)
 }
 
 /// Looks up a key of a wide map of texts to `u32`, and stores its value in `value`.
@@ -235,11 +211,7 @@ pub extern "C" fn rkyv_c_get_text_u32_wide(
     ensures listed { IsUtf8 key.now
         → ReturnsFirstText (form_of false true) archive.now key.now value.old result value.new }
 {
-    let form = Form {
-        long_values: false,
-        wide: true,
-    };
-    get_text(archive, form, header, key, value)
+    get_text(archive, WIDE, header, key, value)
 }
 
 /// Looks up a key of a wide map of texts to `u64`, and stores its value in `value`.
@@ -269,9 +241,5 @@ pub extern "C" fn rkyv_c_get_text_u64_wide(
     ensures listed { IsUtf8 key.now
         → ReturnsFirstText (form_of true true) archive.now key.now value.old result value.new }
 {
-    let form = Form {
-        long_values: true,
-        wide: true,
-    };
-    get_text(archive, form, header, key, value)
+    get_text(archive, WIDE_LONG, header, key, value)
 }

@@ -1,35 +1,10 @@
-//! The forms of maps, and archives of known bytes that `test_support` doesn't have.
+//! Archives of known bytes that `test_support` doesn't have.
 //!
 //! The comment of an archive has the position of each part. The hash of the number 1 is
 //! 517cc1b727220a95, with the tag 28. That of the empty text is 2b44f56ffae88a6b, with the tag 15.
 //! Both are odd, so each pair is in bucket 1 of two.
 
-use ffi_calls::form::Form;
 use test_support::archives::archive;
-
-/// Values of 32 bits in a narrow archive.
-pub const SHORT: Form = Form {
-    long_values: false,
-    wide: false,
-};
-
-/// Values of 64 bits in a narrow archive.
-pub const LONG: Form = Form {
-    long_values: true,
-    wide: false,
-};
-
-/// Values of 32 bits in a wide archive.
-pub const WIDE: Form = Form {
-    long_values: false,
-    wide: true,
-};
-
-/// Values of 64 bits in a wide archive.
-pub const WIDE_LONG: Form = Form {
-    long_values: true,
-    wide: true,
-};
 
 // The header of a narrow map of one pair in two buckets, after a zero of padding.
 // Control byte 0 is 32 bytes before it.

@@ -1,13 +1,13 @@
 //! Tests of the first error of an archive or a container, with its position and its numbers.
 
 use crate::tests::archives::{
-    LONG, SHORT, WIDE, WIDE_LONG, empty_text, empty_wide_text, one_great_number, one_long_number,
-    one_wide_great_number, one_wide_long_number,
+    empty_text, empty_wide_text, one_great_number, one_long_number, one_wide_great_number,
+    one_wide_long_number,
 };
 use crate::tests::containers::{TEXTS, map};
 use crate::tests::support::{Numbers, numbers_of, with_byte};
 use ffi_calls::containers::explain_container;
-use ffi_calls::form::Form;
+use ffi_calls::form::{Form, LONG, SHORT, WIDE, WIDE_LONG};
 use ffi_calls::numbers::explain_numbers;
 use ffi_calls::texts::explain_texts;
 use test_support::archives::{no_items, one_number, one_symbol, one_wide_number};

@@ -1,6 +1,5 @@
 //! Tests of archives of pairs as index maps.
 
-use crate::tests::archives::{LONG, SHORT, WIDE, WIDE_LONG};
 use crate::tests::index_archives::{
     NO_PAIRS, NO_WIDE_PAIRS, empty_text, empty_wide_text, long_number_twice, one_long_number,
     one_number, one_number_twice, one_symbol, one_wide_great_number, one_wide_long_number,
@@ -8,7 +7,7 @@ use crate::tests::index_archives::{
 };
 use crate::tests::support::GREAT;
 use ffi_calls::building::Built;
-use ffi_calls::form::Form;
+use ffi_calls::form::{Form, LONG, SHORT, WIDE, WIDE_LONG};
 use ffi_calls::index_items::{build_index_numbers, build_index_texts};
 use ffi_calls::pairs::Pair;
 use ffi_calls::reading::NumberKey;

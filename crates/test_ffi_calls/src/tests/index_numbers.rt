@@ -3,13 +3,12 @@
 ghost use Rattle.std.specs.Prelude.{IsTrue};
 ghost use Rattle.ffi_calls.specs.{IsNumberIndex};
 
-use crate::tests::archives::{LONG, SHORT, WIDE, WIDE_LONG};
 use crate::tests::index_archives::{
     NO_PAIRS, NO_WIDE_PAIRS, long_number_twice, one_long_number, one_number, one_number_twice,
     one_wide_great_number, one_wide_long_number, one_wide_number,
 };
 use crate::tests::support::GREAT;
-use ffi_calls::form::Form;
+use ffi_calls::form::{Form, LONG, SHORT, WIDE, WIDE_LONG};
 use ffi_calls::index_numbers::{
     decode_index_numbers, get_index_number, index_numbers_from, open_index_numbers,
 };

@@ -1,6 +1,5 @@
 //! Tests of overwrites in index maps of numbers and of texts.
 
-use crate::tests::archives::{LONG, SHORT, WIDE, WIDE_LONG};
 use crate::tests::index_archives::{
     NO_PAIRS, empty_text, empty_wide_text, long_number_twice, one_long_number, one_number,
     one_number_twice, one_symbol, one_wide_great_number, one_wide_long_number, one_wide_number,
@@ -8,7 +7,7 @@ use crate::tests::index_archives::{
 };
 use crate::tests::support::GREAT;
 use crate::tests::{index_numbers, index_texts};
-use ffi_calls::form::Form;
+use ffi_calls::form::{Form, LONG, SHORT, WIDE, WIDE_LONG};
 use ffi_calls::index_numbers::{decode_index_numbers, get_index_number, set_index_number};
 use ffi_calls::index_texts::{decode_index_texts, get_index_text, set_index_text};
 use ffi_calls::pairs::Indexed;

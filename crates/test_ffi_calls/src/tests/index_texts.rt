@@ -3,11 +3,10 @@
 ghost use Rattle.std.specs.Prelude.{IsTrue};
 ghost use Rattle.ffi_calls.specs.{IsTextIndex};
 
-use crate::tests::archives::{LONG, SHORT, WIDE, WIDE_LONG};
 use crate::tests::index_archives::{
     NO_PAIRS, NO_WIDE_PAIRS, empty_text, empty_wide_text, one_symbol, two_texts,
 };
-use ffi_calls::form::Form;
+use ffi_calls::form::{Form, LONG, SHORT, WIDE, WIDE_LONG};
 use ffi_calls::index_texts::{
     decode_index_texts, get_index_text, index_texts_from, open_index_texts,
 };

@@ -1,13 +1,12 @@
 //! Tests of the validation of index maps: the statuses, and the numbers of the first error.
 
-use crate::tests::archives::{LONG, SHORT, WIDE, WIDE_LONG};
 use crate::tests::index_archives::{
     NO_PAIRS, NO_WIDE_PAIRS, empty_text, empty_wide_text, long_number_twice, one_long_number,
     one_number, one_symbol, one_wide_great_number, one_wide_long_number, one_wide_number,
     two_texts,
 };
 use crate::tests::support::{Numbers, numbers_of, with_byte};
-use ffi_calls::form::Form;
+use ffi_calls::form::{Form, LONG, SHORT, WIDE, WIDE_LONG};
 use ffi_calls::index_numbers::{explain_index_numbers, open_index_numbers};
 use ffi_calls::index_texts::{explain_index_texts, open_index_texts};
 

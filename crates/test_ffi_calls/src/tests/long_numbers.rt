@@ -3,12 +3,12 @@
 //! The archives of 1 to 2 have the same bytes for values of 32 and of 64 bits.
 
 use crate::tests::archives::{
-    LONG, SHORT, WIDE, WIDE_LONG, one_great_number, one_long_number, one_wide_great_number,
-    one_wide_long_number, two_long_numbers,
+    one_great_number, one_long_number, one_wide_great_number, one_wide_long_number,
+    two_long_numbers,
 };
 use crate::tests::numbers::{lookup, numbers_of, overwrite, overwrite_and_get, walk};
 use crate::tests::support::GREAT;
-use ffi_calls::form::Form;
+use ffi_calls::form::{Form, LONG, SHORT, WIDE, WIDE_LONG};
 use ffi_calls::numbers::{explain_numbers, open_numbers};
 use ffi_calls::pairs::{Pair, Step};
 

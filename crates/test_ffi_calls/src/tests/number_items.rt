@@ -1,12 +1,12 @@
 //! Tests of archives of pairs of numbers.
 
 use crate::tests::archives::{
-    LONG, SHORT, WIDE, WIDE_LONG, one_great_number, one_long_number, one_number_twice,
-    one_wide_great_number, one_wide_long_number, two_long_numbers,
+    one_great_number, one_long_number, one_number_twice, one_wide_great_number,
+    one_wide_long_number, two_long_numbers,
 };
 use crate::tests::support::GREAT;
 use ffi_calls::building::Built;
-use ffi_calls::form::Form;
+use ffi_calls::form::{Form, LONG, SHORT, WIDE, WIDE_LONG};
 use ffi_calls::number_items::build_numbers;
 use ffi_calls::pairs::Pair;
 use ffi_calls::reading::NumberKey;

@@ -3,10 +3,8 @@
 ghost use Rattle.std.specs.Prelude.{IsTrue};
 ghost use Rattle.ffi_calls.specs.{IsNumberArchive};
 
-use crate::tests::archives::{
-    LONG, SHORT, WIDE, WIDE_LONG, one_long_number, one_number_twice, one_wide_long_number,
-};
-use ffi_calls::form::Form;
+use crate::tests::archives::{one_long_number, one_number_twice, one_wide_long_number};
+use ffi_calls::form::{Form, LONG, SHORT, WIDE, WIDE_LONG};
 use ffi_calls::numbers::{decode_numbers, get_number, next_numbers, open_numbers, set_number};
 use ffi_calls::pairs::{Pair, Step};
 use ffi_calls::reading::NumberKey;

@@ -1,8 +1,8 @@
 //! Tests of archives of pairs of texts and numbers.
 
-use crate::tests::archives::{LONG, SHORT, WIDE, WIDE_LONG, empty_text, empty_wide_text};
+use crate::tests::archives::{empty_text, empty_wide_text};
 use ffi_calls::building::Built;
-use ffi_calls::form::Form;
+use ffi_calls::form::{Form, LONG, SHORT, WIDE, WIDE_LONG};
 use ffi_calls::pairs::Pair;
 use ffi_calls::status::DONE;
 use ffi_calls::text_items::build_texts;

@@ -3,10 +3,8 @@
 ghost use Rattle.std.specs.Prelude.{IsTrue};
 ghost use Rattle.ffi_calls.specs.{IsTextArchive};
 
-use crate::tests::archives::{
-    LONG, SHORT, WIDE, WIDE_LONG, empty_text, empty_text_twice, empty_wide_text,
-};
-use ffi_calls::form::Form;
+use crate::tests::archives::{empty_text, empty_text_twice, empty_wide_text};
+use ffi_calls::form::{Form, LONG, SHORT, WIDE, WIDE_LONG};
 use ffi_calls::pairs::{Pair, Step};
 use ffi_calls::status::DONE;
 use ffi_calls::texts::{decode_texts, get_text, is_text, next_texts, open_texts, set_text};

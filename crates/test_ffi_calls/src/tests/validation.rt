@@ -1,8 +1,8 @@
 //! Tests of the statuses of validation errors.
 
-use crate::tests::archives::{LONG, SHORT, WIDE, WIDE_LONG, empty_text, empty_wide_text};
+use crate::tests::archives::{empty_text, empty_wide_text};
 use crate::tests::support::with_byte;
-use ffi_calls::form::Form;
+use ffi_calls::form::{Form, LONG, SHORT, WIDE, WIDE_LONG};
 use ffi_calls::numbers::open_numbers;
 use ffi_calls::texts::open_texts;
 use test_support::archives::{no_items, one_number, one_symbol, one_wide_number};
