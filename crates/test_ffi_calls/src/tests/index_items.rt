@@ -5,13 +5,12 @@ use crate::tests::index_archives::{
     one_number, one_number_twice, one_symbol, one_wide_great_number, one_wide_long_number,
     one_wide_number, two_texts,
 };
-use crate::tests::support::GREAT;
+use crate::tests::support::{GREAT, outcome_of};
 use ffi_calls::building::Built;
 use ffi_calls::form::{Form, LONG, SHORT, WIDE, WIDE_LONG};
 use ffi_calls::index_items::{build_index_numbers, build_index_texts};
 use ffi_calls::pairs::Pair;
 use ffi_calls::reading::NumberKey;
-use ffi_calls::status::DONE;
 use std::alloc::Global;
 
 // Returns the status of a write of the items, and whether `built` has `bytes` if it is 0.
@@ -25,9 +24,7 @@ fn numbers<K: NumberKey>(
     let mut before = [1, 2];
     let mut built = Built { bytes: &mut before };
     let status = build_index_numbers(alloc, items, form, &mut built);
-    let expected = if status == DONE { bytes } else { &[1, 2] };
-    let Built { bytes: after } = built;
-    (status, &*after == expected)
+    outcome_of(status, built, bytes)
 }
 
 // Writes the pair of 1 and 2.
@@ -53,9 +50,7 @@ fn texts(alloc: Global, items: &[Pair<&[u8], u64>], form: Form, bytes: &[u8]) ->
     let mut before = [1, 2];
     let mut built = Built { bytes: &mut before };
     let status = build_index_texts(alloc, items, form, &mut built);
-    let expected = if status == DONE { bytes } else { &[1, 2] };
-    let Built { bytes: after } = built;
-    (status, &*after == expected)
+    outcome_of(status, built, bytes)
 }
 
 // Writes one pair of a text.

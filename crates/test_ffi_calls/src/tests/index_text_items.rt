@@ -5,12 +5,11 @@ use crate::tests::index_text_archives::{
     empty_to_text, empty_to_wide_text, great_to_wide_text, long_to_tea, long_to_two_texts,
     one_to_tea, one_to_two_texts, one_to_wide_text, two_texts,
 };
-use crate::tests::support::GREAT;
+use crate::tests::support::{GREAT, outcome_of};
 use ffi_calls::building::Built;
 use ffi_calls::index_text_items::{build_index_numbers_to_texts, build_index_texts_to_texts};
 use ffi_calls::pairs::Pair;
 use ffi_calls::reading::NumberKey;
-use ffi_calls::status::DONE;
 use std::alloc::Global;
 
 // Returns the status of a write of the items, and whether `built` has `bytes` if it is 0.
@@ -24,9 +23,7 @@ fn numbers<'a, K: NumberKey>(
     let mut before = [1, 2];
     let mut built = Built { bytes: &mut before };
     let status = build_index_numbers_to_texts(alloc, items, wide, &mut built);
-    let expected = if status == DONE { bytes } else { &[1, 2] };
-    let Built { bytes: after } = built;
-    (status, &*after == expected)
+    outcome_of(status, built, bytes)
 }
 
 // Writes the pair of 1 to the value.
@@ -82,9 +79,7 @@ fn texts(alloc: Global, items: &[Pair<&[u8], &[u8]>], wide: bool, bytes: &[u8]) 
     let mut before = [1, 2];
     let mut built = Built { bytes: &mut before };
     let status = build_index_texts_to_texts(alloc, items, wide, &mut built);
-    let expected = if status == DONE { bytes } else { &[1, 2] };
-    let Built { bytes: after } = built;
-    (status, &*after == expected)
+    outcome_of(status, built, bytes)
 }
 
 // Writes the pair of a text to the value.

@@ -4,13 +4,12 @@ use crate::tests::archives::{
     one_great_number, one_long_number, one_number_twice, one_wide_great_number,
     one_wide_long_number, two_long_numbers,
 };
-use crate::tests::support::GREAT;
+use crate::tests::support::{GREAT, outcome_of};
 use ffi_calls::building::Built;
 use ffi_calls::form::{Form, LONG, SHORT, WIDE, WIDE_LONG};
 use ffi_calls::number_items::build_numbers;
 use ffi_calls::pairs::Pair;
 use ffi_calls::reading::NumberKey;
-use ffi_calls::status::DONE;
 use std::alloc::Global;
 use test_support::archives::{no_items, one_number, one_wide_number};
 
@@ -25,9 +24,7 @@ fn write<K: NumberKey>(
     let mut before = [1, 2];
     let mut built = Built { bytes: &mut before };
     let status = build_numbers(alloc, items, form, &mut built);
-    let expected = if status == DONE { bytes } else { &[1, 2] };
-    let Built { bytes: after } = built;
-    (status, &*after == expected)
+    outcome_of(status, built, bytes)
 }
 
 // Writes the pairs of 1 and `first`, and of 1 and `second`.

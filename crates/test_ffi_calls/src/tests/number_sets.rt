@@ -4,7 +4,7 @@ ghost use Rattle.std.specs.Prelude.{IsTrue};
 ghost use Rattle.ffi_calls.specs.{IsNumberSet};
 
 use crate::tests::archives::{HEADER, HEADER_OF_TWO, WIDE_HEADER};
-use crate::tests::support::{GREAT, Numbers, numbers_of, with_byte};
+use crate::tests::support::{GREAT, Numbers, numbers_of, outcome_of, with_byte};
 use ffi_calls::building::Built;
 use ffi_calls::number_sets::{
     build_number_set, contains_number, decode_number_set, explain_number_set, next_number_members,
@@ -154,9 +154,7 @@ fn write<K: NumberKey>(alloc: Global, items: &[K], wide: bool, bytes: &[u8]) -> 
     let mut before = [1, 2];
     let mut built = Built { bytes: &mut before };
     let status = build_number_set(alloc, items, wide, &mut built);
-    let expected = if status == DONE { bytes } else { &[1, 2] };
-    let Built { bytes: after } = built;
-    (status, &*after == expected)
+    outcome_of(status, built, bytes)
 }
 
 // Returns whether the result is that of the archive, or of an allocation that fails.

@@ -1,6 +1,8 @@
 //! Helpers of several tests.
 
+use ffi_calls::building::Built;
 use ffi_calls::explanation::Explanation;
+use ffi_calls::status::DONE;
 
 /// The number whose low 32 bits are 1, and whose high 32 bits are 1.
 pub(crate) const GREAT: u64 = 0x1_0000_0001;
@@ -26,4 +28,13 @@ pub(crate) fn with_byte<const N: usize>(bytes: [u8; N], pos: usize, byte: u8) ->
         *old = byte;
     }
     changed
+}
+
+/// Returns the status of a write, and whether `built` has `bytes` if it is 0.
+///
+/// After an error the flag is whether `built` still has the bytes 1 and 2.
+pub(crate) fn outcome_of(status: u32, built: Built<'_>, bytes: &[u8]) -> (u32, bool) {
+    let expected = if status == DONE { bytes } else { &[1, 2] };
+    let Built { bytes: after } = built;
+    (status, &*after == expected)
 }

@@ -1,10 +1,10 @@
 //! Tests of archives of pairs of texts and numbers.
 
 use crate::tests::archives::{empty_text, empty_wide_text};
+use crate::tests::support::outcome_of;
 use ffi_calls::building::Built;
 use ffi_calls::form::{Form, LONG, SHORT, WIDE, WIDE_LONG};
 use ffi_calls::pairs::Pair;
-use ffi_calls::status::DONE;
 use ffi_calls::text_items::build_texts;
 use std::alloc::Global;
 use test_support::archives::{no_items, one_symbol};
@@ -15,9 +15,7 @@ fn write(alloc: Global, items: &[Pair<&[u8], u64>], form: Form, bytes: &[u8]) ->
     let mut before = [1, 2];
     let mut built = Built { bytes: &mut before };
     let status = build_texts(alloc, items, form, &mut built);
-    let expected = if status == DONE { bytes } else { &[1, 2] };
-    let Built { bytes: after } = built;
-    (status, &*after == expected)
+    outcome_of(status, built, bytes)
 }
 
 // Writes one pair.

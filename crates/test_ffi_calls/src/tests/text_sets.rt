@@ -4,7 +4,7 @@ ghost use Rattle.std.specs.Prelude.{IsTrue};
 ghost use Rattle.ffi_calls.specs.{IsTextSet};
 
 use crate::tests::archives::{HEADER, HEADER_OF_TWO, WIDE_HEADER};
-use crate::tests::support::{Numbers, numbers_of, with_byte};
+use crate::tests::support::{Numbers, numbers_of, outcome_of, with_byte};
 use ffi_calls::building::Built;
 use ffi_calls::pairs::{Pair, Step};
 use ffi_calls::status::DONE;
@@ -110,9 +110,7 @@ fn write(alloc: Global, items: &[SetText<'_>], wide: bool, bytes: &[u8]) -> (u32
     let mut before = [1, 2];
     let mut built = Built { bytes: &mut before };
     let status = build_text_set(alloc, items, wide, &mut built);
-    let expected = if status == DONE { bytes } else { &[1, 2] };
-    let Built { bytes: after } = built;
-    (status, &*after == expected)
+    outcome_of(status, built, bytes)
 }
 
 // Writes a set of one text.

@@ -1,6 +1,6 @@
 //! Tests of archives of pairs with texts as values.
 
-use crate::tests::support::GREAT;
+use crate::tests::support::{GREAT, outcome_of};
 use crate::tests::text_archives::{
     empty_to_text, empty_to_two_texts, empty_to_wide_text, great_to_wide_text, long_to_tea,
     long_to_two_texts, one_to_tea, one_to_two_texts, one_to_wide_text,
@@ -9,7 +9,6 @@ use ffi_calls::building::Built;
 use ffi_calls::numbers_to_texts_items::build_numbers_to_texts;
 use ffi_calls::pairs::Pair;
 use ffi_calls::reading::NumberKey;
-use ffi_calls::status::DONE;
 use ffi_calls::texts_to_texts_items::build_texts_to_texts;
 use std::alloc::Global;
 use test_support::archives::no_items;
@@ -25,9 +24,7 @@ fn write_numbers<'a, K: NumberKey>(
     let mut before = [1, 2];
     let mut built = Built { bytes: &mut before };
     let status = build_numbers_to_texts(alloc, items, wide, &mut built);
-    let expected = if status == DONE { bytes } else { &[1, 2] };
-    let Built { bytes: after } = built;
-    (status, &*after == expected)
+    outcome_of(status, built, bytes)
 }
 
 // Writes the pairs of 1 to the values.
@@ -80,9 +77,7 @@ fn write_texts(
     let mut before = [1, 2];
     let mut built = Built { bytes: &mut before };
     let status = build_texts_to_texts(alloc, items, wide, &mut built);
-    let expected = if status == DONE { bytes } else { &[1, 2] };
-    let Built { bytes: after } = built;
-    (status, &*after == expected)
+    outcome_of(status, built, bytes)
 }
 
 // Writes the pair of a key and a value.
