@@ -10,4 +10,5 @@ pub mod Codes
 pub mod Together
 pub mod IndexPairs
 pub mod IndexFound
+pub mod IndexWriting
 pub mod StoredArchive

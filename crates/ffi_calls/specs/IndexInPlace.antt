@@ -23,13 +23,6 @@ use Rattle.ffi_calls.specs.declared.form.Form.{Form}
 abbrev pub value_found_in : MapAt → List HasherCall → (ℕ → Bool) → Option ℕ
 value_found_in m calls fits = option_map (value_pos_at m) (found_index m calls fits)
 
--- the index that is found is that of the first pair whose key is accepted
-abbrev pub FindsFirstIndex : {A B : Type 0} → MapAt → ValueQuery A → (List ℕ → ℕ → B → Type 0)
-    → Option ℕ → Type 0
-FindsFirstIndex {A} {B} m a value result = (factor : ℕ × ℕ) (pairs : List (A × B))
-    → IndexRepresentsPairs m (query_pairs m a value) factor pairs
-    → IsFirst a.accept_value pairs result
-
 -- After an overwrite `c` represents the list with the value of `number` in the first pair whose key
 -- is accepted. If no key is accepted the status is 1; if `number` has too many bits it is 3.
 abbrev pub SetsFirstIndexed : {A N : Type 0} → MapAt → ValueQuery A → Encoding N → ℕ → ℕ → List ℕ

@@ -94,9 +94,9 @@ unfoldable pub use IndexItems.{NumberIndexWriteOk, TextIndexWriteFails, TextInde
 unfoldable pub use IndexItems.{WritesNumberIndex, WritesTextIndex, index_header_spec}
 unfoldable pub use IndexItems.{index_pairs_format, index_width, index_width_of}
 pub use IndexItems.{IndexWidth}
-unfoldable pub use IndexInPlace.{FindsFirstIndex, SetsFirstIndexed, SetsFirstIndexedNumber}
-unfoldable pub use IndexInPlace.{SetsFirstIndexedText, SetsIndexedBytes, SetsIndexedNumber}
-unfoldable pub use IndexInPlace.{SetsIndexedText, value_found_in}
+unfoldable pub use IndexInPlace.{SetsFirstIndexed, SetsFirstIndexedNumber, SetsFirstIndexedText}
+unfoldable pub use IndexInPlace.{SetsIndexedBytes, SetsIndexedNumber, SetsIndexedText}
+unfoldable pub use IndexInPlace.{value_found_in}
 pub use IndexInPlace.{OverwritesIndexedText}
 unfoldable pub use IndexTextValues.{IndexOfNumberTextsFails, IndexOfTextTextsFails, IndexWriteFails}
 unfoldable pub use IndexTextValues.{IndexWriteOk, IsIndexOfNumberTexts, IsIndexOfTextTexts}

@@ -74,7 +74,7 @@ pub(crate) fn get_in<
 
 /// Returns `DONE` if a key is found, and `NOT_FOUND` if it isn't.
 #[inline]
-fn status_of(found: bool) -> u32
+pub(crate) fn status_of(found: bool) -> u32
     ensures yes { found ≡ true → result ≡ 0 }
     ensures no { found ≡ false → result ≡ 1 }
 {
