@@ -145,16 +145,8 @@ pub fn requests_of_table(
     let mut writer = VecWriter::new(alloc);
     let outcome = ArchivedHashTable::<u8, Narrow>::serialize_from_iter::<VecWriter, u8, u8, _, _>(
         alloc,
-        iter::from_fn(|| if yields_next(&of_items, items) {
-            Some(7u8)
-        } else {
-            None
-        }),
-        iter::from_fn(|| if yields_next(&of_hashes, hashes) {
-            Some(0u64)
-        } else {
-            None
-        }),
+        iter::from_fn(|| yields_next(&of_items, items).then_some(7u8)),
+        iter::from_fn(|| yields_next(&of_hashes, hashes).then_some(0u64)),
         len,
         (7, 8),
         &mut writer,
@@ -180,11 +172,7 @@ pub fn requests_of_pairs(alloc: Global, pairs: usize, len: usize) -> (Outcome, u
         _,
     >(
         alloc,
-        iter::from_fn(|| if yields_next(&requests, pairs) {
-            Some((0u64, 7u8))
-        } else {
-            None
-        }),
+        iter::from_fn(|| yields_next(&requests, pairs).then_some((0u64, 7u8))),
         len,
         (7, 8),
         &mut writer,

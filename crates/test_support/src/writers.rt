@@ -53,9 +53,7 @@ impl Writer for LateWriter {
         match self.bytes.extend_from_slice(bytes) {
             Ok(()) => Ok(()),
             Err(_) => {
-                if self.failures < u64::MAX {
-                    self.failures += 1;
-                }
+                self.failures = self.failures.saturating_add(1);
                 Err(NoRoom)
             }
         }
@@ -100,9 +98,7 @@ impl Writer for BrokenWriter {
 
     fn write(&mut self, _bytes: &[u8]) -> Result<(), Broken> {
         self.calls = self.calls.saturating_add(1);
-        if self.failures < u64::MAX {
-            self.failures += 1;
-        }
+        self.failures = self.failures.saturating_add(1);
         Err(Broken)
     }
 }
@@ -141,9 +137,7 @@ impl PieceWriter {
         ensures kept { self.old.failures ≤ self.new.failures }
         ensures bytes { self.new.bytes ≡ self.old.bytes }
     {
-        if self.failures < u64::MAX {
-            self.failures += 1;
-        }
+        self.failures = self.failures.saturating_add(1);
     }
 }
 
@@ -161,12 +155,9 @@ impl Writer for PieceWriter {
     }
 
     fn write(&mut self, bytes: &[u8]) -> Result<(), NoRoom> {
-        match self.lengths.push(bytes.len()) {
-            Ok(()) => {}
-            Err(_) => {
-                self.count_failure();
-                return Err(NoRoom);
-            }
+        if self.lengths.push(bytes.len()).is_err() {
+            self.count_failure();
+            return Err(NoRoom);
         }
         match self.bytes.extend_from_slice(bytes) {
             Ok(()) => Ok(()),

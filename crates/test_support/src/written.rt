@@ -17,12 +17,7 @@ pub fn is_archived_as<V: Serialize<VecWriter, Narrow>>(
 
 // Returns whether all controls are empty.
 fn are_empty(controls: &[u8]) -> bool {
-    for control in controls {
-        if *control != 0xff {
-            return false;
-        }
-    }
-    true
+    controls.iter().all(|&control| control == 0xff)
 }
 
 /// Returns whether the bytes are `front`, then `empty` empty controls.

@@ -21,6 +21,7 @@ use rkyv_keys::{KeyElement, Query};
 use rkyv_scan::{FxHasher64, KeyHasher};
 use std::alloc::Global;
 use test_support::archives::{four_pairs, one_number, one_wide_number};
+use test_support::changes::change;
 
 type Numbers<W> = HashMapOf<u32, u32, FxHasher64, W>;
 
@@ -326,20 +327,16 @@ fn values_are_written_by_position(rt: HostRuntime) {
     expect_eq!(rt; (written, same), (Some(true), true));
 }
 
-// Writes `byte` at `pos`, if the archive has this position.
-fn change(archive: &mut [u8], pos: u64, byte: u8) {
-    match archive.get_mut(pos as usize) {
-        Some(old) => *old = byte,
-        None => {}
-    }
-}
-
 // Writes 20 and 21 over the first two values while the cursor steps. Returns their positions.
 fn write_stepping(bytes: &mut [u8]) -> Result<[Option<u64>; 2], VerifyError> {
     let whole = small_seal(bytes)?;
     let mut rest = ArchivedHashMap::values_seal(whole);
-    let first = rest.next_with(|archive: &mut [u8], pos: u64| change(archive, pos, 20));
-    let second = rest.next_with(|archive: &mut [u8], pos: u64| change(archive, pos, 21));
+    let first = rest.next_with(|archive: &mut [u8], pos: u64| {
+        change(archive, pos, 20);
+    });
+    let second = rest.next_with(|archive: &mut [u8], pos: u64| {
+        change(archive, pos, 21);
+    });
     Ok([first, second])
 }
 

@@ -236,12 +236,7 @@ fn sixteen_buckets_are_one_stride(rt: HostRuntime) {
 
 // Returns whether all controls are empty.
 fn are_empty(controls: &[u8]) -> bool {
-    for control in controls {
-        if *control != 0xff {
-            return false;
-        }
-    }
-    true
+    controls.iter().all(|&control| control == 0xff)
 }
 
 // Returns whether the controls are `front`, then bytes 0xff.

@@ -1,4 +1,5 @@
 //! Tests of values in archives: deserialized, compared, hashed and formatted.
+use crate::tests::queries::shows;
 use rkyv_base::access::access;
 use rkyv_base::{VerifyError, to_bytes};
 use rkyv_keys::{
@@ -43,17 +44,6 @@ fn is_read_back<N: ScalarKey>(alloc: Global, bytes: &[u8], value: N) -> bool {
     }
 }
 
-// Returns `true` if the value of an archive is formatted as this text.
-fn prints_as<N: ScalarKey + Debug>(alloc: Global, bytes: &[u8], text: &str) -> bool {
-    match access::<N>(bytes) {
-        Ok(view) => {
-            let shown = format!(in alloc; "{:?}", Shown::new(view));
-            matches!(shown, Ok(shown) if shown.as_str() == text)
-        }
-        Err(_) => false,
-    }
-}
-
 // Returns `true` if all of these are as expected, for the archives of a value and of another.
 fn represents_in<N: ScalarKey + Debug>(
     alloc: Global,
@@ -66,7 +56,7 @@ fn represents_in<N: ScalarKey + Debug>(
     compared(bytes, others, value, other).ok() == Some([true, false, true, false, true, false])
         && hashes_alike(bytes, value).ok() == Some(true)
         && is_read_back(alloc, bytes, value)
-        && prints_as::<N>(alloc, bytes, text)
+        && shows::<N>(alloc, bytes, text)
 }
 
 // Archives a value and another, and calls `represents_in` on the archives.

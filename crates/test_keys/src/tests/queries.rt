@@ -88,7 +88,7 @@ fn reads_unit(alloc: Global, bytes: &[u8]) -> Result<bool, VerifyError> {
 }
 
 // Returns `true` if the root of an archive is formatted as this text.
-fn shows<T: ElementDebug>(alloc: Global, bytes: &[u8], text: &str) -> bool {
+pub(crate) fn shows<T: ElementDebug>(alloc: Global, bytes: &[u8], text: &str) -> bool {
     match access::<T>(bytes) {
         Ok(view) => {
             let shown = format!(in alloc; "{:?}", Shown::new(view));

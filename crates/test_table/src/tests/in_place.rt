@@ -10,6 +10,7 @@ use rkyv_base::access::access;
 use rkyv_base::{Narrow, Scalar, Seal, VerifyError, View, Width, access_mut};
 use rkyv_table::table::laws;
 use rkyv_table::{ArchivedHashTable, TableOf};
+use test_support::changes::change;
 
 // Sets each item of a table, which stays valid.
 fn set_all<N: Scalar, W: Width>(archive: &mut [u8], pos: u64, value: N)
@@ -130,23 +131,21 @@ fn lookup_of_a_missing_item_changes_nothing(rt: HostRuntime) {
     expect_eq!(rt; (found, bytes), (Some(None), two_archived()));
 }
 
-// Writes a byte over a byte of an archive.
-fn change(archive: &mut [u8], pos: u64, byte: u8) {
-    match archive.get_mut(pos as usize) {
-        Some(old) => *old = byte,
-        None => {}
-    }
-}
-
 // Writes 7 and 9 over the two items of a table while the cursor steps. Returns the three results,
 // and the number of items that remain.
 fn write_stepping(bytes: &mut [u8]) -> Result<([Option<u64>; 3], usize), VerifyError> {
     let whole = access_mut::<TableOf<u8>>(bytes)?;
     let mut rest = ArchivedHashTable::raw_iter_seal(whole);
     let positions = [
-        rest.next_with(|archive: &mut [u8], pos: u64| change(archive, pos, 7)),
-        rest.next_with(|archive: &mut [u8], pos: u64| change(archive, pos, 9)),
-        rest.next_with(|archive: &mut [u8], pos: u64| change(archive, pos, 11)),
+        rest.next_with(|archive: &mut [u8], pos: u64| {
+            change(archive, pos, 7);
+        }),
+        rest.next_with(|archive: &mut [u8], pos: u64| {
+            change(archive, pos, 9);
+        }),
+        rest.next_with(|archive: &mut [u8], pos: u64| {
+            change(archive, pos, 11);
+        }),
     ];
     Ok((positions, rest.len()))
 }
