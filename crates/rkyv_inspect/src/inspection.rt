@@ -149,10 +149,8 @@ fn inspect_width<W: IndexWidth>(
 ///     contents: Contents,
 /// ) -> Result<Option<usize>, InspectError> {
 ///     let inspection = inspect(alloc, archive, contents, 1_000_000)?;
-///     match &inspection.summary.lookups {
-///         Some(lookups) => Ok(Some(lookups.misplaced)),
-///         None => Ok(None),
-///     }
+///     let lookups = inspection.summary.lookups.as_ref();
+///     Ok(lookups.map(|lookups| lookups.misplaced))
 /// }
 ///
 /// let found = misplaced(rt.alloc(), &MISPLACED, numbers()).ok();

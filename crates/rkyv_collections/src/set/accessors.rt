@@ -175,10 +175,7 @@ impl<'a, K: KeyElement, H: KeyHasher, W: Width> ArchivedHashSet<'a, K, H, W> {
     /// // Returns the key of a set that a query finds.
     /// fn stored(archive: &[u8], key: u8) -> Result<Option<u8>, VerifyError> {
     ///     let set = ArchivedHashSet::of(access::<HashSetOf<u8>>(archive)?);
-    ///     match set.get(&key) {
-    ///         Some(stored) => Ok(Some(stored.to_native())),
-    ///         None => Ok(None),
-    ///     }
+    ///     Ok(set.get(&key).map(|stored| stored.to_native()))
     /// }
     ///
     /// let found = [stored(&three_keys(), 3).ok(), stored(&three_keys(), 4).ok()];

@@ -116,10 +116,7 @@ impl<'a, K: Element, H, W: IndexWidth> ArchivedIndexSet<'a, K, H, W> {
     /// // Returns the first word, borrowed from the archive.
     /// fn first_word(archive: &[u8]) -> Result<Option<&str>, VerifyError> {
     ///     let words = ArchivedIndexSet::of(access::<IndexSetOf<Text>>(archive)?);
-    ///     match words.first() {
-    ///         Some(word) => Ok(Some(word.as_str())),
-    ///         None => Ok(None),
-    ///     }
+    ///     Ok(words.first().map(|word| word.as_str()))
     /// }
     /// ```
     #[inline]
@@ -140,10 +137,7 @@ impl<'a, K: Element, H, W: IndexWidth> ArchivedIndexSet<'a, K, H, W> {
     /// // Returns the last word, borrowed from the archive.
     /// fn last_word(archive: &[u8]) -> Result<Option<&str>, VerifyError> {
     ///     let words = ArchivedIndexSet::of(access::<IndexSetOf<Text>>(archive)?);
-    ///     match words.last() {
-    ///         Some(word) => Ok(Some(word.as_str())),
-    ///         None => Ok(None),
-    ///     }
+    ///     Ok(words.last().map(|word| word.as_str()))
     /// }
     /// ```
     #[inline]

@@ -74,10 +74,7 @@ fn counting_ends_at_the_limit(rt: HostRuntime) {
 // Returns the key of a set that a query finds.
 fn stored(archive: &[u8], key: u8) -> Result<Option<u8>, VerifyError> {
     let set = ArchivedHashSet::of(access::<HashSetOf<u8>>(archive)?);
-    match set.get(&key) {
-        Some(stored) => Ok(Some(stored.to_native())),
-        None => Ok(None),
-    }
+    Ok(set.get(&key).map(|stored| stored.to_native()))
 }
 
 #[test]

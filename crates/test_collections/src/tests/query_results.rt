@@ -24,10 +24,7 @@ pub(crate) fn number_of<K: KeyElement, N: Scalar, H: KeyHasher, W: Width, Q: Que
 {
     let root = access_in::<W, HashMapOf<K, N, H, W>>(bytes)?;
     let map = ArchivedHashMap::<K, N, H, W>::of(root);
-    match map.get(key) {
-        Some(value) => Ok(Some(value.to_native())),
-        None => Ok(None),
-    }
+    Ok(map.get(key).map(|value| value.to_native()))
 }
 
 /// Does the same in a map of `i8` to `i8`.

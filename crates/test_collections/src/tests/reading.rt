@@ -152,10 +152,7 @@ fn is_text_of_two(
             requires { IsValidView (entry_spec (text_spec w32) (text_spec w32)) key }
         { has_names(query, key) },
     );
-    match found {
-        Some(value) => Ok(Some(value.as_str() == text)),
-        None => Ok(None),
-    }
+    Ok(found.map(|value| value.as_str() == text))
 }
 
 // Returns the result of `is_text_of_two` for a key in an archive of two pairs.

@@ -207,10 +207,8 @@ fn cap_prices(archive: &mut [u8], limit: u32, free: &str) -> Result<(), VerifyEr
 }
 
 fn price_of(archive: &[u8], name: &str) -> Result<Option<u32>, VerifyError> {
-    match ArchivedHashMap::of(access::<Prices>(archive)?).get(&name) {
-        Some(price) => Ok(Some(price.to_native())),
-        None => Ok(None),
-    }
+    let prices = ArchivedHashMap::of(access::<Prices>(archive)?);
+    Ok(prices.get(&name).map(|price| price.to_native()))
 }
 
 fn prices(archive: &[u8]) -> Result<[Option<u32>; 3], VerifyError> {
@@ -288,10 +286,8 @@ fn move_point(archive: &mut [u8], name: &str, point: (i32, i32)) -> Result<bool,
 
 // Returns the point of a name.
 fn point_of(archive: &[u8], name: &str) -> Result<Option<(i32, i32)>, VerifyError> {
-    match ArchivedHashMap::of(access::<Points>(archive)?).get(&name) {
-        Some(point) => Ok(Some((point.key().to_native(), point.value().to_native()))),
-        None => Ok(None),
-    }
+    let points = ArchivedHashMap::of(access::<Points>(archive)?);
+    Ok(points.get(&name).map(|point| (point.key().to_native(), point.value().to_native())))
 }
 
 // Writes the points of two names. Returns whether each was found.

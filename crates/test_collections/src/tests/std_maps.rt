@@ -425,10 +425,7 @@ fn read_back(alloc: Global, bytes: &[u8]) -> Result<Option<(usize, i8)>, VerifyE
         Ok(map) => map,
         Err(_) => return Ok(None),
     };
-    match map.get(&1) {
-        Some(value) => Ok(Some((map.len(), *value))),
-        None => Ok(None),
-    }
+    Ok(map.get(&1).map(|value| (map.len(), *value)))
 }
 
 #[test]

@@ -122,10 +122,7 @@ fn write_prices(alloc: Global) -> Result<Vec<u8>, Fail> {
 // Returns the price at an index.
 fn price_at(archive: &[u8], index: usize) -> Result<Option<u32>, VerifyError> {
     let prices = ArchivedIndexMap::of(access::<Prices>(archive)?);
-    match prices.get_index(index) {
-        Some((_, price)) => Ok(Some(price.to_native())),
-        None => Ok(None),
-    }
+    Ok(prices.get_index(index).map(|(_, price)| price.to_native()))
 }
 
 // Writes two prices. Returns the results, and all prices afterwards.

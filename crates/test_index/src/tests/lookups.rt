@@ -61,10 +61,7 @@ fn a_decoded_header_leads_to_the_same_pair(rt: HostRuntime) {
 // Returns the index, the key and the value of a key, under the hasher that feeds all bits.
 fn found_by_all_bits(bytes: &[u8], key: i8) -> Result<Option<(usize, i8, i8)>, VerifyError> {
     let map = ArchivedIndexMap::of(access::<IndexMapOf<i8, i8, FxHasher64Wide>>(bytes)?);
-    match map.get_full(&key) {
-        Some((index, key, value)) => Ok(Some((index, key.to_native(), value.to_native()))),
-        None => Ok(None),
-    }
+    Ok(map.get_full(&key).map(|(index, key, value)| (index, key.to_native(), value.to_native())))
 }
 
 #[test]

@@ -19,46 +19,32 @@ fn write_prices(alloc: Global) -> Result<Vec<u8>, Fail> {
 // Returns the price of a name.
 fn price_of(archive: &[u8], name: &str) -> Result<Option<u32>, VerifyError> {
     let prices = ArchivedIndexMap::of(access::<Prices>(archive)?);
-    match prices.get(&name) {
-        Some(price) => Ok(Some(price.to_native())),
-        None => Ok(None),
-    }
+    Ok(prices.get(&name).map(|price| price.to_native()))
 }
 
 // Returns the index of a name, and its price.
 fn find(archive: &[u8], name: &str) -> Result<Option<(usize, u32)>, VerifyError> {
     let prices = ArchivedIndexMap::of(access::<Prices>(archive)?);
-    match prices.get_full(&name) {
-        Some((index, _, price)) => Ok(Some((index, price.to_native()))),
-        None => Ok(None),
-    }
+    let found = prices.get_full(&name);
+    Ok(found.map(|(index, _, price)| (index, price.to_native())))
 }
 
 // Returns the name at an index, borrowed from the archive.
 fn name_at(archive: &[u8], index: usize) -> Result<Option<&str>, VerifyError> {
     let prices = ArchivedIndexMap::of(access::<Prices>(archive)?);
-    match prices.get_index(index) {
-        Some((name, _)) => Ok(Some(name.as_str())),
-        None => Ok(None),
-    }
+    Ok(prices.get_index(index).map(|(name, _)| name.as_str()))
 }
 
 // Returns the first name, borrowed from the archive.
 fn first_name(archive: &[u8]) -> Result<Option<&str>, VerifyError> {
     let prices = ArchivedIndexMap::of(access::<Prices>(archive)?);
-    match prices.first() {
-        Some((name, _)) => Ok(Some(name.as_str())),
-        None => Ok(None),
-    }
+    Ok(prices.first().map(|(name, _)| name.as_str()))
 }
 
 // Returns the last price.
 fn last_price(archive: &[u8]) -> Result<Option<u32>, VerifyError> {
     let prices = ArchivedIndexMap::of(access::<Prices>(archive)?);
-    match prices.last() {
-        Some((_, price)) => Ok(Some(price.to_native())),
-        None => Ok(None),
-    }
+    Ok(prices.last().map(|(_, price)| price.to_native()))
 }
 
 // Returns the prices in insertion order.
@@ -119,19 +105,13 @@ fn index_of(archive: &[u8], word: &str) -> Result<Option<usize>, VerifyError> {
 // Returns the first word, borrowed from the archive.
 fn first_word(archive: &[u8]) -> Result<Option<&str>, VerifyError> {
     let words = ArchivedIndexSet::of(access::<IndexSetOf<Text>>(archive)?);
-    match words.first() {
-        Some(word) => Ok(Some(word.as_str())),
-        None => Ok(None),
-    }
+    Ok(words.first().map(|word| word.as_str()))
 }
 
 // Returns the last word, borrowed from the archive.
 fn last_word(archive: &[u8]) -> Result<Option<&str>, VerifyError> {
     let words = ArchivedIndexSet::of(access::<IndexSetOf<Text>>(archive)?);
-    match words.last() {
-        Some(word) => Ok(Some(word.as_str())),
-        None => Ok(None),
-    }
+    Ok(words.last().map(|word| word.as_str()))
 }
 
 // Reads the list of words back.

@@ -14,10 +14,8 @@ fn misplaced(
     contents: Contents,
 ) -> Result<Option<usize>, InspectError> {
     let inspection = inspect(alloc, archive, contents, 1_000_000)?;
-    match &inspection.summary.lookups {
-        Some(lookups) => Ok(Some(lookups.misplaced)),
-        None => Ok(None),
-    }
+    let lookups = inspection.summary.lookups.as_ref();
+    Ok(lookups.map(|lookups| lookups.misplaced))
 }
 
 // Returns the text of an inspection, without colour.

@@ -64,10 +64,8 @@ fn strides_of(
     limit: u64,
 ) -> Result<Option<[usize; 4]>, Fail> {
     let inspection = inspect(alloc, archive, contents, limit)?;
-    match &inspection.summary.lookups {
-        Some(lookups) => Ok(Some(first_of(lookups))),
-        None => Ok(None),
-    }
+    let lookups = inspection.summary.lookups.as_ref();
+    Ok(lookups.map(|lookups| first_of(lookups)))
 }
 
 #[test]

@@ -18,10 +18,7 @@ fn archive_of(alloc: Global, heights: &[(PairEntry<Point>, u8)]) -> Option<Vec<u
 // Returns the height of a point.
 fn height_of(bytes: &[u8], point: Point) -> Result<Option<u8>, VerifyError> {
     let map = ArchivedHashMap::of(access::<Heights>(bytes)?);
-    match map.get(&PairEntry(point)) {
-        Some(height) => Ok(Some(height.to_native())),
-        None => Ok(None),
-    }
+    Ok(map.get(&PairEntry(point)).map(|height| height.to_native()))
 }
 
 // Returns the length of the archive of two heights, and the heights of its points and of a third.

@@ -183,10 +183,8 @@ impl<'a, K: KeyElement, V: Element, H: KeyHasher, W: Width> ArchivedHashMap<'a, 
     /// type Prices = HashMapOf<Text, u32>;
     ///
     /// fn price_of(archive: &[u8], name: &str) -> Result<Option<u32>, VerifyError> {
-    ///     match ArchivedHashMap::of(access::<Prices>(archive)?).get(&name) {
-    ///         Some(price) => Ok(Some(price.to_native())),
-    ///         None => Ok(None),
-    ///     }
+    ///     let prices = ArchivedHashMap::of(access::<Prices>(archive)?);
+    ///     Ok(prices.get(&name).map(|price| price.to_native()))
     /// }
     /// ```
     #[inline]

@@ -156,10 +156,8 @@ impl<'a, K: KeyElement, V: Element, H: KeyHasher, W: IndexWidth> ArchivedIndexMa
     /// // Returns the index of a name, and its price.
     /// fn find(archive: &[u8], name: &str) -> Result<Option<(usize, u32)>, VerifyError> {
     ///     let prices = ArchivedIndexMap::of(access::<Prices>(archive)?);
-    ///     match prices.get_full(&name) {
-    ///         Some((index, _, price)) => Ok(Some((index, price.to_native()))),
-    ///         None => Ok(None),
-    ///     }
+    ///     let found = prices.get_full(&name);
+    ///     Ok(found.map(|(index, _, price)| (index, price.to_native())))
     /// }
     /// ```
     #[inline]
@@ -271,10 +269,7 @@ impl<'a, K: KeyElement, V: Element, H: KeyHasher, W: IndexWidth> ArchivedIndexMa
     /// // Returns the price of a name.
     /// fn price_of(archive: &[u8], name: &str) -> Result<Option<u32>, VerifyError> {
     ///     let prices = ArchivedIndexMap::of(access::<Prices>(archive)?);
-    ///     match prices.get(&name) {
-    ///         Some(price) => Ok(Some(price.to_native())),
-    ///         None => Ok(None),
-    ///     }
+    ///     Ok(prices.get(&name).map(|price| price.to_native()))
     /// }
     /// ```
     #[inline]
