@@ -10,7 +10,8 @@
 //! that are archived as an element. The calls that write or open an archive and end in `_in`
 //! take the width of the archive, and the others, but for `access_unchecked`, are for `Narrow`.
 //!
-//! The root re-exports the names that callers need. The function `access` stays in its module.
+//! The root re-exports most names that callers need. Others, as `access::access`, stay in their
+//! modules.
 #![tactic(auto)]
 
 pub mod access;

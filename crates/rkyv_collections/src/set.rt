@@ -26,7 +26,7 @@ pub struct HashSetOf<K, H = FxHasher64, W = Narrow> {
 
 /// A hash set of `K` under the hasher `H` that is read in an archive of the width `W`.
 ///
-/// It is the map of its keys to the unit value, and holds its decoded header.
+/// Its bytes are valid. It is the map of its keys to the unit value, and holds its decoded header.
 pub struct ArchivedHashSet<'a, K: HasSpec, H = FxHasher64, W: Word = Narrow> {
     pub(crate) map: ArchivedHashMap<'a, K, (), H, W>,
 }

@@ -264,7 +264,8 @@ impl<'a, K: Element, N: Scalar, H, W> ValuesMut<'a, K, N, H, W> {
 impl<'a, K: Element, V: Element, H, W: Width> ArchivedHashMap<'a, K, V, H, W> {
     /// Returns a cursor over the pairs of a sealed map, in bucket order, for writing their values.
     ///
-    /// Once the cursor is dropped, no contract covers the bytes; that of `set_value_of` does.
+    /// Once the cursor is dropped, its caller knows nothing of the bytes. The contract of
+    /// `set_value_of` covers them.
     ///
     /// # Requires
     ///
@@ -300,8 +301,8 @@ impl<'a, K: Element, V: Element, H, W: Width> ArchivedHashMap<'a, K, V, H, W> {
 
     /// Returns a cursor over the pairs of the map at `pos` of an archive, for writing their values.
     ///
-    /// The pairs are in bucket order. Once the cursor is dropped, no contract covers the bytes;
-    /// that of `set_value_of` does.
+    /// The pairs are in bucket order. Once the cursor is dropped, its caller knows nothing of the
+    /// bytes. The contract of `set_value_of` covers them.
     ///
     /// # Requires
     ///
@@ -322,7 +323,8 @@ impl<'a, K: Element, V: Element, H, W: Width> ArchivedHashMap<'a, K, V, H, W> {
 
     /// Returns a cursor over the values of a sealed map, in bucket order, for writing them.
     ///
-    /// Once the cursor is dropped, no contract covers the bytes; that of `set_value_of` does.
+    /// Once the cursor is dropped, its caller knows nothing of the bytes. The contract of
+    /// `set_value_of` covers them.
     ///
     /// # Requires
     ///
@@ -359,8 +361,8 @@ impl<'a, K: Element, V: Element, H, W: Width> ArchivedHashMap<'a, K, V, H, W> {
 
     /// Returns a cursor over the values of the map at `pos` of an archive, for writing them.
     ///
-    /// The values are in bucket order. Once the cursor is dropped, no contract covers the bytes;
-    /// that of `set_value_of` does.
+    /// The values are in bucket order. Once the cursor is dropped, its caller knows nothing of the
+    /// bytes. The contract of `set_value_of` covers them.
     ///
     /// # Requires
     ///
