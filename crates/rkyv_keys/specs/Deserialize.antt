@@ -1,6 +1,7 @@
 -- Deserialization: its results and its errors.
-use Rattle.std.specs.Prelude.{◌≡◌, ◌↔◌, ℕ, List, MatchResult, Result}
-use Rattle.rkyv_base.specs.{AtView, ElementSpec, IsElement}
+use Rattle.std.specs.Prelude.{◌≡◌, ◌<◌, ◌↔◌, ℕ, List, MatchResult, Result, length}
+use Rattle.std.specs.Int.{Width}
+use Rattle.rkyv_base.specs.{AtView, ElementSpec, IsElement, text_at}
 use Rattle.rkyv_base.specs.declared.errors.ReadError.{ReadError}
 use Rattle.rkyv_base.specs.declared.errors.ReadError.TheVariants.{Memory}
 use Rattle.rkyv_base.specs.declared.view.View.{View}
@@ -13,9 +14,9 @@ DeserializeErrors = List ℕ → ℕ → ReadError → Type 0
 abbrev pub nothing_fails : DeserializeErrors
 nothing_fails b p e = ⊥
 
--- deserializing fails only if memory could not be allocated
-abbrev pub memory_fails : DeserializeErrors
-memory_fails b p e = e ≡ Memory
+-- deserializing a text fails only if it is not empty and memory could not be allocated
+abbrev pub text_fails : Width → DeserializeErrors
+text_fails w b p e = (e ≡ Memory) × (0 < length (text_at w b p))
 
 -- `errors` and `errors'`: the same errors of the value at each position
 abbrev pub SameErrors : DeserializeErrors → DeserializeErrors → Type 0

@@ -24,7 +24,7 @@ pub use KeyLookups.{KeyLookup}
 unfoldable pub use AtViews.{at_view, at_views}
 unfoldable pub use Calls.{after_calls, bool_call, fx_hash_at, hash_at, hash_of, text_calls}
 unfoldable pub use Deserialize.{DeserializeErrors, DeserializeMembers, Deserializes, SameErrors}
-unfoldable pub use Deserialize.{memory_fails, nothing_fails}
+unfoldable pub use Deserialize.{nothing_fails, text_fails}
 unfoldable pub use Equality.{Comparison, DecidesEquality, EqualsUniquely, RepresentsUniquely}
 unfoldable pub use Equality.{SameComparison}
 pub use Equality.{IsEquivalence}

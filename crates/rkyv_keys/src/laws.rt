@@ -10,8 +10,9 @@ ghost use Rattle.rkyv_scan.specs.{I16, I32, I64, I8, Isize, U16, U32, U64, U8, U
 ghost use Rattle.rkyv_base.specs.{IsTextOf, SameValues, ScalarRepresents, unit_represents};
 ghost use Rattle.rkyv_keys.specs.{BothRead, FitsByValue, FitsSameKeys, HashesAsWritten, HashesBy};
 ghost use Rattle.rkyv_keys.specs.{RestsOnKeys, SameComparison, SameErrors, at_view, bool_call};
-ghost use Rattle.rkyv_keys.specs.{entry_deserialize_fails, entry_equals, entry_same, memory_fails};
-ghost use Rattle.rkyv_keys.specs.{nothing_fails, scalar_same, text_calls, text_same, unit_same};
+ghost use Rattle.rkyv_keys.specs.{entry_deserialize_fails, entry_equals, entry_same};
+ghost use Rattle.rkyv_keys.specs.{nothing_fails, scalar_same, text_calls, text_fails, text_same};
+ghost use Rattle.rkyv_keys.specs.{unit_same};
 
 use crate::debug::Shown;
 use crate::deserialize::Deserialize;
@@ -114,15 +115,16 @@ where
 
 /// States the errors with which scalars, the unit value, texts and pairs are deserialized.
 ///
-/// Scalars and `()` never fail. A text fails only to allocate. A pair fails with an error of its
-/// key or, if the key can be deserialized, with one of its value.
+/// Scalars and `()` never fail. A text fails only to allocate, and never if it is empty. A pair
+/// fails with an error of its key or, if the key can be deserialized, with one of its value.
 pub fn errors_of_deserializing<N: ScalarKey, W: Width, A: Drop, B, K, V>()
 where
     K: Deserialize<A>,
     V: Deserialize<B>,
     ensures scalar { SameErrors ⟦<N as Deserialize<N>>⟧.deserialize_fails nothing_fails }
     ensures unit { SameErrors ⟦<() as Deserialize<()>>⟧.deserialize_fails nothing_fails }
-    ensures text { SameErrors ⟦<Text<W> as Deserialize<String>>⟧.deserialize_fails memory_fails }
+    ensures text { SameErrors ⟦<Text<W> as Deserialize<String>>⟧.deserialize_fails
+        (text_fails W.word) }
     ensures pair { SameErrors ⟦<Entry<K, V> as Deserialize<(A, B)>>⟧.deserialize_fails
         (entry_deserialize_fails K.Deserialize V.Deserialize) }
 {}

@@ -3,7 +3,7 @@
 ghost use Rattle.std.specs.Prelude.{◌≡◌, string_bytes, IsTrue, ◌↔◌, MatchResult};
 ghost use Rattle.rkyv_base.specs.{AtView, IsTextOf, IsValidView, text_spec};
 ghost use Rattle.rkyv_base.specs.Lemmas.TextWriting.{text_as_format};
-ghost use Rattle.rkyv_keys.specs.{after_calls, at_view, at_views, memory_fails, same_bytes};
+ghost use Rattle.rkyv_keys.specs.{after_calls, at_view, at_views, same_bytes, text_fails};
 ghost use Rattle.rkyv_keys.specs.{text_calls, text_fits, text_key_calls, text_same};
 ghost use Rattle.rkyv_keys.specs.Lemmas.OfTexts.{text_equivalence, text_fits_its_equal, text_key};
 ghost use Rattle.rkyv_keys.specs.Lemmas.OfTexts.{text_key_fixed, text_once, text_query};
@@ -153,16 +153,20 @@ impl<W: Width> MatchesNative<String> for Text<W> {
 }
 
 impl<W: Width> Deserialize<String> for Text<W> {
-    ghost deserialize_fails = { memory_fails };
+    ghost deserialize_fails = { text_fails W.word };
 
     #[inline]
     fn deserialize(alloc: Global, view: View<'_, Text<W>>) -> Result<String, ReadError>
         requires { IsValidView (text_spec W.word) view }
         ensures { MatchResult result
             (AtView (IsTextOf W.word string_bytes) view.entry)
-            (AtView memory_fails view.entry) }
+            (AtView (text_fails W.word) view.entry) }
     {
-        Ok(String::from_str(alloc, view.as_str())?)
+        let text = view.as_str();
+        if text.is_empty() {
+            return Ok(String::new(alloc));
+        }
+        Ok(String::from_str(alloc, text)?)
     }
 }
 
