@@ -29,7 +29,7 @@ pub fn written_lists_represent<W: Width, U: Archive<W>, X: Lend<U>>()
 ///
 /// The write must change the bytes of this item alone and keep it valid, and they must represent
 /// the new item, as after a write through a seal of a lookup or a cursor. The new item has the hash
-/// of the old one. The table is valid in the same ranges, and the walk visits the same buckets.
+/// of the old one. The table is valid in the same ranges, and the walk visits each item once.
 pub fn written_items_are_replaced<W: Width, U: Archive<W>, X: Lend<U>>()
     ensures { ItemsAreReplaced W.word (encoding U.Archived.Represents U.Archive X.Lend) }
 {

@@ -109,7 +109,7 @@ impl<'a, T: HasSpec, W: Width> ArchivedHashTable<'a, T, W> {
     /// Writes the header of a written table over the whole of `out`, for a header at `pos`.
     ///
     /// The header has the distance from `pos` to the first control byte, the length
-    /// and the capacity. The distance of an empty table is 1, as in rkyv.
+    /// and the capacity. The distance of an empty table is 1, and never read.
     ///
     /// # Requires
     ///
