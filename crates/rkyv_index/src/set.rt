@@ -1,13 +1,13 @@
 //! Index sets.
 //!
-//! A set is the index map of its keys to the unit value. `write` writes sets from iterators,
-//! and `deserialize` returns a list of the keys. `laws` has laws of that list, of lookups
-//! and of the layout.
+//! A set is the index map of its keys to the unit value. `write` writes sets from iterators.
+//! `laws` has laws of the list that `ArchivedIndexSet::deserialize_items` returns, of lookups and
+//! of the layout.
 ghost use Rattle.std.specs.Prelude.{MatchResult, Ok, ◌≡◌, ⊤};
 
 mod accessors;
 mod debug;
-pub mod deserialize;
+mod deserialize;
 mod element;
 mod equality;
 pub mod laws;

@@ -7,9 +7,9 @@
 
 pub mod laws;
 pub mod pair;
-pub mod pair_keys;
+mod pair_keys;
 pub mod tuple;
-pub mod tuple_keys;
+mod tuple_keys;
 
 pub use pair::{AsPair, FromPair, PairEntry};
 pub use tuple::{AsTuple, FromTuple, TupleEntry};

@@ -3,7 +3,7 @@
 
 pub(crate) mod accessors;
 mod debug;
-pub mod deserialize;
+mod deserialize;
 pub(crate) mod entries;
 mod equality;
 pub mod iter;
