@@ -1,4 +1,4 @@
--- The result of an overwrite in an index map, and the pair that it changes.
+-- The result of an overwrite in an index map, after which the archive is valid.
 use Rattle.std.proofs.Common.{◌≡◌, ◌⊎◌, ◌∙◌, ℕ, ◌*◌, ◌+◌, ◌-◌, ◌<◌, suc, zero, Bool, List, [], ◌∷◌, None, Option, Some, ap, arith, false, inl, inr, length, refl, subst, sym, true}
 use Rattle.std.specs.Int.{Width, byte_len}
 use Rattle.std.specs.Option.{is_some, option_map}
@@ -57,45 +57,3 @@ module _ {N : Type 0} (w : Width) (k v : ElementSpec) (e : Encoding N) (key_hash
       index_overwrite_status status if_found missed =
           let P : ℕ → Type 0 = λ q. MatchOption (option_map (value_at q) (index_at q)) ((status ≡ 1) × (c ≡ b)) (λ r. (status ≡ 0) × (c ≡ with_value e b r value)) in
           subst P at (status_after status (index_at p) if_found missed set)
-
--- the first pair of a list with an accepted key, by its index, and the list with the new value there
-module _ {A N : Type 0} (accept : A → Bool) (value : N) where
-  abbrev IsSetAt : List (A × N) → ℕ → Type 0
-  IsSetAt pairs i = (pair : A × N) × (slice_get pairs i ≡ Some pair) × (is_some (first_pair accept pairs) ≡ true) × (with_first accept value pairs ≡ slice_set pairs i (pair.0, value))
-
-  abbrev IsSet : List (A × N) → Type 0
-  IsSet pairs = (IsFirst accept pairs None × (is_some (first_pair accept pairs) ≡ false)) ⊎ ((i : ℕ) × IsFirst accept pairs (Some i) × IsSetAt pairs i)
-
-  not_first : (x : A × N) (xs : List (A × N)) → accept x.0 ≡ false → IsFirst accept xs None → IsFirst accept (x ∷ xs) None
-  not_first x xs f h zero pair is = subst (λ (y : A × N). accept y.0 ≡ false) (same_Some x pair is) f
-  not_first x xs f h (suc i) pair is = h i pair is
-
-  not_before : (x : A × N) (xs : List (A × N)) → accept x.0 ≡ false → (n : ℕ) → ((i : ℕ) (pair : A × N) → i < n → slice_get xs i ≡ Some pair → accept pair.0 ≡ false) → (i : ℕ) (pair : A × N) → i < suc n → slice_get (x ∷ xs) i ≡ Some pair
-      → accept pair.0 ≡ false
-  not_before x xs f n h zero pair less is = subst (λ (y : A × N). accept y.0 ≡ false) (same_Some x pair is) f
-  not_before x xs f n h (suc i) pair less is = h i pair (omega (arith, less)) is
-
-  one_more : (x : A × N) (xs : List (A × N)) (b : Bool) → accept x.0 ≡ b → IsSet xs → IsSet (x ∷ xs)
-  one_more x xs true t rest = inr (0, ((x, refl, t), λ i pair less is. absurd (omega (arith, less))), (x, refl, rw t refl, rw t refl))
-  one_more x xs false f (inl h) = inl (not_first x xs f h.0, rw f h.1)
-  one_more x xs false f (inr h) =
-      let set = h.2 in
-      inr (suc h.0, (h.1.0, not_before x xs f h.0 h.1.1), (set.0, set.1, rw f set.2, rw f (ap (λ (l : List (A × N)). x ∷ l) set.3)))
-
-  is_set : (pairs : List (A × N)) → IsSet pairs
-  is_set [] = inl ((λ i pair is. absurd cc), refl)
-  is_set (x ∷ xs) = one_more x xs (accept x.0) refl (is_set xs)
-
-  module _ (e : Encoding N) (number : ℕ) (code : e.code value ≡ number) (Represents : List (A × N) → Type 0) (result : Bool) (status : ℕ) (if_found : result ≡ true → status ≡ 0) (missed : result ≡ false → status ≡ 1) (pairs : List (A × N))
-      (is : result ≡ is_some (first_pair accept pairs)) (after : Represents (with_first accept value pairs)) where
-    abbrev SetsFirst : Type 0
-    SetsFirst = (IsFirst accept pairs None × (status ≡ 1))
-        ⊎ ((i : ℕ) × IsFirst accept pairs (Some i) × (status ≡ 0) × ((pair : A × N) × (x : N) × (slice_get pairs i ≡ Some pair) × (e.code x ≡ number) × Represents (slice_set pairs i (pair.0, x))))
-
-    first_set_by : IsSet pairs → SetsFirst
-    first_set_by (inl h) = inl (h.0, missed (is ∙ h.1))
-    first_set_by (inr h) = let set = h.2 in inr (h.0, h.1, if_found (is ∙ set.2), (set.0, value, set.1, code, subst Represents set.3 after))
-
-    -- the overwrite changes the first pair with an accepted key
-    pub first_index_set : SetsFirst
-    first_index_set = first_set_by (is_set pairs)

@@ -1,13 +1,10 @@
 -- Overwrites of values in index maps.
-use Rattle.std.specs.Prelude.{◌≡◌, ℕ, ◌^◌, ◌≤◌, ◌⊎◌, Bool, List, None, Option, Some}
-use Rattle.std.specs.Prelude.{slice_get, slice_set}
+use Rattle.std.specs.Prelude.{◌≡◌, ℕ, ◌⊎◌, Bool, List, Option}
 use Rattle.std.specs.Option.{option_map}
 use Rattle.std.specs.Str.{IsUtf8}
-use mir.Val.{bits}
 use Rattle.rkyv_scan.specs.{HasherCall}
 use Rattle.rkyv_base.specs.{Encoding, ScalarRepresents}
 use Rattle.rkyv_collections.specs.{MapAt, ValueQuery}
-use Rattle.rkyv_index.specs.{IsFirst}
 use Rattle.ffi_calls.specs.Archives.{KeepsHeader, Overwrites, value_encoding, word_of}
 use Rattle.ffi_calls.specs.IndexArchives.{IsTextIndex, found_index, index_in, number_index_found}
 use Rattle.ffi_calls.specs.IndexArchives.{number_index_in, text_index_found, text_index_in}
@@ -15,7 +12,7 @@ use Rattle.ffi_calls.specs.IndexArchives.{value_pos_at}
 use Rattle.ffi_calls.specs.IndexLists.{IndexRepresentsPairs}
 use Rattle.ffi_calls.specs.Keys.{NumbersAt}
 use Rattle.ffi_calls.specs.Listed.{query_of_number, query_of_text}
-use Rattle.ffi_calls.specs.Lists.{query_pairs}
+use Rattle.ffi_calls.specs.Lists.{SetsFirstPair, query_pairs}
 use Rattle.ffi_calls.specs.declared.form.Form.{Form}
 
 -- the position of the value that a lookup finds. `calls`: hasher calls of the key, `fits`: test of
@@ -23,19 +20,13 @@ use Rattle.ffi_calls.specs.declared.form.Form.{Form}
 abbrev pub value_found_in : MapAt → List HasherCall → (ℕ → Bool) → Option ℕ
 value_found_in m calls fits = option_map (value_pos_at m) (found_index m calls fits)
 
--- After an overwrite `c` represents the list with the value of `number` in the first pair whose key
--- is accepted. If no key is accepted the status is 1; if `number` has too many bits it is 3.
+-- after an overwrite the index map in `c` represents the list with the new value in the first pair
+-- whose key is accepted
 abbrev pub SetsFirstIndexed : {A N : Type 0} → MapAt → ValueQuery A → Encoding N → ℕ → ℕ → List ℕ
     → Type 0
-SetsFirstIndexed {A} {N} m a e number status c =
-    let native = query_pairs m a (ScalarRepresents e) in (factor : ℕ × ℕ) (pairs : List (A × N))
-    → IndexRepresentsPairs m native factor pairs
-    → ((2 ^ bits e.word ≤ number) × (status ≡ 3))
-    ⊎ (IsFirst a.accept_value pairs None × (status ≡ 1))
-    ⊎ ((i : ℕ) × IsFirst a.accept_value pairs (Some i) × (status ≡ 0)
-    × ((pair : A × N) × (value : N) × (slice_get pairs i ≡ Some pair) × (e.code value ≡ number)
-    × IndexRepresentsPairs (index_in m.word m.key m.value c) native factor
-    (slice_set pairs i (pair.0, value))))
+SetsFirstIndexed m a e number status c = let native = query_pairs m a (ScalarRepresents e) in
+    SetsFirstPair a.accept_value e (IndexRepresentsPairs m native)
+    (IndexRepresentsPairs (index_in m.word m.key m.value c) native) number status
 
 module _ {A : Type 0} (m : NumbersAt A) where
   -- the result of an overwrite of the value of the number `key` in the bytes of `m`

@@ -29,9 +29,9 @@ unfoldable pub use Archives.{Opens, Overwrites, ReturnsAt, by_flag, form_of, has
 unfoldable pub use Archives.{map_in, most_of, number_map, numbers_in, text_key, text_map, texts_in}
 unfoldable pub use Archives.{value_encoding, value_found, value_spec, word_of}
 unfoldable pub use Lists.{ArchiveFails, ArchivesRepresent, IsArchiveOf, IsWritten, PairsRepresent}
-unfoldable pub use Lists.{PosOfFirst, ReturnsFirst, SetsFirstOf, WalksVisitListed, archive_width}
-unfoldable pub use Lists.{format_of, fx_pairs, header_spec, natives, pairs_format, query_of_key}
-unfoldable pub use Lists.{query_pairs}
+unfoldable pub use Lists.{PosOfFirst, ReturnsFirst, SetsFirstOf, SetsFirstPair, WalksVisitListed}
+unfoldable pub use Lists.{archive_width, format_of, fx_pairs, header_spec, natives, pairs_format}
+unfoldable pub use Lists.{query_of_key, query_pairs}
 pub use Lists.{ArchiveWidth}
 unfoldable pub use Listed.{FindsFirst, ReturnsFirstNumber, ReturnsFirstText, SetsFirstNumber}
 unfoldable pub use Listed.{SetsFirstText, TextRepresents, number_natives, query_of_number}

@@ -65,17 +65,24 @@ module _ {A B : Type 0} (m : MapAt) (a : ValueQuery A) (value : List ℕ → ℕ
       → MatchOption (first_value a.accept_value pairs) ((status ≡ 1) × (after ≡ before))
       (λ x. (status ≡ 0) × IsValue after x)
 
-module _ {A N : Type 0} (m : MapAt) (a : ValueQuery A) (e : Encoding N) where
-  -- After an overwrite `c` represents the list with the value of `number` in the first such pair.
-  -- If no key is accepted the status is 1; if `number` has too many bits it is 3.
-  abbrev pub SetsFirstOf : ℕ → ℕ → List ℕ → Type 0
-  SetsFirstOf number status c = (factor : ℕ × ℕ) (pairs : List (A × N))
-      → PairsRepresent m (query_pairs m a (ScalarRepresents e)) factor pairs
-      → ((2 ^ bits e.word ≤ number) × (status ≡ 3))
-      ⊎ ((number < 2 ^ bits e.word) × ((value : N) × (e.code value ≡ number)
-      × MatchOption (first_pair a.accept_value pairs) (status ≡ 1) (λ pair. status ≡ 0)
-      × PairsRepresent (map_in m.word m.key m.value c) (query_pairs m a (ScalarRepresents e)) factor
-      (with_first a.accept_value value pairs)))
+-- After an overwrite, what represented a list represents it with the value of `number` in the first
+-- pair whose key is accepted. Without one the status is 1; if `number` has too many bits it is 3.
+-- `Before` and `After`: the list is represented, under the load factor
+abbrev pub SetsFirstPair : {A N : Type 0} → (A → Bool) → Encoding N
+    → (ℕ × ℕ → List (A × N) → Type 0) → (ℕ × ℕ → List (A × N) → Type 0) → ℕ → ℕ → Type 0
+SetsFirstPair {A} {N} accept e Before After number status =
+    (factor : ℕ × ℕ) (pairs : List (A × N)) → Before factor pairs
+    → ((2 ^ bits e.word ≤ number) × (status ≡ 3))
+    ⊎ ((number < 2 ^ bits e.word) × ((value : N) × (e.code value ≡ number)
+    × MatchOption (first_pair accept pairs) (status ≡ 1) (λ pair. status ≡ 0)
+    × After factor (with_first accept value pairs)))
+
+-- after an overwrite the map in `c` represents the list with the new value in the first such pair
+abbrev pub SetsFirstOf : {A N : Type 0} → MapAt → ValueQuery A → Encoding N → ℕ → ℕ → List ℕ
+    → Type 0
+SetsFirstOf m a e number status c = let native = query_pairs m a (ScalarRepresents e) in
+    SetsFirstPair a.accept_value e (PairsRepresent m native)
+    (PairsRepresent (map_in m.word m.key m.value c) native) number status
 
 -- A walk over an archive of a list visits the home buckets of its pairs, each once and ascending.
 -- It visits no other bucket, and the n-th home bucket has the n-th pair.

@@ -160,7 +160,7 @@ pub fn explain_container(bytes: &[u8], codes: Codes) -> Explanation
 /// # Errors
 ///
 /// - The status of the first error of the header: 32 to 41.
-/// - 46: the number of bytes after the header isn't the length in the header.
+/// - `WRONG_LENGTH`: the number of bytes after the header isn't the length in the header.
 ///
 /// After an error no byte is changed.
 pub fn update_container(bytes: &mut [u8]) -> u32

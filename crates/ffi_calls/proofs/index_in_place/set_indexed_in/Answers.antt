@@ -1,10 +1,11 @@
 use Rattle.std.proofs.Common.{◌≡◌, ◌∙◌, ℕ, ◌-◌, List, ap, arith, inr, length, subst, sym}
 use Rattle.rkyv_scan.specs.{fx_hasher, low_halves}
 use Rattle.rkyv_base.specs.{ScalarRepresents}
-use Rattle.rkyv_keys.specs.{hash_at, with_first}
+use Rattle.rkyv_keys.specs.{first_pair, hash_at, with_first}
 use Rattle.rkyv_index.specs.{IndexRepresents}
 use Rattle.ffi_calls.specs.{index_map, index_root}
-use Rattle.ffi_calls.proofs.IndexWriting.{first_index_set, index_keeps_header, index_kept, index_overwrite_status}
+use Rattle.ffi_calls.proofs.First.{first_set}
+use Rattle.ffi_calls.proofs.IndexWriting.{index_keeps_header, index_kept, index_overwrite_status}
 use Rattle.ffi_calls.proofs.index_in_place.set_indexed_in.Goals as goal
 
 pub returns-clause-kept : goal.returns-clause-kept
@@ -42,5 +43,12 @@ returns-clause-listed g c = λ factor pairs represents.
     let same : length set.new.archive ≡ length b = omega (arith, set.auto.archive) in
     let after = set.ensures.listed factor pairs (subst (λ p. Represents b p pairs) (sym at) represents) in
     let root_after = at ∙ ap (λ n. n - (index_map w k v).size) (sym same) in
-    inr (first_index_set accepts c.in-Some.number e c.args.value c.in-Some.ensures.exact (Represents set.new.archive (index_root w k v set.new.archive)) set.result c.status_of.result c.status_of.ensures.yes c.status_of.ensures.no pairs after.0
-    (subst (λ p. Represents set.new.archive p (with_first accepts c.in-Some.number pairs)) root_after after.1))
+    inr (
+      c.in-Some.ensures.read.0,
+      (
+        c.in-Some.number,
+        c.in-Some.ensures.exact,
+        first_set (first_pair accepts pairs) set.result c.status_of.result after.0 c.status_of.ensures.yes c.status_of.ensures.no,
+        subst (λ p. Represents set.new.archive p (with_first accepts c.in-Some.number pairs)) root_after after.1,
+      ),
+    )
