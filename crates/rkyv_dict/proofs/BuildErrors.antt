@@ -16,7 +16,7 @@ use Rattle.rkyv_keys.specs.{text_calls}
 use Rattle.rkyv_scan.specs.{HasherCall}
 use Rattle.rkyv_table.proofs.ReadyOneWay.{pairs_one_way, scalars_one_way, texts_one_way}
 use Rattle.rkyv_table.specs.Lemmas.TableSound.{table_is_format}
-use Rattle.rkyv_dict.specs.{ArchiveFails, BuildErrorsAreOne, IsArchiveOf, MapTypes, Pairs, buckets_of, build_fails_in, built_in, cause_text, hash, header_spec, is_allocation_failure, number_calls, number_parts, numbers, pair_spec, pairs_format, text_parts, texts, word_of}
+use Rattle.rkyv_dict.specs.{ArchiveFails, BuildErrorsAreOne, IsArchiveOf, MapTypes, Pairs, buckets_of, build_fails_in, built_in, write_error_text, hash, header_spec, is_allocation_failure, number_calls, number_parts, numbers, pair_spec, pairs_format, text_parts, texts, word_of}
 use Rattle.rkyv_dict.specs.declared.form.ArchiveWidth.{ArchiveWidth}
 use Rattle.rkyv_dict.specs.declared.form.Kind.{Kind}
 use Rattle.rkyv_dict.specs.declared.form.Kind.TheVariants.{Num, Text}
@@ -29,7 +29,7 @@ use Rattle.rkyv_dict.proofs.RootEnds.{root_ends}
 
 -- a build has one error, except for allocation failures, and none if it succeeds
 record ErrorsAreOne (fails : WriteError NoMemory → Type 0) (builds : List ℕ → Type 0) : Type 0 where
-  pub causes : (c d : WriteError NoMemory) → fails c → fails d → is_allocation_failure c ≡ false → is_allocation_failure d ≡ false → cause_text c ≡ cause_text d
+  pub causes : (c d : WriteError NoMemory) → fails c → fails d → is_allocation_failure c ≡ false → is_allocation_failure d ≡ false → write_error_text c ≡ write_error_text d
   pub built : (b : List ℕ) (c : WriteError NoMemory) → builds b → fails c → is_allocation_failure c ≡ false → ⊥
 
 module _ {X R : Type 0} (most : ℕ) (factor : ℕ × ℕ) (f : Format (List X) R) (rule : EndsOneWay f) (xs : List X) (p : ℕ) where
@@ -101,7 +101,7 @@ module _ (k : MapTypes) (word : IsArchiveWord k.word) (part : IsElement k.spec) 
       (λ xs. table_law.size_exact (keyed (λ a. hash (calls a)) xs)) (λ xs. table_law.exclusive (keyed (λ a. hash (calls a)) xs)) pairs 0
 
   error_text_of : (pairs : List (A × A)) (c : WriteError NoMemory) → is_allocation_failure c ≡ false → ToBytesFails k.limit (header_spec k) (pairs_format k factor most format calls) pairs c
-      → IsErrorText k.limit (RootNext (header_spec k) (pairs_format k factor most format calls) pairs 0) (cause_text c)
+      → IsErrorText k.limit (RootNext (header_spec k) (pairs_format k factor most format calls) pairs 0) (write_error_text c)
   error_text_of pairs c m x = text_of_cause k.limit (RootNext (header_spec k) (pairs_format k factor most format calls) pairs 0) x.0 x.1.front x.1.kept c m x.1.cause
 
   map_errors : (pairs : List (A × A)) → ErrorsAreOne (ArchiveFails k factor most format calls pairs) (IsArchiveOf k factor most format calls represents pairs)
@@ -109,8 +109,8 @@ module _ (k : MapTypes) (word : IsArchiveWord k.word) (part : IsElement k.spec) 
   map_errors pairs =
       let next = RootNext (header_spec k) (pairs_format k factor most format calls) pairs 0 in
       record {
-        causes = λ c d x y m n. error_text_unique k.limit next (build_ends pairs) (cause_text c) (cause_text d) (error_text_of pairs c m x) (error_text_of pairs d n y);
-        built = λ b c x y m. error_text_exclusive k.limit next (build_ends pairs) (cause_text c) b (error_text_of pairs c m y) (length b - (header_spec k).size, x.2) x.0.within;
+        causes = λ c d x y m n. error_text_unique k.limit next (build_ends pairs) (write_error_text c) (write_error_text d) (error_text_of pairs c m x) (error_text_of pairs d n y);
+        built = λ b c x y m. error_text_exclusive k.limit next (build_ends pairs) (write_error_text c) b (error_text_of pairs c m y) (length b - (header_spec k).size, x.2) x.0.within;
       }
 
 errors_in : (kind : Kind) (bits : ArchiveWidth) (factor : ℕ × ℕ) (pairs : Pairs) → ErrorsAreOne (build_fails_in kind bits factor pairs) (built_in kind bits factor pairs)

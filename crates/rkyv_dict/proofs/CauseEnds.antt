@@ -4,7 +4,7 @@ use Rattle.std.specs.Prelude.{◌⊎◌, codes}
 use Rattle.rkyv_base.specs.{CauseApplies, Extends, Output, Reached, Step, Within, WriteFailure, capacity, distance, end_of, failure, fresh, load_factor, long_text, mismatch, no_memory, piece, refused}
 use Rattle.rkyv_base.specs.declared.errors.WriteError.{WriteError}
 use Rattle.rkyv_base.specs.declared.errors.WriteError.TheVariants.{CapacityTooLarge, DistanceTooLarge, InvalidLoadFactor, IteratorLengthMismatch, Memory, PositionTooLarge, Refused as RefusedWrite, TextTooLong, Writer}
-use Rattle.rkyv_dict.specs.{cause_text, is_allocation_failure}
+use Rattle.rkyv_dict.specs.{write_error_text, is_allocation_failure}
 use Rattle.rkyv_dict.proofs.Ends.{Ends, IsKnown}
 
 -- the number and the name of an error
@@ -35,8 +35,8 @@ module _ (limit : ℕ) (next : List ℕ → Step → Type 0) where
     text_of_reached : (c : WriteFailure) (text : List ℕ) → IsKnown c → Reached limit next fresh o front (failure c) → text ≡ error_text c → IsErrorText text
     text_of_reached c text known h e = inl (c, known, front, within h.0, h.2, e)
 
-    pub text_of_cause : {F : Type 0} (e : WriteError F) → is_allocation_failure e ≡ false → CauseApplies limit next fresh o front e → IsErrorText (cause_text e)
-    unfolding is_allocation_failure cause_text
+    pub text_of_cause : {F : Type 0} (e : WriteError F) → is_allocation_failure e ≡ false → CauseApplies limit next fresh o front e → IsErrorText (write_error_text e)
+    unfolding is_allocation_failure write_error_text
     text_of_cause (InvalidLoadFactor n d) m h = text_of_reached (load_factor n d) _ (λ e. cc) h refl
     text_of_cause (IteratorLengthMismatch x) m h = text_of_reached (mismatch x.expected x.actual) _ (λ e. cc) h refl
     text_of_cause (CapacityTooLarge n) m h = text_of_reached (capacity n) _ (λ e. cc) h refl

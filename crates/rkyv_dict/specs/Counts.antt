@@ -1,8 +1,8 @@
 -- The number of pairs of a list, and its first pairs.
 use Rattle.std.specs.Prelude.{ℕ, take, vec_len}
 use Rattle.rkyv_dict.specs.Forms.{Pairs, numbers, texts}
-use Rattle.rkyv_dict.specs.declared.form.PairList.{PairList}
-use Rattle.rkyv_dict.specs.declared.form.PairList.TheVariants.{Numbers, Texts}
+use Rattle.rkyv_dict.specs.declared.pairs.PairList.{PairList}
+use Rattle.rkyv_dict.specs.declared.pairs.PairList.TheVariants.{Numbers, Texts}
 
 -- the number of pairs of the list
 abbrev pub list_len : PairList → ℕ

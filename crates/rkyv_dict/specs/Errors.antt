@@ -36,16 +36,16 @@ verify_error_text (InvalidValue pos) = codes "7 InvalidValue"
 verify_error_text (Refused reason) = codes "8 Refused"
 
 -- the number and the name of a write error
-unfoldable pub cause_text : {F : Type 0} → WriteError F → List ℕ
-cause_text (InvalidLoadFactor numerator denominator) = codes "1 InvalidLoadFactor"
-cause_text (IteratorLengthMismatch mismatch) = codes "2 IteratorLengthMismatch"
-cause_text (CapacityTooLarge len) = codes "3 CapacityTooLarge"
-cause_text PositionTooLarge = codes "4 PositionTooLarge"
-cause_text DistanceTooLarge = codes "5 DistanceTooLarge"
-cause_text TextTooLong = codes "6 TextTooLong"
-cause_text (Writer fault) = codes "7 Writer"
-cause_text Memory = codes "8 Memory"
-cause_text (RefusedWrite reason) = codes "9 Refused"
+unfoldable pub write_error_text : {F : Type 0} → WriteError F → List ℕ
+write_error_text (InvalidLoadFactor numerator denominator) = codes "1 InvalidLoadFactor"
+write_error_text (IteratorLengthMismatch mismatch) = codes "2 IteratorLengthMismatch"
+write_error_text (CapacityTooLarge len) = codes "3 CapacityTooLarge"
+write_error_text PositionTooLarge = codes "4 PositionTooLarge"
+write_error_text DistanceTooLarge = codes "5 DistanceTooLarge"
+write_error_text TextTooLong = codes "6 TextTooLong"
+write_error_text (Writer fault) = codes "7 Writer"
+write_error_text Memory = codes "8 Memory"
+write_error_text (RefusedWrite reason) = codes "9 Refused"
 
 -- the write error is an allocation failure, which has no line
 unfoldable pub is_allocation_failure : {F : Type 0} → WriteError F → Bool

@@ -6,8 +6,8 @@ use Rattle.rkyv_dict.specs.declared.form.ArchiveWidth.{ArchiveWidth}
 use Rattle.rkyv_dict.specs.declared.form.ArchiveWidth.TheVariants.{Bits32, Bits64}
 use Rattle.rkyv_dict.specs.declared.form.Key.{Key}
 use Rattle.rkyv_dict.specs.declared.form.Key.TheVariants.{Number, Text}
-use Rattle.rkyv_dict.specs.declared.form.PairList.{PairList}
-use Rattle.rkyv_dict.specs.declared.form.PairList.TheVariants.{Numbers, Texts}
+use Rattle.rkyv_dict.specs.declared.pairs.PairList.{PairList}
+use Rattle.rkyv_dict.specs.declared.pairs.PairList.TheVariants.{Numbers, Texts}
 
 -- pairs of keys and values of one kind, in insertion order
 pub data Pairs : Type 0 where

@@ -43,7 +43,7 @@ unfoldable pub use Script.{put_request, request_by, request_of, request_of_words
 unfoldable pub use Script.{two_of, width_request, without_arguments, words_left, words_of}
 pub use Script.{NeedMemory, Request, build_archive, check_archive, count_misplaced, get_value}
 pub use Script.{list_pairs, put_numbers, put_texts, set_kind, set_load_factor, set_width, show_hex}
-unfoldable pub use Errors.{cause_text, is_allocation_failure, message_of, verify_error_text}
+unfoldable pub use Errors.{is_allocation_failure, message_of, verify_error_text, write_error_text}
 unfoldable pub use States.{IsSound, emptied, form_of, no_pairs, start, with_numbers, with_texts}
 pub use States.{Archived, IsSoundIn, State}
 unfoldable pub use Output.{archive_output, audit_line, bad_line, built_line, error_line, get_line}

@@ -7,7 +7,7 @@ use Rattle.rkyv_dict.specs.declared.form.Form.{Form}
 use Rattle.rkyv_dict.specs.Steps.{RunsTo}
 use Rattle.rkyv_dict.specs.Archives.{IsArchive, ValidationFails}
 use Rattle.rkyv_dict.specs.Built.{BuildFails, IsBuilt}
-use Rattle.rkyv_dict.specs.Errors.{cause_text, is_allocation_failure}
+use Rattle.rkyv_dict.specs.Errors.{write_error_text, is_allocation_failure}
 use Rattle.rkyv_dict.specs.Forms.{Pairs}
 use Rattle.rkyv_dict.specs.States.{State}
 
@@ -27,7 +27,7 @@ pub record BuildErrorsAreOne : Type 0 where
   pub causes : (form : Form) (factor : ℕ × ℕ) (pairs : Pairs) (c d : WriteError NoMemory)
       → BuildFails form factor pairs c → BuildFails form factor pairs d
       → is_allocation_failure c ≡ false → is_allocation_failure d ≡ false
-      → cause_text c ≡ cause_text d
+      → write_error_text c ≡ write_error_text d
   pub built : (form : Form) (factor : ℕ × ℕ) (pairs : Pairs) (b : List ℕ) (c : WriteError NoMemory)
       → IsBuilt form factor pairs b → BuildFails form factor pairs c
       → is_allocation_failure c ≡ false → ⊥

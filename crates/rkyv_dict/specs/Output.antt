@@ -5,7 +5,7 @@ use Rattle.rkyv_base.specs.declared.errors.WriteError.{WriteError}
 use Rattle.rkyv_dict.specs.declared.form.Form.{Form}
 use Rattle.rkyv_dict.specs.Archives.{line, listing, misplaced_count, value_found, value_line}
 use Rattle.rkyv_dict.specs.First.{first_value_text}
-use Rattle.rkyv_dict.specs.Errors.{cause_text, verify_error_text}
+use Rattle.rkyv_dict.specs.Errors.{write_error_text, verify_error_text}
 use Rattle.rkyv_dict.specs.Forms.{LookupKey, Pairs}
 use Rattle.rkyv_dict.specs.Hex.{hex_of}
 use Rattle.rkyv_dict.specs.States.{Archived}
@@ -48,7 +48,7 @@ built_line bytes = line (codes "built " ++ decimal (length bytes))
 
 -- the line of a write error
 abbrev pub error_line : {F : Type 0} → WriteError F → List ℕ
-error_line cause = line (codes "error " ++ cause_text cause)
+error_line cause = line (codes "error " ++ write_error_text cause)
 
 -- the line of the number of pairs of a valid archive
 abbrev pub ok_line : ℕ → List ℕ

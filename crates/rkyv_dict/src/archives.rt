@@ -16,7 +16,8 @@ ghost use Rattle.rkyv_dict.specs.{keys_misplaced, line, line_at, listing, lookup
 ghost use Rattle.rkyv_dict.specs.{misplaced_count, natives, pair_count, pair_lines, pairs_of};
 ghost use Rattle.rkyv_dict.specs.{parts_by, root, value_found, value_line, value_under};
 
-use crate::form::{ArchiveWidth, Form, Key, Kind, PairList};
+use crate::form::{ArchiveWidth, Form, Key, Kind};
+use crate::pairs::PairList;
 use crate::parts::Printable;
 use rkyv_base::{
     Narrow, NoMemory, Serialize, Text, VecWriter, VerifyError, View, Wide, Width, WriteError,

@@ -15,13 +15,19 @@ ghost use Rattle.std.specs.Option.{ForSome};
 ghost use Rattle.std.specs.Prelude.{◌≡◌, ◌≤◌, ◌<◌, OnErr, OnOk, length, string_bytes};
 
 use crate::archives::{self, push_line};
-use crate::errors::{cause_text, is_allocation_failure, verify_error_text};
-use crate::form::{ArchiveWidth, Form, Key, Kind, PairList};
+use crate::errors::{is_allocation_failure, verify_error_text, write_error_text};
+use crate::form::{ArchiveWidth, Form, Key, Kind};
 use crate::hex::push_hex;
-use crate::pairs::{count_of, kind_of, no_pairs, put_numbers, put_texts};
+use crate::pairs::PairList;
 use crate::script::{Command, read_command};
 use rkyv_base::{NoMemory, VerifyError, WriteError};
 use std::alloc::{AllocError, Global};
+
+/// The output of a command that needs an archive, if there is none.
+const NO_ARCHIVE: &str = "error 11 NoArchive";
+
+/// The output of a line that is no command.
+const BAD_LINE: &str = "error 10 BadLine";
 
 /// The bytes of an archive.
 ///
@@ -54,7 +60,7 @@ fn push_verify_error(out: &mut String, error: &VerifyError) -> Result<(), AllocE
 fn push_cause(out: &mut String, cause: &WriteError<NoMemory>) -> Result<(), AllocError>
     ensures { AppendsText result out.old out.new (error_line cause.now) }
 {
-    writeln!(out, "error {}", cause_text(cause))
+    writeln!(out, "error {}", write_error_text(cause))
 }
 
 impl<'a> Dict<'a> {
@@ -68,7 +74,7 @@ impl<'a> Dict<'a> {
         Dict {
             bits: ArchiveWidth::Bits32,
             load_factor: (7, 8),
-            list: no_pairs(alloc, Kind::Num),
+            list: PairList::new(alloc, Kind::Num),
             archive: None,
         }
     }
@@ -78,7 +84,7 @@ impl<'a> Dict<'a> {
         ensures { result ≡ form_of (state_of self.now) }
     {
         Form {
-            kind: kind_of(&self.list),
+            kind: self.list.kind(),
             bits: self.bits,
         }
     }
@@ -89,7 +95,7 @@ impl<'a> Dict<'a> {
             (state_of self.now).archive) }
     {
         let Some(archive) = &self.archive else {
-            return push_line(out, "error 11 NoArchive");
+            return push_line(out, NO_ARCHIVE);
         };
         push_hex(out, archive.bytes.as_slice())?;
         push_line(out, "")
@@ -103,7 +109,7 @@ impl<'a> Dict<'a> {
             (archive_output (get_line (form_of s) key) s.archive) }
     {
         let Some(archive) = &self.archive else {
-            return push_line(out, "error 11 NoArchive");
+            return push_line(out, NO_ARCHIVE);
         };
         archives::push_value(self.form(), archive.bytes.as_slice(), key, out)
     }
@@ -115,7 +121,7 @@ impl<'a> Dict<'a> {
             AppendsText result out.old out.new (archive_output (list_lines (form_of s)) s.archive) }
     {
         let Some(archive) = &self.archive else {
-            return push_line(out, "error 11 NoArchive");
+            return push_line(out, NO_ARCHIVE);
         };
         archives::push_pairs(self.form(), archive.bytes.as_slice(), out)
     }
@@ -127,7 +133,7 @@ impl<'a> Dict<'a> {
             AppendsText result out.old out.new (archive_output (audit_line (form_of s)) s.archive) }
     {
         let Some(archive) = &self.archive else {
-            return push_line(out, "error 11 NoArchive");
+            return push_line(out, NO_ARCHIVE);
         };
         let count = archives::misplaced(self.form(), archive.bytes.as_slice());
         writeln!(out, "misplaced {count}")
@@ -141,7 +147,7 @@ impl<'a> Dict<'a> {
         match archives::build(alloc, self.bits, &self.list, self.load_factor) {
             Ok(bytes) => {
                 let len = bytes.len();
-                let built_len = Some(count_of(&self.list));
+                let built_len = Some(self.list.len());
                 self.archive = Some(Stored { bytes, built_len });
                 writeln!(out, "built {len}")
             }
@@ -177,7 +183,7 @@ impl<'a> Dict<'a> {
     {
         self.bits = bits;
         self.archive = None;
-        self.list = no_pairs(alloc, kind);
+        self.list = PairList::new(alloc, kind);
     }
 
     /// Executes a command, and appends its output.
@@ -199,7 +205,7 @@ impl<'a> Dict<'a> {
                 Ok(())
             }
             Command::SetWidth(bits) => {
-                let kind = kind_of(&self.list);
+                let kind = self.list.kind();
                 self.empty(alloc, kind, bits);
                 Ok(())
             }
@@ -207,8 +213,8 @@ impl<'a> Dict<'a> {
                 self.load_factor = (numerator as usize, denominator as usize);
                 Ok(())
             }
-            Command::PutNumbers(key, value) => put_numbers(&mut self.list, key, value),
-            Command::PutTexts(key, value) => put_texts(&mut self.list, key, value),
+            Command::PutNumbers(key, value) => self.list.put_numbers(key, value),
+            Command::PutTexts(key, value) => self.list.put_texts(key, value),
             Command::Build => self.build(alloc, out),
             Command::Check(bytes) => self.check(bytes, out),
             Command::Hex => self.push_hex(out),
@@ -244,7 +250,7 @@ impl<'a> Dict<'a> {
         }
         match read_command(alloc, self.form().kind, line)? {
             Some(command) => self.apply(alloc, command, out),
-            None => push_line(out, "error 10 BadLine"),
+            None => push_line(out, BAD_LINE),
         }
     }
 }

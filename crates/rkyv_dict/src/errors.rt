@@ -1,5 +1,5 @@
 //! The number and the name of each error, as the output has them.
-ghost use Rattle.rkyv_dict.specs.{cause_text, is_allocation_failure, verify_error_text};
+ghost use Rattle.rkyv_dict.specs.{write_error_text, is_allocation_failure, verify_error_text};
 ghost use Rattle.std.specs.Prelude.{◌≡◌};
 
 use rkyv_base::{NoMemory, VerifyError, WriteError};
@@ -22,9 +22,9 @@ pub fn verify_error_text(error: &VerifyError) -> &'static str
 }
 
 /// Returns the number and the name of a write error.
-#[tactic(auto, unfolding(crate::specs::Errors::cause_text))]
-pub fn cause_text(error: &WriteError<NoMemory>) -> &'static str
-    ensures { result.now ≡ cause_text error.now }
+#[tactic(auto, unfolding(crate::specs::Errors::write_error_text))]
+pub fn write_error_text(error: &WriteError<NoMemory>) -> &'static str
+    ensures { result.now ≡ write_error_text error.now }
 {
     match error {
         WriteError::InvalidLoadFactor { .. } => "1 InvalidLoadFactor",

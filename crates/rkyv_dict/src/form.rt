@@ -1,4 +1,4 @@
-//! The form of a dictionary's archive, its keys and its pairs.
+//! The form of a dictionary's archive, and its keys.
 //!
 //! A form is a kind, numbers or texts, and a width.
 
@@ -36,13 +36,4 @@ pub enum Key<'a> {
     Number(u32),
     /// A key of a map of texts.
     Text(&'a str),
-}
-
-/// Pairs of keys and values of one kind, in insertion order.
-#[derive(Drop)]
-pub enum PairList<'a> {
-    /// The pairs of a map of numbers.
-    Numbers(Vec<(u32, u32)>),
-    /// The pairs of a map of texts.
-    Texts(Vec<(&'a str, &'a str)>),
 }

@@ -3,79 +3,86 @@ ghost use Rattle.rkyv_dict.specs.{kind_of_pairs, list_len, no_pairs, pairs_of, t
 ghost use Rattle.rkyv_dict.specs.{with_numbers, with_texts};
 ghost use Rattle.std.specs.Prelude.{◌≡◌, ◌≤◌, ℕ, IfErr, OnErr, OnOk};
 
-use crate::form::{Kind, PairList};
+use crate::form::Kind;
 use std::alloc::{AllocError, Global};
 
-/// Returns an empty list of the kind.
-pub fn no_pairs<'a>(alloc: Global, kind: Kind) -> PairList<'a>
-    ensures { pairs_of result ≡ no_pairs kind }
-{
-    match kind {
-        Kind::Num => PairList::Numbers(Vec::new(alloc)),
-        Kind::Text => PairList::Texts(Vec::new(alloc)),
-    }
+/// Pairs of keys and values of one kind, in insertion order.
+#[derive(Drop)]
+pub enum PairList<'a> {
+    /// The pairs of a map of numbers.
+    Numbers(Vec<(u32, u32)>),
+    /// The pairs of a map of texts.
+    Texts(Vec<(&'a str, &'a str)>),
 }
 
-/// Returns the kind of the pairs.
-pub fn kind_of(list: &PairList<'_>) -> Kind
-    ensures { result ≡ kind_of_pairs (pairs_of list.now) }
-{
-    match list {
-        PairList::Numbers(_) => Kind::Num,
-        PairList::Texts(_) => Kind::Text,
+impl<'a> PairList<'a> {
+    /// Returns an empty list of the kind.
+    pub fn new(alloc: Global, kind: Kind) -> PairList<'a>
+        ensures { pairs_of result ≡ no_pairs kind }
+    {
+        match kind {
+            Kind::Num => PairList::Numbers(Vec::new(alloc)),
+            Kind::Text => PairList::Texts(Vec::new(alloc)),
+        }
     }
-}
 
-/// Returns the number of pairs.
-pub fn count_of(list: &PairList<'_>) -> usize
-    ensures { result ≡ list_len list.now }
-{
-    match list {
-        PairList::Numbers(pairs) => pairs.len(),
-        PairList::Texts(pairs) => pairs.len(),
+    /// Returns the kind of the pairs.
+    pub fn kind(&self) -> Kind
+        ensures { result ≡ kind_of_pairs (pairs_of self.now) }
+    {
+        match self {
+            PairList::Numbers(_) => Kind::Num,
+            PairList::Texts(_) => Kind::Text,
+        }
     }
-}
 
-/// Appends a pair of numbers to a list of numbers, and leaves a list of texts unchanged.
-///
-/// # Errors
-///
-/// - `AllocError`: a list of numbers fails to allocate; its pairs are unchanged then.
-pub fn put_numbers(list: &mut PairList<'_>, key: u32, value: u32) -> Result<(), AllocError>
-    ensures added { OnOk result
-        (pairs_of list.new ≡ with_numbers (pairs_of list.old) key value) }
-    ensures unchanged { IfErr result (λ _. pairs_of list.new ≡ pairs_of list.old) }
-    ensures numbers { OnErr result (kind_of_pairs (pairs_of list.old) ≡ Kind.Num) }
-    ensures kept { list_len list.old ≤ list_len list.new }
-    ensures first { (n : ℕ) → n ≤ list_len list.old
-        → take_pairs n (pairs_of list.new) ≡ take_pairs n (pairs_of list.old) }
-{
-    match list {
-        PairList::Numbers(pairs) => Ok(pairs.push((key, value))?),
-        PairList::Texts(_) => Ok(()),
+    /// Returns the number of pairs.
+    pub fn len(&self) -> usize
+        ensures { result ≡ list_len self.now }
+    {
+        match self {
+            PairList::Numbers(pairs) => pairs.len(),
+            PairList::Texts(pairs) => pairs.len(),
+        }
     }
-}
 
-/// Appends a pair of texts to a list of texts, and leaves a list of numbers unchanged.
-///
-/// # Errors
-///
-/// - `AllocError`: a list of texts fails to allocate; its pairs are unchanged then.
-pub fn put_texts<'a>(
-    list: &mut PairList<'a>,
-    key: &'a str,
-    value: &'a str,
-) -> Result<(), AllocError>
-    ensures added { OnOk result
-        (pairs_of list.new ≡ with_texts (pairs_of list.old) key.now value.now) }
-    ensures unchanged { IfErr result (λ _. pairs_of list.new ≡ pairs_of list.old) }
-    ensures texts { OnErr result (kind_of_pairs (pairs_of list.old) ≡ Kind.Text) }
-    ensures kept { list_len list.old ≤ list_len list.new }
-    ensures first { (n : ℕ) → n ≤ list_len list.old
-        → take_pairs n (pairs_of list.new) ≡ take_pairs n (pairs_of list.old) }
-{
-    match list {
-        PairList::Numbers(_) => Ok(()),
-        PairList::Texts(pairs) => Ok(pairs.push((key, value))?),
+    /// Appends a pair of numbers to a list of numbers, and leaves a list of texts unchanged.
+    ///
+    /// # Errors
+    ///
+    /// - `AllocError`: a list of numbers fails to allocate; its pairs are unchanged then.
+    pub fn put_numbers(&mut self, key: u32, value: u32) -> Result<(), AllocError>
+        ensures added { OnOk result
+            (pairs_of self.new ≡ with_numbers (pairs_of self.old) key value) }
+        ensures unchanged { IfErr result (λ _. pairs_of self.new ≡ pairs_of self.old) }
+        ensures numbers { OnErr result (kind_of_pairs (pairs_of self.old) ≡ Kind.Num) }
+        ensures kept { list_len self.old ≤ list_len self.new }
+        ensures first { (n : ℕ) → n ≤ list_len self.old
+            → take_pairs n (pairs_of self.new) ≡ take_pairs n (pairs_of self.old) }
+    {
+        match self {
+            PairList::Numbers(pairs) => Ok(pairs.push((key, value))?),
+            PairList::Texts(_) => Ok(()),
+        }
+    }
+
+    /// Appends a pair of texts to a list of texts, and leaves a list of numbers unchanged.
+    ///
+    /// # Errors
+    ///
+    /// - `AllocError`: a list of texts fails to allocate; its pairs are unchanged then.
+    pub fn put_texts(&mut self, key: &'a str, value: &'a str) -> Result<(), AllocError>
+        ensures added { OnOk result
+            (pairs_of self.new ≡ with_texts (pairs_of self.old) key.now value.now) }
+        ensures unchanged { IfErr result (λ _. pairs_of self.new ≡ pairs_of self.old) }
+        ensures texts { OnErr result (kind_of_pairs (pairs_of self.old) ≡ Kind.Text) }
+        ensures kept { list_len self.old ≤ list_len self.new }
+        ensures first { (n : ℕ) → n ≤ list_len self.old
+            → take_pairs n (pairs_of self.new) ≡ take_pairs n (pairs_of self.old) }
+    {
+        match self {
+            PairList::Numbers(_) => Ok(()),
+            PairList::Texts(pairs) => Ok(pairs.push((key, value))?),
+        }
     }
 }

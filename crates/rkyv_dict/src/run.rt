@@ -185,6 +185,8 @@ fn write_output<W: Write>(alloc: Global, script: &[u8], writer: &mut W) -> Resul
 /// - `Memory`: an allocation fails.
 /// - `Write`: a write fails or writes no byte.
 ///
+/// A read or a write fails if it is interrupted, too: it isn't made again.
+///
 /// After `Memory` and `Write`, a prefix of the output of the first lines is written. After `Write`,
 /// at least one byte of that output isn't written.
 pub fn run<R: Read, W: Write>(alloc: Global, reader: &mut R, writer: &mut W) -> Result<(), RunError>

@@ -75,13 +75,16 @@ fn set_load_factor(arguments: Option<&str>) -> Option<Command<'_>>
     Some(Command::SetLoadFactor(numerator, denominator))
 }
 
+/// The greatest key and the greatest value of a map of numbers.
+const MOST_NUMBER: u64 = 4_294_967_295;
+
 /// Parses the arguments of `put`: a key and a value of the kind.
 fn put(kind: Kind, arguments: Option<&str>) -> Option<Command<'_>>
     ensures { option_map command_request result ≡ put_request kind (words_left arguments.entry) }
 {
     match kind {
         Kind::Num => {
-            let (key, value) = two_numbers(arguments, 4_294_967_295)?;
+            let (key, value) = two_numbers(arguments, MOST_NUMBER)?;
             Some(Command::PutNumbers(key as u32, value as u32))
         }
         Kind::Text => {
@@ -97,7 +100,7 @@ fn get(kind: Kind, arguments: Option<&str>) -> Option<Command<'_>>
 {
     match kind {
         Kind::Num => {
-            let key = one_number(arguments, 4_294_967_295)?;
+            let key = one_number(arguments, MOST_NUMBER)?;
             Some(Command::Get(Key::Number(key as u32)))
         }
         Kind::Text => Some(Command::Get(Key::Text(one_text(arguments)?))),

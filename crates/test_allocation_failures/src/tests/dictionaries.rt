@@ -3,7 +3,8 @@
 use rkyv_base::{NoMemory, WriteError};
 use rkyv_dict::archives::build;
 use rkyv_dict::errors::is_allocation_failure;
-use rkyv_dict::form::{ArchiveWidth, PairList};
+use rkyv_dict::form::ArchiveWidth;
+use rkyv_dict::pairs::PairList;
 use std::alloc::Global;
 use test_support::archives::archive;
 

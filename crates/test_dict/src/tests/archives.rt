@@ -2,8 +2,9 @@
 
 use rkyv_base::{VerifyError, WriteError};
 use rkyv_dict::archives::{build, check, misplaced, push_pairs, push_value};
-use rkyv_dict::form::{ArchiveWidth, Form, Key, Kind, PairList};
+use rkyv_dict::form::{ArchiveWidth, Form, Key, Kind};
 use rkyv_dict::laws;
+use rkyv_dict::pairs::PairList;
 use std::alloc::Global;
 use std::test::Fail;
 

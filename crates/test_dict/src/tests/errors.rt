@@ -1,14 +1,14 @@
 //! The numbers and names of errors, and the errors that end a run.
 
 use rkyv_base::{IteratorLengthMismatch, NoMemory, VerifyError, WriteError};
-use rkyv_dict::errors::{cause_text, is_allocation_failure, verify_error_text};
+use rkyv_dict::errors::{is_allocation_failure, verify_error_text, write_error_text};
 
 fn verify_error_name(error: VerifyError) -> &'static str {
     verify_error_text(&error)
 }
 
 fn cause(error: WriteError<NoMemory>) -> (&'static str, bool) {
-    (cause_text(&error), is_allocation_failure(&error))
+    (write_error_text(&error), is_allocation_failure(&error))
 }
 
 #[test]

@@ -4,7 +4,7 @@ use Rattle.rkyv_base.specs.declared.errors.WriteError.{WriteError}
 use Rattle.rkyv_dict.specs.{Builds, form_of_pairs, pairs_of}
 use Rattle.rkyv_dict.specs.declared.form.ArchiveWidth.{ArchiveWidth}
 use Rattle.rkyv_dict.specs.declared.form.ArchiveWidth.TheVariants.{Bits32, Bits64}
-use Rattle.rkyv_dict.specs.declared.form.PairList.{PairList}
+use Rattle.rkyv_dict.specs.declared.pairs.PairList.{PairList}
 use Rattle.rkyv_dict.proofs.TextLists.{texts_built}
 use Rattle.rkyv_dict.proofs.archives.build.Goals as goal
 
