@@ -16,12 +16,8 @@ use Rattle.rkyv_keys.specs.{IsFoundValue}
 abbrev RepresentsIn : {B : Type 0} → (List ℕ → ℕ → B → Type 0) → List ℕ → Option ℕ → B → Type 0
 RepresentsIn represents b target x = (q : ℕ) × (target ≡ Some q) × represents b q x
 
--- the position of a value that is found in a map over the bytes `b`, and its validity
+-- the position of a value that is found in a map over the bytes `b`
 module _ {K V H W : Type 0} {ks : Specs K} {vs : Specs V} {wt : Words W} (m : ArchivedHashMap K V H W ks vs wt) (b : List ℕ) (same : map_bytes m ≡ b) where
-  pub found_viewable : (found : Option (View V)) (target : Option ℕ) → target ≡ pos_of_found found → IfSome found (IsValueIn m) → IfSome target (Viewable vs.spec b)
-  found_viewable None target e h = subst (λ (o : Option ℕ). IfSome o (Viewable vs.spec b)) (sym e) h
-  found_viewable (Some value) target e h = subst (λ (o : Option ℕ). IfSome o (Viewable vs.spec b)) (sym e) (subst (λ d. Viewable vs.spec d value.pos) (ap (λ (a : Bor (List ℕ)). a.now) h.at.0 ∙ same) h.viewable)
-
   pub found_placed : {B : Type 0} (represents : List ℕ → ℕ → B → Type 0) (found : Option (View V)) (target : Option ℕ) (o : Option B) → target ≡ pos_of_found found → IfSome found (IsValueIn m)
       → IsFoundValue represents found o → MatchOption o (target ≡ None) (RepresentsIn represents b target)
   found_placed represents None target None e within h = e

@@ -1,19 +1,20 @@
 -- From a lookup in the map that is read to one in the map at the seal.
 use Rattle.rkyv_base.specs.declared.element.HasSpec.{Ghosts as Specs}
 use Rattle.rkyv_base.specs.declared.width.Word.{Ghosts as Words}
-use Rattle.std.proofs.Common.{arith, ◌≡◌, ℕ, sym, subst, Bool, List, Option, Some}
+use Rattle.std.proofs.Common.{ap, arith, ◌≡◌, ◌∙◌, ℕ, sym, subst, Bool, List, None, Option, Some}
 use Rattle.std.proofs.lemmas.Grind.{common_steps}
 use Rattle.std.proofs.lemmas.Option.{IfSome_then}
+use Rattle.std.specs.Borrow.{Bor}
 use Rattle.std.specs.Int.{Width}
 use Rattle.std.specs.Prelude.{IfSome}
-use Rattle.rkyv_base.specs.{ElementSpec, IsElement, Viewable, entry_spec, pos_of}
+use Rattle.rkyv_base.specs.{ElementSpec, IsElement, Viewable, entry_spec, pos_of, pos_of_found}
 use Rattle.rkyv_base.specs.Lemmas.Entry.{entry_element, viewable_key, viewable_value}
 use Rattle.rkyv_base.specs.declared.view.View.{View}
 use Rattle.rkyv_table.proofs.ValidTable.{item_viewable}
 use Rattle.rkyv_table.proofs.Moved.{moved}
 use Rattle.rkyv_table.proofs.SealedTable.{value_kept}
 use Rattle.rkyv_base.specs.declared.entry.Entry.{Entry}
-use Rattle.rkyv_collections.specs.{AreUnderHashAt, ComparesKeysBy, ComparesKeysByAt, FindsBy, FindsFirstBy, FindsFirstKey, FindsFirstKeyAt, FindsKey, FindsKeyAt, FindsOneKey, FindsOneKeyAt, FoundByHasAt, FoundKeyHasAt, IsAcceptedKey, IsEntryIn, IsKeyAt, IsKeyIn, IsKeyPosAt, IsPairPos, IsViewAt, MapAt, map_at, map_bytes, map_pos, map_spec}
+use Rattle.rkyv_collections.specs.{AreUnderHashAt, ComparesKeysBy, ComparesKeysByAt, FindsBy, FindsFirstBy, FindsFirstKey, FindsFirstKeyAt, FindsKey, FindsKeyAt, FindsOneKey, FindsOneKeyAt, FoundByHasAt, FoundKeyHasAt, IsAcceptedKey, IsEntryIn, IsKeyAt, IsKeyIn, IsKeyPosAt, IsPairPos, IsValueIn, IsViewAt, MapAt, map_at, map_bytes, map_pos, map_spec}
 use Rattle.rkyv_keys.specs.{KeyLookup}
 use Rattle.rkyv_collections.specs.declared.map.ArchivedHashMap.{ArchivedHashMap}
 
@@ -62,6 +63,11 @@ module _ {K V H W : Type 0} {ks : Specs K} {vs : Specs V} {wt : Words W} (m : Ar
     -- a found entry has its key in the map, and a found value is behind a key
     pub entry_read : (result : Option (View (Entry K V))) (pos : Option ℕ) → IsViewAt result pos → IfSome result (IsEntryIn m) → IfSome pos (IsKeyPosAt wt.word ks.spec vs.spec b p)
     entry_read result pos at found = grind (arith, common_steps, found_pos_satisfies, as_read)
+
+    -- a found value is valid in the bytes
+    pub value_viewable : (result : Option (View V)) (pos : Option ℕ) → pos ≡ pos_of_found result → IfSome result (IsValueIn m) → IfSome pos (Viewable vs.spec b)
+    value_viewable None pos e found = subst (λ o. IfSome o (Viewable vs.spec b)) (sym e) tt
+    value_viewable (Some value) pos e found = subst (λ o. IfSome o (Viewable vs.spec b)) (sym e) (subst (λ c. Viewable vs.spec c value.pos) (ap (λ (a : Bor (List ℕ)). a.now) found.at.0 ∙ bytes) found.viewable)
 
     -- the property of a lookup in the map that is read, for its bytes and its position
     module _ (Fact Implied : Option ℕ → Type 0) (implies : (found : Option ℕ) → Fact found → Implied found) where

@@ -44,8 +44,8 @@ pub use Map.MapFormat.{MapRepresents}
 unfoldable pub use Map.HashedPairs.{HashedStep}
 unfoldable pub use Map.Writing.{ResolvesMap, WritesMap, WritesSet}
 unfoldable pub use Map.SealedMap.{CanCompareKeysAt, CanCompareKeysIn, ComparesKeysByAt, FindsByAt}
-unfoldable pub use Map.SealedMap.{FindsFirstByAt, IsAcceptedKeyAt, IsKeyPosIn, IsMapSeal}
-unfoldable pub use Map.SealedMap.{IsPairSeal, IsPairSealAt, IsValueSealAt, map_sealed}
+unfoldable pub use Map.SealedMap.{FindsFirstByAt, FoundValueByHasAt, IsAcceptedKeyAt, IsKeyPosIn}
+unfoldable pub use Map.SealedMap.{IsMapSeal, IsPairSeal, IsPairSealAt, IsValueSealAt, map_sealed}
 pub use Map.SealedMap.{FoundByHasAt, IsKeyAt, IsPairPos, IsValueSeal}
 unfoldable pub use Map.SealedPairs.{IsPairIter, KeepsPairs, KeepsValues, LendsFirstPair}
 unfoldable pub use Map.SealedPairs.{LendsFirstValue, MayWritePair, MayWriteValue, YieldsKeyPos}

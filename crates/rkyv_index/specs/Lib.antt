@@ -57,9 +57,10 @@ pub use Map.Complete.{FitsAlone}
 unfoldable pub use Map.Lookups.{full_key_part, full_part, index_part, key_part, pair_part, part_at}
 unfoldable pub use Map.Lookups.{value_part}
 pub use Map.Lookups.{FoundByHas, FoundKeyHas, GetsBy, GetsKey, Part}
-unfoldable pub use Map.InPlace.{FoundValueHas, RepresentsIn, SetsFirst, SetsFound, SetsValue}
-unfoldable pub use Map.InPlace.{UppercasesFirst, UppercasesFound, UppercasesListed, UppercasesText}
-unfoldable pub use Map.InPlace.{index_over, index_to_texts_over, index_to_texts_spec, value_pos_of}
+unfoldable pub use Map.InPlace.{FoundValueByHas, FoundValueHas, RepresentsIn, SetsFirst, SetsFound}
+unfoldable pub use Map.InPlace.{SetsValue, UppercasesFirst, UppercasesFound, UppercasesListed}
+unfoldable pub use Map.InPlace.{UppercasesText, index_over, index_to_texts_over}
+unfoldable pub use Map.InPlace.{index_to_texts_spec, value_pos_of}
 unfoldable pub use Map.ListArchives.{FoundAreListed, index_root}
 pub use Map.ListArchives.{FindsInRoot}
 unfoldable pub use Map.ListedLookups.{AgreesOnKeys, IsFirst, LookupsFindListed}

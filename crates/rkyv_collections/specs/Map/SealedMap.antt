@@ -9,6 +9,8 @@ use Rattle.rkyv_base.specs.{entry_spec, pos_in, pos_of, value_pos}
 use Rattle.rkyv_base.specs.declared.seal.ArchiveSeal.{ArchiveSeal}
 use Rattle.rkyv_base.specs.declared.seal.Seal.{Seal}
 use Rattle.rkyv_base.specs.declared.view.View.{View}
+use Rattle.rkyv_scan.specs.{Hasher, HasherCall, hash_of_calls}
+use Rattle.rkyv_keys.specs.{hash_at}
 use Rattle.rkyv_table.specs.{IsWalked, KeptByValueWrites, LendsPair, item_at, pos_of_seal}
 use Rattle.rkyv_collections.specs.Map.{AreUnderHashAt, FindsFirstKeyAt, FindsKeyAt}
 use Rattle.rkyv_collections.specs.Map.MapAt.{MapAt, map_at}
@@ -82,6 +84,14 @@ pub record FoundByHasAt {K : Type 0} (m : MapAt) (hash : ℕ) (key_hash : List �
       × IfSome key_pos (IsAcceptedKeyAt m.word m.key m.value m.bytes m.pos post)
   pub finds : FindsByAt m.word m.key m.value m.bytes m.pos post hash P
   pub first : FindsFirstByAt m.word m.key m.value m.bytes m.pos post hash key_hash P
+
+-- The property applies to the position of the value of such a key, or to `None`. `calls`: hasher
+-- calls of the lookup, `key_calls`: those of the key at a position
+abbrev pub FoundValueByHasAt : {K State : Type 0} → MapAt → Hasher State → List HasherCall
+    → (List ℕ → ℕ → List HasherCall) → (View K → Bool → Type 0) → (Option ℕ → Type 0) → Type 0
+FoundValueByHasAt m hasher calls key_calls post P =
+    FoundByHasAt m (hash_of_calls hasher calls) (hash_at hasher key_calls) post
+    (λ key_pos. P (option_map (value_pos m.key m.value) key_pos))
 
 -- `q`: position of the key in bucket `i` of the map at `p`, with the value behind it.
 -- Each write of the value alone that keeps it valid keeps the map: its header, its control bytes,

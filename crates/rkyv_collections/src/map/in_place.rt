@@ -7,13 +7,15 @@
 //! | a scalar | `set_value_of` | bytes, a native key and the scalar |
 //! | an inline text in upper case | `make_ascii_uppercase_of` | bytes and a native key |
 //! | a value of any type | `ArchivedHashMap::found_with` | bytes, a query and a closure |
+//! | a value of any type, by a comparison | `ArchivedHashMap::found_by` | two closures |
 //! | a value by its seal | `ArchivedHashMap::get_seal` | a seal of the map and a query |
 //! | a value while its key is read | `ArchivedHashMap::get_key_value_seal` | the same |
 //! | each value | `ArchivedHashMap::values_over` or `values_seal` | bytes or a seal of the map |
 //! | each value while its key is read | `ArchivedHashMap::iter_over` or `iter_seal` | the same |
 //!
-//! Take the first call that fits. The contract of `set_value_of` also has the list that the map
-//! represents afterwards. The contract of `found_with` covers all bytes of the archive afterwards.
+//! Take the first call that fits. The contracts of the first two also have the list that the map
+//! represents afterwards. The contracts of `found_with` and `found_by` cover all bytes of the
+//! archive afterwards.
 //!
 //! `make_ascii_uppercase_of` is in `map::in_place::text`.
 //! `get_seal_with` and `get_key_value_seal_with` look up by a comparison.
@@ -21,18 +23,19 @@
 ghost use Rattle.std.specs.Prelude.{IfSome, length, ℕ, ◌+◌, ◌≡◌, ◌≤◌};
 ghost use Rattle.rkyv_base.specs.{Viewable, value_pos};
 ghost use Rattle.rkyv_table.specs.{MayWriteIn, WritesAmongParts, WritesIn};
-ghost use Rattle.rkyv_collections.specs.{FoundValueHasAt, IsKeyPosAt, SetsFirst};
+ghost use Rattle.rkyv_collections.specs.{CanCompareKeysAt, FoundValueByHasAt, FoundValueHasAt};
+ghost use Rattle.rkyv_collections.specs.{IsKeyPosAt, SetsFirst};
 ghost use Rattle.rkyv_collections.specs.{SetsValue, map_at, map_bytes, map_pos, map_spec};
 ghost use Rattle.rkyv_collections.specs.{query_of_value};
 ghost use Rattle.rkyv_keys.specs.{query_of};
 
 pub mod iter_seal;
-pub mod sealed;
+mod sealed;
 pub mod text;
 
 use crate::map::ArchivedHashMap;
 use rkyv_base::{Element, Represents, Scalar, View, Width, found_pos, set_at};
-use rkyv_keys::{KeyElement, NativeKey, Query};
+use rkyv_keys::{KeyElement, KeyHash, NativeKey, Query};
 use rkyv_scan::KeyHasher;
 
 /// Returns the map whose header is at `root` of an archive.
@@ -64,6 +67,28 @@ impl<'a, K: KeyElement, V: Element, H: KeyHasher, W: Width> ArchivedHashMap<'a, 
             (λ pos. result ≡ pos) }
     {
         found_pos(map_over::<K, V, H, W>(archive, root).get(key))
+    }
+
+    /// Returns the position of the value of a key that the comparison accepts, in the map at `root`
+    /// of an archive.
+    #[inline]
+    fn value_pos_by<Q: KeyHash, F: Fn(&Q, View<'_, K>) -> bool>(
+        archive: &[u8],
+        root: u64,
+        key: &Q,
+        cmp: F,
+    ) -> Option<u64>
+        requires map { Viewable (map_spec W.word K.spec V.spec) archive.now root }
+        requires query { Q.can_read key.now }
+        requires callable { CanCompareKeysAt W.word K.spec V.spec archive.now root
+            (F.pre cmp key) }
+        ensures inside { IfSome result (λ pos. pos + V.spec.size ≤ length archive.now) }
+        ensures viewable { IfSome result (λ pos. Viewable V.spec archive.now pos) }
+        ensures finds { FoundValueByHasAt (map_at W.Word K.HasSpec V.HasSpec archive.now root)
+            H.hasher (Q.calls key.now) K.key_calls
+            (F.post cmp key.entry) (λ pos. result ≡ pos) }
+    {
+        found_pos(map_over::<K, V, H, W>(archive, root).get_with(key, cmp))
     }
 
     /// Calls `write` with the archive and the position of the value that a lookup finds.
@@ -108,6 +133,40 @@ impl<'a, K: KeyElement, V: Element, H: KeyHasher, W: Width> ArchivedHashMap<'a, 
             (WritesIn F.post write archive.old result archive.new) }
     {
         let pos = Self::value_pos_in(&*archive, root, key)?;
+        Some(write(archive, pos))
+    }
+
+    /// Calls `write` with the archive and the position of the value of a key that the comparison
+    /// accepts.
+    ///
+    /// It looks up as `get_with` does, and writes as `found_with` does.
+    ///
+    /// In an untrusted archive, the lookup may read all control bytes.
+    ///
+    /// # Requires
+    ///
+    /// - The archive has a valid map at `root`.
+    /// - `key` can be read.
+    /// - The comparison can be called with `key` and each key of the map.
+    /// - `write` can be called with the archive and each position of a valid value.
+    #[inline]
+    pub fn found_by<Q: KeyHash, R, F: Fn(&Q, View<'_, K>) -> bool, G: FnOnce(&mut [u8], u64) -> R>(
+        archive: &mut [u8],
+        root: u64,
+        key: &Q,
+        cmp: F,
+        write: G,
+    ) -> Option<R>
+        requires map { Viewable (map_spec W.word K.spec V.spec) archive.old root }
+        requires query { Q.can_read key.now }
+        requires callable { CanCompareKeysAt W.word K.spec V.spec archive.old root
+            (F.pre cmp key) }
+        requires writable { MayWriteIn G.pre V.spec write archive.old }
+        ensures { FoundValueByHasAt (map_at W.Word K.HasSpec V.HasSpec archive.old root)
+            H.hasher (Q.calls key.now) K.key_calls
+            (F.post cmp key.entry) (WritesIn G.post write archive.old result archive.new) }
+    {
+        let pos = Self::value_pos_by(&*archive, root, key, cmp)?;
         Some(write(archive, pos))
     }
 }

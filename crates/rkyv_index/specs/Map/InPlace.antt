@@ -9,11 +9,14 @@ use Rattle.std.specs.Int.{Width}
 use Rattle.std.specs.Option.{is_some, option_map}
 use Rattle.rkyv_base.specs.{ElementSpec, Encoding, Uppercases, entry_spec, text_spec, value_pos}
 use Rattle.rkyv_base.specs.{with_value}
-use Rattle.rkyv_keys.specs.{KeyLookup, NativePairs, first_pair, list_after_uppercase, with_first}
+use Rattle.rkyv_base.specs.declared.view.View.{View}
+use Rattle.rkyv_keys.specs.{KeyLookup, NativePairs, first_pair, hash_at, list_after_uppercase}
+use Rattle.rkyv_keys.specs.{with_first}
+use Rattle.rkyv_scan.specs.{Hasher, HasherCall, hash_of_calls}
 use Rattle.rkyv_index.specs.Map.{Index, key_at}
 use Rattle.rkyv_index.specs.Map.IndexFormat.{IndexRepresents}
 use Rattle.rkyv_index.specs.Map.IndexLayout.{index_spec}
-use Rattle.rkyv_index.specs.Map.Lookups.{FoundKeyHas}
+use Rattle.rkyv_index.specs.Map.Lookups.{FoundByHas, FoundKeyHas}
 use Rattle.rkyv_index.specs.Map.SealedIndex.{index_at}
 use Rattle.rkyv_index.specs.Map.ValueWrites.{KeepsIndexMap, index_kind}
 
@@ -29,6 +32,14 @@ value_pos_of m i = value_pos m.key m.value (key_at m i)
 -- the property applies to the position of the value that a lookup finds, or to `None`
 abbrev pub FoundValueHas : {K : Type 0} → Index K → KeyLookup → (Option ℕ → Type 0) → Type 0
 FoundValueHas m a P = FoundKeyHas m a (λ index. P (option_map (value_pos_of m) index))
+
+-- The property applies to the position of the value of a key that a comparison accepted, or to
+-- `None`. `calls`: hasher calls of the lookup, `key_calls`: those of the key at a position
+abbrev pub FoundValueByHas : {K State : Type 0} → Index K → Hasher State → List HasherCall
+    → (List ℕ → ℕ → List HasherCall) → (View K → Bool → Type 0) → (Option ℕ → Type 0) → Type 0
+FoundValueByHas m hasher calls key_calls post P =
+    FoundByHas m (hash_of_calls hasher calls) (hash_at hasher key_calls) post
+    (λ index. P (option_map (value_pos_of m) index))
 
 -- the element of an index map to texts
 abbrev pub index_to_texts_spec : Width → ElementSpec → ElementSpec

@@ -9,12 +9,14 @@
 //! | a scalar at an index | `set_value_at` | bytes, an index and the scalar |
 //! | an inline text at an index in upper case | `make_ascii_uppercase_at` | bytes and an index |
 //! | a value of any type | `ArchivedIndexMap::found_with` | bytes, a query and a closure |
+//! | a value of any type, by a comparison | `ArchivedIndexMap::found_by` | two closures |
 //! | a value by its seal | `ArchivedIndexMap::get_seal` | a seal of the map and a query |
 //! | a value while its key is read | `ArchivedIndexMap::get_key_value_seal` | the same |
 //! | the same, with the index | `ArchivedIndexMap::get_full_seal` | the same |
 //!
 //! Take the first call that fits. The contracts of the first four also have the list that the map
-//! represents afterwards. The contract of `found_with` covers all bytes of the archive afterwards.
+//! represents afterwards. The contracts of `found_with` and `found_by` cover all bytes of the
+//! archive afterwards.
 //!
 //! `make_ascii_uppercase_of` and `make_ascii_uppercase_at` are in `map::in_place::text`.
 //! The sealed lookups that end in `_with` take a comparison. `map::laws` has the laws of the map
@@ -24,7 +26,8 @@ ghost use Rattle.std.specs.Prelude.{IfSome, length, ◌+◌, ◌<◌, ◌≡◌,
 ghost use Rattle.rkyv_base.specs.{ScalarRepresents, Viewable, entry_spec, value_pos, with_value};
 ghost use Rattle.rkyv_keys.specs.{hash_at, native_pairs, query_of};
 ghost use Rattle.rkyv_table.specs.{MayWriteIn, WritesAmongParts, WritesIn, len_at};
-ghost use Rattle.rkyv_index.specs.{FoundKeyHas, FoundValueHas, IndexRepresents, IsIndex};
+ghost use Rattle.rkyv_index.specs.{CanCompareKeysOf, FoundKeyHas, FoundValueByHas, FoundValueHas};
+ghost use Rattle.rkyv_index.specs.{IndexRepresents, IsIndex};
 ghost use Rattle.rkyv_index.specs.{KeepsIndexMap, SetsFirst, SetsListed, SetsValue, index_kind};
 ghost use Rattle.rkyv_index.specs.{index_over, index_spec, pair_at};
 
@@ -36,7 +39,7 @@ use crate::map::read::entries::entry_in;
 use crate::map::{ArchivedIndexMap, IndexMapOf};
 use crate::width::IndexWidth;
 use rkyv_base::{Element, Represents, Scalar, View, found_pos, set_at};
-use rkyv_keys::{KeyElement, NativeKey, Query};
+use rkyv_keys::{KeyElement, KeyHash, NativeKey, Query};
 use rkyv_scan::KeyHasher;
 
 /// Returns the position of the value at `index`, in the map at `root` of an archive.
@@ -70,6 +73,29 @@ impl<'a, K: KeyElement, V: Element, H: KeyHasher, W: IndexWidth> ArchivedIndexMa
     {
         let map = ArchivedIndexMap::<K, V, H, W>::of(View::new(archive, root));
         found_pos(map.get(key))
+    }
+
+    /// Returns the position of the value of a key that the comparison accepts, in the map at `root`
+    /// of an archive.
+    #[inline]
+    fn value_pos_by<Q: KeyHash, F: Fn(&Q, View<'_, K>) -> bool>(
+        archive: &[u8],
+        root: u64,
+        key: &Q,
+        cmp: F,
+    ) -> Option<u64>
+        requires map { Viewable (index_spec W.word (entry_spec K.spec V.spec)) archive.now root }
+        requires query { Q.can_read key.now }
+        requires callable { CanCompareKeysOf
+            (index_over W.Word K.HasSpec V.HasSpec archive.now root) (F.pre cmp key) }
+        ensures inside { IfSome result (λ pos. pos + V.spec.size ≤ length archive.now) }
+        ensures viewable { IfSome result (λ pos. Viewable V.spec archive.now pos) }
+        ensures finds { FoundValueByHas (index_over W.Word K.HasSpec V.HasSpec archive.now root)
+            H.hasher (Q.calls key.now) K.key_calls
+            (F.post cmp key.entry) (λ pos. result ≡ pos) }
+    {
+        let map = ArchivedIndexMap::<K, V, H, W>::of(View::new(archive, root));
+        found_pos(map.get_with(key, cmp))
     }
 
     /// Returns the index that a lookup finds, in the map at `root` of an archive.
@@ -124,6 +150,40 @@ impl<'a, K: KeyElement, V: Element, H: KeyHasher, W: IndexWidth> ArchivedIndexMa
             (WritesIn F.post write archive.old result archive.new) }
     {
         let pos = Self::value_pos_in(&*archive, root, key)?;
+        Some(write(archive, pos))
+    }
+
+    /// Calls `write` with the archive and the position of the value of a key that the comparison
+    /// accepts.
+    ///
+    /// It looks up as `get_with` does, and writes as `found_with` does.
+    ///
+    /// In an untrusted archive, the lookup may read all control bytes.
+    ///
+    /// # Requires
+    ///
+    /// - The archive has a valid index map at `root`.
+    /// - `key` can be read.
+    /// - The comparison can be called with `key` and each key of the map.
+    /// - `write` can be called with the archive and each position of a valid value.
+    #[inline]
+    pub fn found_by<Q: KeyHash, R, F: Fn(&Q, View<'_, K>) -> bool, G: FnOnce(&mut [u8], u64) -> R>(
+        archive: &mut [u8],
+        root: u64,
+        key: &Q,
+        cmp: F,
+        write: G,
+    ) -> Option<R>
+        requires map { Viewable (index_spec W.word (entry_spec K.spec V.spec)) archive.old root }
+        requires query { Q.can_read key.now }
+        requires callable { CanCompareKeysOf
+            (index_over W.Word K.HasSpec V.HasSpec archive.old root) (F.pre cmp key) }
+        requires writable { MayWriteIn G.pre V.spec write archive.old }
+        ensures { FoundValueByHas (index_over W.Word K.HasSpec V.HasSpec archive.old root)
+            H.hasher (Q.calls key.now) K.key_calls
+            (F.post cmp key.entry) (WritesIn G.post write archive.old result archive.new) }
+    {
+        let pos = Self::value_pos_by(&*archive, root, key, cmp)?;
         Some(write(archive, pos))
     }
 }

@@ -2,7 +2,7 @@
 
 use crate::tests::archives::four_with;
 use crate::tests::opened::{small_pos, small_seal};
-use rkyv_base::{Element, Narrow, Scalar, VerifyError, Width, access_in};
+use rkyv_base::{Element, Narrow, Scalar, VerifyError, View, Width, access_in};
 use rkyv_collections::{ArchivedHashMap, HashMapOf};
 use rkyv_scan::FxHasher64;
 use test_support::archives::four_pairs;
@@ -32,6 +32,39 @@ fn lookup_of_a_missing_key_changes_nothing(rt: HostRuntime) {
     let mut bytes = four_pairs();
     let key_pos = change_found(&mut bytes, 9, 70).ok();
     expect_eq!(rt; (key_pos, bytes == four_pairs()), (Some(None), true));
+}
+
+// Writes a byte over the value of a key, if the comparison accepts it. Returns the position of
+// the value, if one is written.
+fn change_accepted(
+    bytes: &mut [u8],
+    key: i8,
+    accepts: bool,
+    byte: u8,
+) -> Result<Option<u64>, VerifyError> {
+    let root = small_pos(&*bytes)?;
+    Ok(ArchivedHashMap::<i8, i8, FxHasher64, Narrow>::found_by(
+        bytes,
+        root,
+        &key,
+        |_: &i8, _: View<'_, i8>| accepts,
+        |archive: &mut [u8], pos: u64| change(archive, pos, byte),
+    ))
+}
+
+#[test]
+fn an_accepted_value_is_written_over_the_bare_bytes(rt: HostRuntime) {
+    let mut bytes = four_pairs();
+    let pos = change_accepted(&mut bytes, 7, true, 70).ok();
+    let same = bytes == four_with([3, 4, 1, 2, 0, 0, 7, 70, 5, 6]);
+    expect_eq!(rt; (pos, same), (Some(Some(7)), true));
+}
+
+#[test]
+fn a_value_that_is_not_accepted_is_unchanged(rt: HostRuntime) {
+    let mut bytes = four_pairs();
+    let pos = change_accepted(&mut bytes, 7, false, 70).ok();
+    expect_eq!(rt; (pos, bytes == four_pairs()), (Some(None), true));
 }
 
 // Writes a byte behind the key of each pair while the cursor steps. Returns the results of five

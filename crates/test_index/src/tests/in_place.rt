@@ -63,6 +63,52 @@ fn lookup_of_a_missing_key_changes_nothing(rt: HostRuntime) {
     );
 }
 
+// Writes a byte over the value of a key, if the comparison accepts it. Returns the position of
+// the value, if one is written.
+fn change_accepted<W: IndexWidth>(
+    bytes: &mut [u8],
+    key: i8,
+    accepts: bool,
+    byte: u8,
+) -> Result<Option<u64>, VerifyError> {
+    let root = access_in::<W, IndexMapOf<i8, i8, FxHasher64, W>>(&*bytes)?.pos();
+    Ok(ArchivedIndexMap::<i8, i8, FxHasher64, W>::found_by(
+        bytes,
+        root,
+        &key,
+        |_: &i8, _: View<'_, i8>| accepts,
+        |archive: &mut [u8], pos: u64| change(archive, pos, byte),
+    ))
+}
+
+#[test]
+fn an_accepted_value_is_written_over_the_bare_bytes(rt: HostRuntime) {
+    let mut bytes = four_entries();
+    let pos = change_accepted::<Narrow>(&mut bytes, 5, true, 60).ok();
+    let mut expected = four_entries();
+    expected[56] = 60;
+    let mut wide = wide_pair();
+    let wide_pos = change_accepted::<Wide>(&mut wide, 1, true, 20).ok();
+    let mut wide_expected = wide_pair();
+    wide_expected[48] = 20;
+    expect_eq!(rt;
+        (pos, bytes == expected, wide_pos, wide == wide_expected),
+        (Some(Some(56)), true, Some(Some(48)), true)
+    );
+}
+
+#[test]
+fn a_value_that_is_not_accepted_is_unchanged(rt: HostRuntime) {
+    let mut bytes = four_entries();
+    let pos = change_accepted::<Narrow>(&mut bytes, 5, false, 60).ok();
+    let mut wide = wide_pair();
+    let wide_pos = change_accepted::<Wide>(&mut wide, 1, false, 20).ok();
+    expect_eq!(rt;
+        (pos, bytes == four_entries(), wide_pos, wide == wide_pair()),
+        (Some(None), true, Some(None), true)
+    );
+}
+
 // Returns the length of the map at `root`.
 fn len_of<K: Element, V: Element, H, W: IndexWidth>(bytes: &[u8], root: u64) -> usize
     requires { Viewable (index_spec W.word (entry_spec K.spec V.spec)) bytes.now root }

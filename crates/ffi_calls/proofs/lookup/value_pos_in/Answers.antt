@@ -4,17 +4,17 @@ use Rattle.rkyv_scan.specs.{fx_hasher, generic_kind, low_halves}
 use Rattle.rkyv_base.specs.{entry_spec, pos_of_found, value_pos}
 use Rattle.rkyv_table.specs.{pos_found}
 use Rattle.rkyv_table.proofs.Moved.{moved}
-use Rattle.rkyv_collections.proofs.SealedMap.{as_read}
+use Rattle.rkyv_collections.proofs.SealedMap.{as_read, value_viewable}
 use Rattle.rkyv_keys.specs.{first_value, hash_at}
 use Rattle.rkyv_collections.specs.{MapRepresents, map_bytes, map_pos, map_root}
 use Rattle.ffi_calls.specs.{hash_by}
-use Rattle.ffi_calls.proofs.First.{found_placed, found_viewable}
+use Rattle.ffi_calls.proofs.First.{found_placed}
 use Rattle.ffi_calls.proofs.lookup.value_pos_in.Goals as goal
 
 pub returns-clause-viewable : goal.returns-clause-viewable
 returns-clause-viewable g c =
     let bytes = c.map_of.ensures.bytes in
-    found_viewable c.map_of.result c.args.archive.now bytes c.get.result c.found_pos.result c.found_pos.ensures c.get.ensures.walked
+    value_viewable c.map_of.result c.args.archive.now _ bytes c.map_of.ensures.pos c.get.result c.found_pos.result c.found_pos.ensures c.get.ensures.walked
 
 pub returns-clause-found : goal.returns-clause-found
 returns-clause-found g c =

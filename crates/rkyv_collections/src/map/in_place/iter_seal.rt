@@ -2,8 +2,8 @@
 //!
 //! - `next_with` passes the archive and the position of the next key or value to a closure.
 //!   Its contract also covers the cursor afterwards.
-//! - `next_pos` returns the position of the next key or value. `set_at` then writes a scalar there,
-//!   and `key_at` reads a key.
+//! - `next_pos` returns the position of the next key or value. `set_at` takes this position and
+//!   writes the value, a scalar. `key_at` reads a key.
 //! - `next_seal` returns a seal of the next value, and leaves the cursor afterwards unspecified.
 //!
 //! `map::in_place` has a table of all calls that write values.

@@ -3,7 +3,8 @@
 //! - `get_seal` returns a seal of the value, and `get_key_value_seal` also a view of the key.
 //! - `get_seal_with` and `get_key_value_seal_with` take a comparison.
 //!
-//! Take `found_with` of `map::in_place` if the contract must cover the bytes afterwards.
+//! Take `found_with` or `found_by` of `map::in_place` if the contract must cover the bytes
+//! afterwards.
 //! That module has a table of all calls that write values.
 //!
 //! A lookup in an untrusted map may read all of its control bytes.
@@ -110,6 +111,8 @@ impl<'a, K: KeyElement, V: Element, H: KeyHasher, W: Width> ArchivedHashMap<'a, 
     /// The archive is cut in two at the start of the value. The view is of the front,
     /// and the seal is at the start of the back.
     ///
+    /// The contract of `found_by` also covers the bytes of the archive afterwards.
+    ///
     /// # Requires
     ///
     /// - The archive has a valid map at the position of the seal.
@@ -185,6 +188,8 @@ impl<'a, K: KeyElement, V: Element, H: KeyHasher, W: Width> ArchivedHashMap<'a, 
     /// Returns a seal of the value of a key that the comparison accepts, or `None`.
     ///
     /// It looks up as `get_with` does.
+    ///
+    /// The contract of `found_by` also covers the bytes of the archive afterwards.
     ///
     /// # Requires
     ///

@@ -4,7 +4,8 @@
 //!   `get_full_seal` returns the index, too.
 //! - `get_seal_with`, `get_key_value_seal_with` and `get_full_seal_with` take a comparison.
 //!
-//! Take `found_with` of `map::in_place` if the contract must cover the bytes afterwards.
+//! Take `found_with` or `found_by` of `map::in_place` if the contract must cover the bytes
+//! afterwards.
 //! That module has a table of all calls that write values. `map::laws` has the laws of writes in
 //! place.
 //!
@@ -178,6 +179,8 @@ impl<'a, K: KeyElement, V: Element, H: KeyHasher, W: IndexWidth> ArchivedIndexMa
     /// The archive is cut in two at the start of the value. The view is of the front,
     /// and the seal is at the start of the back.
     ///
+    /// The contract of `found_by` also covers the bytes of the archive afterwards.
+    ///
     /// A lookup in an untrusted map may read all of its control bytes.
     ///
     /// # Requires
@@ -262,6 +265,8 @@ impl<'a, K: KeyElement, V: Element, H: KeyHasher, W: IndexWidth> ArchivedIndexMa
     /// The archive is cut in two at the start of the value. The view is of the front,
     /// and the seal is at the start of the back.
     ///
+    /// The contract of `found_by` also covers the bytes of the archive afterwards.
+    ///
     /// A lookup in an untrusted map may read all of its control bytes.
     ///
     /// # Requires
@@ -326,6 +331,8 @@ impl<'a, K: KeyElement, V: Element, H: KeyHasher, W: IndexWidth> ArchivedIndexMa
     /// Returns a seal of the value of a key that the comparison accepts, or `None`.
     ///
     /// It looks up as `get_with` does. The seal is over the whole archive.
+    ///
+    /// The contract of `found_by` also covers the bytes of the archive afterwards.
     ///
     /// A lookup in an untrusted map may read all of its control bytes.
     ///
