@@ -37,13 +37,11 @@ fn std_map<A: Eq + Hash + Copy, B: Copy>(
 pub fn build_std_u32(alloc: Global, keys: &[u32], values: &[u32], out: &mut [u8]) -> usize
     ensures { IsBuilt (StdMapsNumbers keys.now values.now) out.old out.new result }
 {
-    match std_map(alloc, keys, values) {
-        Ok(map) => {
-            let hashed: Hashed<HashMap<u32, u32>, FxHasher64> = Hashed::new(map);
-            build(alloc, &hashed, out)
-        }
-        Err(_) => 0,
-    }
+    let Ok(map) = std_map(alloc, keys, values) else {
+        return 0;
+    };
+    let hashed: Hashed<HashMap<u32, u32>, FxHasher64> = Hashed::new(map);
+    build(alloc, &hashed, out)
 }
 
 /// Deserializes a map of std, drops it, and returns its length, or 0 if an allocation fails.

@@ -45,9 +45,8 @@ pub fn build_text(
     requires { AreTexts bytes.now ends.now }
     ensures { IsBuilt (MapsTexts (texts bytes.now ends.now) values.now) out.old out.new result }
 {
-    let keys = match list(alloc, bytes, ends) {
-        Ok(keys) => keys,
-        Err(_) => return 0,
+    let Ok(keys) = list(alloc, bytes, ends) else {
+        return 0;
     };
     let pairs: Pairs<'_, &str, u32, FxHasher64> = Pairs::new(keys.as_slice(), values);
     build(alloc, &pairs, out)

@@ -28,10 +28,10 @@ fn symbol(line: &str) -> Option<(&str, u64)>
     if !has_symbol(line.as_bytes()) {
         return None;
     }
-    match u64::from_str_radix(&line[..16], 16) {
-        Ok(address) => Some((&line[19..], address)),
-        Err(_) => None,
-    }
+    let Ok(address) = u64::from_str_radix(&line[..16], 16) else {
+        return None;
+    };
+    Some((&line[19..], address))
 }
 
 /// Appends the symbol of a line, if it has one.

@@ -2,7 +2,7 @@
 ghost use Rattle.std.specs.Prelude.{IfSome, ◌≡◌, ◌≤◌};
 ghost use Rattle.example_symbols_program.specs.{command_of, least_count};
 
-/// What `--help` prints.
+/// The text that `--help` prints.
 pub const USAGE: &str = "usage: symbols COMMAND
 
   write TABLE INDEX    reads lines of nm from standard input, and writes a table of their names
@@ -14,8 +14,8 @@ pub const USAGE: &str = "usage: symbols COMMAND
                        and the error of the table without its last byte
   -h, --help           prints this text
 
-exit status: 0 if each name is found, 1 if a name isn't found, 2 if the command line has an unknown
-command or a wrong number of arguments, 3 if there is another error";
+exit status: 0 if each name is found or none is looked up, 1 if a name isn't found, 2 if the command
+line isn't one of these, 3 if there is another error";
 
 /// A command, without its arguments.
 #[derive(Clone, Copy, Debug, PartialEq, Eq)]

@@ -10,7 +10,7 @@ pub enum Outcome {
     Complete,
     /// A name wasn't found.
     Missing,
-    /// The command line has an unknown command, or a wrong number of arguments.
+    /// The command line isn't one of the usage.
     Misused,
 }
 
@@ -35,7 +35,7 @@ impl Outcome {
 /// |---|---|
 /// | 0 | each name was found, or the command looks up no name |
 /// | 1 | a name wasn't found |
-/// | 2 | the command line has an unknown command, or a wrong number of arguments |
+/// | 2 | the command line isn't one of the usage |
 /// | 3 | another error |
 pub fn exit_status(outcome: &Result<Outcome, SymbolsError>) -> u8
     ensures complete { outcome.now ≡ Ok Outcome.Complete → result ≡ 0 }

@@ -13,8 +13,8 @@ pub enum InspectError {
     /// The bytes aren't a valid archive of the expected type.
     #[error("{0}")]
     Invalid(VerifyError),
-    /// Keys or values of this type aren't supported.
-    #[error("keys or values of the type {0} aren't supported")]
+    /// Keys or values of this type aren't supported in this collection.
+    #[error("keys or values of the type {0} aren't supported in this collection")]
     Unsupported(ItemType),
     /// An allocation failed.
     #[error("no memory")]

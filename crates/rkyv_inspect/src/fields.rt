@@ -117,10 +117,10 @@ impl<W: Width> Field for Text<W> {
         ensures { result ≡ part_of_text W.word (bytes_of view.entry) (pos_of view.entry) }
     {
         let pos = view.pos();
-        match Text::<W>::check(view.bytes(), pos, PartRange { lo: 0, hi: pos }) {
-            Ok(rest) => part_before(rest.lo as usize, view.as_str().len()),
-            Err(_) => None,
-        }
+        let Ok(rest) = Text::<W>::check(view.bytes(), pos, PartRange { lo: 0, hi: pos }) else {
+            return None;
+        };
+        part_before(rest.lo as usize, view.as_str().len())
     }
 }
 

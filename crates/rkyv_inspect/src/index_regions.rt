@@ -57,10 +57,7 @@ fn entry_pos<K: Field, V: Field, H, W: IndexWidth>(
     ensures { result ≡ pair_pos W.word (entry_spec K.spec V.spec).size (index_bytes map.entry)
         (index_pos map.entry) index }
 {
-    match map.get_index(index) {
-        Some((key, _)) => key.pos() as usize,
-        None => unreachable!(),
-    }
+    map.get_index(index).unwrap().0.pos() as usize
 }
 
 /// Appends the regions of the entries, in order, and of the bytes before the first.

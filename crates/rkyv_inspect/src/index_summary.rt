@@ -25,10 +25,7 @@ fn key_at<'a, K: KeyElement, V: Element, H: KeyHasher, W: IndexWidth>(
     requires { index < index_len map }
     ensures { IsKeyOf map.entry index result }
 {
-    match map.get_index(index) {
-        Some((key, _)) => key,
-        None => unreachable!(),
-    }
+    map.get_index(index).unwrap().0
 }
 
 /// Returns the number of strides that a lookup of the key at an index of the map reads.

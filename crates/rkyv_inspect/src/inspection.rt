@@ -129,8 +129,9 @@ fn inspect_width<W: IndexWidth>(
 
 /// Validates an archive, and returns its numbers, the lookups of all keys, and its regions.
 ///
-/// The lookups are left out if they read more than `limit` strides of sixteen control bytes. By its
-/// code alone, the cost on an untrusted archive is bounded.
+/// `limit` is a number of strides of sixteen control bytes. `lookups` is `None` if the lookups of
+/// all keys read more. They stop then, so the time is bounded in an untrusted archive too. That
+/// they stop is no part of the contract.
 ///
 /// # Errors
 ///

@@ -8,7 +8,7 @@ ghost use Rattle.rkyv_inspect_program.specs.{name_of, type_named, value_of, whol
 
 use rkyv_container::{Contents, ItemType, Kind, Width};
 
-/// What `--help` prints.
+/// The text that `--help` prints.
 pub const USAGE: &str = "usage: inspect [OPTION ..] FILE
 
 Validates an archive of a map or a set, and prints its numbers, the strides that lookups of its
@@ -17,14 +17,14 @@ container.
 
   --kind KIND    FILE is a bare archive of this kind: hash-map, hash-set, index-map or index-set
   --key TYPE     the type of its keys: u32, u64 or text
-  --value TYPE   the type of its values, of a map alone: u32, u64 or text
-  --width BITS   the width of the archive: 32, which is taken without this option, or 64
+  --value TYPE   the type of its values, only for a map: u32, u64 or text
+  --width BITS   the width of the archive: 32 (the default) or 64
   --color        prints the bytes in colour
   --svg          prints a drawing of the fields alone, as SVG
   -h, --help     prints this text
 
-exit status: 0 if the archive is valid, 1 if it is invalid, 2 if the command line isn't one of
-these, 3 if there is another error";
+exit status: 0 if the archive is valid or this text is printed, 1 if the archive is invalid, 2 if
+the command line isn't one of these, 3 if there is another error";
 
 /// The name of an option.
 #[derive(Clone, Copy, Debug, PartialEq, Eq)]

@@ -3,8 +3,8 @@ use Rattle.std.specs.HashMap.{HashMap}
 use Rattle.std.specs.Map.{lookup}
 use Rattle.bench_calls.proofs.std_numbers.build_std_u32.Goals as goal
 
-pub returns-in-Ok : goal.returns-in-Ok
-returns-in-Ok c =
+pub returns : goal.returns
+returns c =
     let written = c.new-hashed.result.map in
     elim c.build.ensures [
       | inl h ↦ inl (

@@ -15,11 +15,11 @@ range_from-requires c = λ _.
     let is = symbol_layout c.args.line.now h in
     IsCharBoundary-after_ascii c.args.line.now 18 c.utf8.line (omega arith) (omega arith)
 
-pub returns-in-Err : goal.returns-in-Err
-returns-in-Err c =
+pub returns-in_default : goal.returns-in_default
+returns-in_default c =
     let h : has_symbol c.args.line.now ≡ true = grind (arith, nat_tests) in
     let is = symbol_layout c.args.line.now h in
     let digits : list_all is_ascii_hexdigit c.range.result.now ≡ true = grind (arith, common_steps) in
     let sixteen : length c.range.result.now ≡ 16 = grind (arith, common_steps) in
     let numeral = hexdigits_numeral c.range.result.now digits sixteen in
-    absurd (c.in-Err.ensures.value (subst (λ ds. IsNumeral 16 ds × (digits_value 16 ds < 2 ^ 64)) (sym numeral.0) (numeral.1, numeral.2)))
+    absurd (c.in_default.ensures.value (subst (λ ds. IsNumeral 16 ds × (digits_value 16 ds < 2 ^ 64)) (sym numeral.0) (numeral.1, numeral.2)))

@@ -42,9 +42,8 @@ pub(crate) fn write_row<W: IndexWidth, S: Writer, U: Archive<W>>(
 {
     let mut rest = resolvers.into_iter();
     for value in values {
-        let resolver = match rest.next() {
-            Some(resolver) => resolver,
-            None => unreachable!(),
+        let Some(resolver) = rest.next() else {
+            unreachable!()
         };
         value.resolve(resolver, serializer.pos(), scratch)?;
         append_in::<W, S>(serializer, scratch)?;

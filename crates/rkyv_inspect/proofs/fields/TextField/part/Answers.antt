@@ -2,8 +2,8 @@ use Rattle.std.proofs.Common.{ap, arith, length}
 use Rattle.rkyv_inspect.proofs.TextParts.{part_before_rest}
 use Rattle.rkyv_inspect.proofs.fields.TextField.part.Goals as goal
 
-pub returns-in-Ok : goal.returns-in-Ok
-returns-in-Ok g c =
+pub returns : goal.returns
+returns g c =
     let v = c.args.view in
     let passes = rw (c.bytes.ensures, c.pos-pos.ensures) at c.in-Ok.ensures in
     let inside = c.requires.inside in
