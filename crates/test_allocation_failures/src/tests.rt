@@ -1,6 +1,7 @@
 //! The tests, by the calls that they test.
 
 mod causes;
+mod controls;
 mod counts;
 mod dictionaries;
 mod index_maps;

@@ -2,14 +2,14 @@
 
 use rkyv_base::access::access;
 use rkyv_base::{
-    Narrow, NoMemory, ReadError, VecWriter, VerifyError, WriteError, append, to_bytes,
+    Narrow, NoMemory, ReadError, Text, VecWriter, VerifyError, WriteError, append, to_bytes,
 };
 use rkyv_index::{
     ArchivedIndexMap, ArchivedIndexSet, IndexMapOf, IndexSetOf, OrderedItems, OrderedPairs,
 };
 use rkyv_scan::FxHasher64;
 use std::alloc::Global;
-use test_support::archives::{four_entries, one_index_key};
+use test_support::archives::{archive, four_entries, one_index_key};
 
 // Returns the four pairs, or `None` if their list fails to allocate.
 fn four(alloc: Global) -> Option<Vec<(i8, i8)>> {
@@ -154,4 +154,61 @@ fn reading_lists_back_succeeds(rt: HostRuntime) {
     let pairs = matches!(pairs_back(rt.alloc()), Ok(Ok(true)));
     let items = matches!(items_back(rt.alloc()), Ok(Ok(true)));
     assert!(rt; pairs && items);
+}
+
+// Returns the index map of hello to a wonderful text, and of wonderful to world.
+//
+// Buckets from 0 on, controls from 12 on, out-of-line texts from 43 and 59 on, entries from 68 on,
+// header at 100.
+fn two_texts() -> [u8; 116] {
+    let table = archive::<43>(
+        &[
+            1, 0, 0, 0, 0, 0, 0, 0, 0, 0, 0, 0, 0xff, 0x6c, 0x65, 0xff, 0x6c, 0x65,
+        ],
+        &[],
+    );
+    let entries = archive::<57>(
+        b"a wonderful textwonderfulhello",
+        b"\x90\0\0\0\xdf\xff\xff\xff\x89\0\0\0\xe7\xff\xff\xffworld\xff\xff\xff",
+    );
+    let header = [
+        0xa8, 0xff, 0xff, 0xff, 2, 0, 0, 0, 3, 0, 0, 0, 0xd4, 0xff, 0xff, 0xff,
+    ];
+    archive(&archive::<100>(&table, &entries), &header)
+}
+
+// Returns whether these are the two pairs of texts, in this order.
+fn are_two_texts(pairs: &[(String, String)]) -> bool {
+    match pairs {
+        [first, second] => {
+            first.0.as_str() == "hello"
+                && first.1.as_str() == "a wonderful text"
+                && second.0.as_str() == "wonderful"
+                && second.1.as_str() == "world"
+        }
+        _ => false,
+    }
+}
+
+// Returns whether the two pairs of texts are read back from their archive, or the error.
+fn texts_back(alloc: Global) -> Result<Result<bool, ReadError>, VerifyError> {
+    let bytes = two_texts();
+    let root = ArchivedIndexMap::of(access::<IndexMapOf<Text, Text>>(&bytes)?);
+    let back: Result<Vec<(String, String)>, ReadError> = root.deserialize_pairs(alloc);
+    match back {
+        Ok(list) => Ok(Ok(are_two_texts(list.as_slice()))),
+        Err(e) => Ok(Err(e)),
+    }
+}
+
+#[test]
+fn list_of_texts_is_read_back_or_fails_to_allocate(rt: HostRuntime) {
+    let right = is_read_back_or_fails_to_allocate(texts_back(rt.alloc()));
+    assert!(rt; right);
+}
+
+#[test]
+fn reading_a_list_of_texts_back_succeeds(rt: HostRuntime) {
+    let whole = matches!(texts_back(rt.alloc()), Ok(Ok(true)));
+    assert!(rt; whole);
 }

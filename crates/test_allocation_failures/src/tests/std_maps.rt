@@ -1,14 +1,17 @@
-//! Maps of std that are archived, and read back.
+//! Maps and sets of std that are archived, and read back.
 
 use rkyv_base::access::access;
 use rkyv_base::{
-    Entry, NoMemory, ReadError, VecWriter, VerifyError, WriteError, Writer, write_root,
+    Entry, Narrow, NoMemory, ReadError, Text, VecWriter, VerifyError, WriteError, Writer,
+    write_root,
 };
-use rkyv_collections::{ArchivedHashMap, HashMapOf, Hashed};
+use rkyv_collections::std_maps::round_trip::{RoundTripError, round_trips_equal};
+use rkyv_collections::{ArchivedHashMap, ArchivedHashSet, HashMapOf, HashSetOf, Hashed};
 use std::alloc::{AllocError, Global};
-use std::collections::HashMap;
+use std::collections::{HashMap, HashSet};
 use std::hash::BuildHasherDefault;
-use test_support::archives::four_pairs;
+use test_support::archives;
+use test_support::archives::{archive, four_pairs};
 
 type Pairs = Hashed<HashMap<(u8, u8), Hashed<HashMap<u16, u16>>>>;
 
@@ -84,13 +87,18 @@ fn read_back(alloc: Global) -> Result<Result<bool, ReadError>, VerifyError> {
     }
 }
 
-#[test]
-fn map_is_read_back_or_fails_to_allocate(rt: HostRuntime) {
-    let right = match read_back(rt.alloc()) {
+// Returns whether all is read back, or an allocation fails.
+fn is_read_back_or_fails_to_allocate(back: Result<Result<bool, ReadError>, VerifyError>) -> bool {
+    match back {
         Ok(Ok(whole)) => whole,
         Ok(Err(cause)) => matches!(cause, ReadError::Memory),
         Err(_) => false,
-    };
+    }
+}
+
+#[test]
+fn map_is_read_back_or_fails_to_allocate(rt: HostRuntime) {
+    let right = is_read_back_or_fails_to_allocate(read_back(rt.alloc()));
     assert!(rt; right);
 }
 
@@ -98,4 +106,138 @@ fn map_is_read_back_or_fails_to_allocate(rt: HostRuntime) {
 fn reading_back_succeeds(rt: HostRuntime) {
     let whole = matches!(read_back(rt.alloc()), Ok(Ok(true)));
     assert!(rt; whole);
+}
+
+// Returns the control bytes and the header of a map or a set with the keys hello and wonderful.
+fn two_controls() -> [u8; 44] {
+    archive(
+        &[0xff, 0x6c, 0x65, 0xff, 0x6c, 0x65],
+        &[0, 0xe0, 0xff, 0xff, 0xff, 2, 0, 0, 0, 3, 0, 0, 0],
+    )
+}
+
+// Returns the map of hello to a wonderful text, and of wonderful to world.
+//
+// Out-of-line texts from 0 and 16 on, buckets from 28 on, controls from 76 on, header at 108.
+fn two_texts() -> [u8; 120] {
+    let buckets = archive::<76>(
+        b"a wonderful textwonderful\0\0\0\x89\0\0\0\xf4\xff\xff\xffworld",
+        b"hello\xff\xff\xff\x90\0\0\0\xcc\xff\xff\xff\0\0\0\0\0\0\0\0\0\0\0\0\0\0\0\0",
+    );
+    archive(&buckets, &two_controls())
+}
+
+// Returns whether the map of std that is read back has the two texts, or the error.
+fn texts_back(alloc: Global) -> Result<Result<bool, ReadError>, VerifyError> {
+    let bytes = two_texts();
+    let root = ArchivedHashMap::of(access::<HashMapOf<Text, Text>>(&bytes)?);
+    let back: Result<HashMap<String, String>, ReadError> = root.deserialize_std(
+        alloc,
+        BuildHasherDefault::new(),
+    );
+    match back {
+        Ok(map) => Ok(Ok(root.eq_std(&map))),
+        Err(e) => Ok(Err(e)),
+    }
+}
+
+#[test]
+fn map_of_texts_is_read_back_or_fails_to_allocate(rt: HostRuntime) {
+    let right = is_read_back_or_fails_to_allocate(texts_back(rt.alloc()));
+    assert!(rt; right);
+}
+
+#[test]
+fn reading_a_map_of_texts_back_succeeds(rt: HostRuntime) {
+    let whole = matches!(texts_back(rt.alloc()), Ok(Ok(true)));
+    assert!(rt; whole);
+}
+
+// Returns the set of hello and wonderful.
+//
+// The out-of-line text from 0 on, buckets from 12 on, controls from 36 on, header at 68.
+fn two_words() -> [u8; 80] {
+    let buckets = archive::<36>(
+        b"wonderful\0\0\0\x89\0\0\0\xf4\xff\xff\xffhello",
+        &[0, 0, 0, 0, 0, 0, 0, 0],
+    );
+    archive(&buckets, &two_controls())
+}
+
+// Returns whether the set of std that is read back has the two words, or the error.
+fn words_back(alloc: Global) -> Result<Result<bool, ReadError>, VerifyError> {
+    let bytes = two_words();
+    let root = ArchivedHashSet::of(access::<HashSetOf<Text>>(&bytes)?);
+    let back: Result<HashSet<String>, ReadError> = root.deserialize_std(
+        alloc,
+        BuildHasherDefault::new(),
+    );
+    match back {
+        Ok(set) => Ok(Ok(root.eq_std(&set))),
+        Err(e) => Ok(Err(e)),
+    }
+}
+
+#[test]
+fn set_of_texts_is_read_back_or_fails_to_allocate(rt: HostRuntime) {
+    let right = is_read_back_or_fails_to_allocate(words_back(rt.alloc()));
+    assert!(rt; right);
+}
+
+#[test]
+fn reading_a_set_of_texts_back_succeeds(rt: HostRuntime) {
+    let whole = matches!(words_back(rt.alloc()), Ok(Ok(true)));
+    assert!(rt; whole);
+}
+
+// Returns whether the map of std that is read back has the two maps, or the error.
+fn maps_back(alloc: Global) -> Result<Result<bool, ReadError>, VerifyError> {
+    let bytes = archives::two_maps();
+    let root = ArchivedHashMap::of(access::<HashMapOf<Entry<u8, u8>, HashMapOf<u16, u16>>>(
+        &bytes,
+    )?);
+    let back: Result<HashMap<(u8, u8), Hashed<HashMap<u16, u16>>>, ReadError> =
+        root.deserialize_std(alloc, BuildHasherDefault::new());
+    match back {
+        Ok(map) => Ok(Ok(root.eq_std::<(u8, u8), Hashed<HashMap<u16, u16>>, _>(&map))),
+        Err(e) => Ok(Err(e)),
+    }
+}
+
+#[test]
+fn map_of_maps_is_read_back_or_fails_to_allocate(rt: HostRuntime) {
+    let right = is_read_back_or_fails_to_allocate(maps_back(rt.alloc()));
+    assert!(rt; right);
+}
+
+#[test]
+fn reading_a_map_of_maps_back_succeeds(rt: HostRuntime) {
+    let whole = matches!(maps_back(rt.alloc()), Ok(Ok(true)));
+    assert!(rt; whole);
+}
+
+// Returns the result of the round trip of the map of 1337 to 42.
+// It is `None` if the map fails to allocate.
+fn round_trip(alloc: Global) -> Option<Result<bool, RoundTripError>> {
+    let map = one_number(alloc).ok()?;
+    Some(round_trips_equal::<Narrow, Hashed<HashMap<u16, u16>>>(alloc, &map))
+}
+
+#[test]
+fn round_trip_is_equal_or_fails_to_allocate(rt: HostRuntime) {
+    let right = match round_trip(rt.alloc()) {
+        Some(Ok(same)) => same,
+        Some(Err(RoundTripError::Write(WriteError::Memory))) => true,
+        Some(Err(RoundTripError::Write(WriteError::Writer(NoMemory)))) => true,
+        Some(Err(RoundTripError::Read(ReadError::Memory))) => true,
+        Some(Err(_)) => false,
+        None => true,
+    };
+    assert!(rt; right);
+}
+
+#[test]
+fn a_round_trip_succeeds(rt: HostRuntime) {
+    let same = matches!(round_trip(rt.alloc()), Some(Ok(true)));
+    assert!(rt; same);
 }
