@@ -131,6 +131,39 @@ fn values_of_entries_are_written_in_place(rt: HostRuntime) {
     );
 }
 
+// Writes the value of the entry at position 0 by a seal of the value. Returns the old value.
+fn value_sealed(bytes: &mut [u8], value: u32) -> Result<u32, VerifyError> {
+    let whole = access_mut::<Entry<u8, u32>>(bytes)?;
+    let mut seal = whole.value_seal::<u8, u32>(0);
+    let before = seal.to_native();
+    seal.set(value);
+    Ok(before)
+}
+
+#[test]
+fn the_value_of_an_entry_is_sealed(rt: HostRuntime) {
+    let mut bytes = [1, 0, 0, 0, 2, 0, 0, 0];
+    let before = value_sealed(&mut bytes, 16_909_060).ok();
+    expect_eq!(rt; (before, bytes), (Some(2), [1, 0, 0, 0, 4, 3, 2, 1]));
+}
+
+// The wide text is at position 8, behind a key of one byte and its padding.
+#[test]
+fn the_value_of_a_wide_entry_is_sealed(rt: HostRuntime) {
+    let mut bytes = *b"\x01\0\0\0\0\0\0\0wonderful\xff\xff\xff\xff\xff\xff\xff";
+    let whole = ArchiveSeal::<Entry<u8, Text<Wide>>>::new(&mut bytes, 0);
+    let mut seal = whole.value_seal::<u8, Text<Wide>>(0);
+    let uppercased = seal.make_ascii_uppercase();
+    drop(seal);
+    expect_eq!(rt;
+        (uppercased, bytes),
+        (
+            true,
+            *b"\x01\0\0\0\0\0\0\0WONDERFUL\xff\xff\xff\xff\xff\xff\xff"
+        )
+    );
+}
+
 #[test]
 fn a_value_is_written_behind_its_key(rt: HostRuntime) -> Result<(), Fail> {
     let mut bytes = to_bytes(rt.alloc(), &(1u32, 2u32))?;
