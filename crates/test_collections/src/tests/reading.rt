@@ -8,6 +8,9 @@ use crate::tests::opened::{Small, nested_map, small_map};
 use crate::tests::query_results::{counts, equal_maps, map_prints, number_of, small};
 use rkyv_base::access::access;
 use rkyv_base::{Entry, Narrow, Text, VerifyError, View, Wide, access_in};
+use rkyv_collections::map::laws::list_archives::{
+    scalars_found_are_listed, values_found_are_listed,
+};
 use rkyv_collections::map::laws::{
     clones_are_the_same, equal_maps_have_the_same_pairs, items_are_yielded, maps_are_compared,
     maps_are_laid_out, matched_keys_are_found, repeated_keys_are_misplaced,
@@ -169,6 +172,8 @@ fn a_key_of_two_texts_is_compared(rt: HostRuntime) {
 
 #[test]
 fn pairs_are_found_and_printed(rt: HostRuntime) {
+    values_found_are_listed::<i8, i8, i8, i8, i8, FxHasher64, Narrow>();
+    scalars_found_are_listed::<i8, i8, i8, i8, FxHasher64, Narrow>();
     let bytes = four_pairs();
     let found = [
         small(&bytes, 1),

@@ -12,6 +12,7 @@ use test_support::archives::{no_items, one_unit, set_in_a_map, three_keys, two_u
 
 #[test]
 fn a_set_is_read(rt: HostRuntime) {
+    laws::members_found_are_listed::<u8, u8, u8, FxHasher64, Narrow>();
     let three = three_keys();
     let none = no_items();
     let counts = [

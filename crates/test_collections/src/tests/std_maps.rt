@@ -243,6 +243,7 @@ fn maps_of_unequal_maps_are_unequal(rt: HostRuntime) {
     laws::std_maps_are_compared::<i8, i8, FxHasher64, Narrow, i8, i8, RandomState>();
     laws::std_values_are_compared::<i8, i8, FxHasher64, Narrow, i8, i8, RandomState>();
     laws::written_maps_are_equal::<Narrow, FxHasher64, i8, i8, RandomState>();
+    laws::written_maps_are_lists::<Narrow, FxHasher64, i8, i8, RandomState>();
     let equal = [equals_inner(rt.alloc(), 2), equals_inner(rt.alloc(), 3)];
     expect_eq!(rt; equal, [Some([true; 2]), Some([false; 2])]);
 }

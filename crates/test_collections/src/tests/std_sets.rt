@@ -205,6 +205,7 @@ fn equals_inner_set(alloc: Global, key: i8) -> Option<[bool; 2]> {
 fn maps_of_unequal_sets_are_unequal(rt: HostRuntime) {
     laws::std_sets_are_compared::<i8, FxHasher64, Narrow, i8, RandomState>();
     laws::written_sets_are_equal::<Narrow, FxHasher64, i8, RandomState>();
+    laws::written_sets_are_lists::<Narrow, FxHasher64, i8, RandomState>();
     let equal = [
         equals_inner_set(rt.alloc(), 2),
         equals_inner_set(rt.alloc(), 3),

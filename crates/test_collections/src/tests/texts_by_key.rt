@@ -5,6 +5,7 @@ use crate::tests::opened::is_text;
 use rkyv_base::access::access;
 use rkyv_base::{Narrow, Text, VerifyError};
 use rkyv_collections::map::in_place::text::make_ascii_uppercase_of;
+use rkyv_collections::map::laws::list_archives::texts_found_are_listed;
 use rkyv_collections::{FxHasher64, HashMapOf};
 use std::alloc::Global;
 use std::test::Fail;
@@ -40,6 +41,7 @@ fn uppercase_three(
 
 #[test]
 fn inline_text_is_uppercased_by_key(rt: HostRuntime) -> Result<(), Fail> {
+    texts_found_are_listed::<&str, &str, Text, FxHasher64, Narrow>();
     let mut bytes = texts(rt.alloc())?;
     expect_eq!(rt;
         uppercase_three(bytes.as_mut_slice()).ok(),

@@ -160,6 +160,7 @@ fn maps_and_sets_are_walked_by_for(rt: HostRuntime) {
 // bytes before the controls.
 #[test]
 fn pairs_are_walked_by_ascending_bucket(rt: HostRuntime) {
+    map_laws::walks_visit_each::<i8, i8, i8, i8, FxHasher64, Narrow>();
     let bytes = four_pairs();
     let pairs = pairs_of(&bytes).ok();
     let (a, b, c, d) = ((8, 9), (6, 7), (2, 3), (0, 1));
@@ -207,6 +208,7 @@ fn a_walk_over_the_empty_map_yields_nothing(rt: HostRuntime) {
 
 #[test]
 fn keys_of_a_set_are_walked_by_ascending_bucket(rt: HostRuntime) {
+    set_laws::walks_visit_each::<u8, u8, FxHasher64, Narrow>();
     let three = members::<u8>(&three_keys()).ok();
     let one_unit = members::<()>(&one_unit()).ok();
     expect_eq!(rt;
