@@ -5,6 +5,9 @@ use crate::tests::opened::{Small, small_map};
 use crate::tests::writing::narrow;
 use rkyv_base::access::access;
 use rkyv_base::{Element, Narrow, VerifyError, View, to_bytes};
+use rkyv_index::map::laws::list_archives::{
+    scalars_found_are_listed, texts_found_are_listed, values_found_are_listed,
+};
 use rkyv_index::map::laws::{
     clones_are_the_same, index_maps_are_laid_out, items_are_yielded, pairs_at_are_listed,
     walks_by_for_are_iterations, walks_visit_in_order,
@@ -25,6 +28,9 @@ fn a_key_is_found_with_its_index(rt: HostRuntime) -> Result<(), Fail> {
     items_are_yielded::<i8, i8>();
     pairs_at_are_listed::<i8, i8, i8, i8, FxHasher64, Narrow>();
     walks_visit_in_order::<i8, i8, i8, i8, FxHasher64, Narrow>();
+    values_found_are_listed::<i8, i8, i8, i8, i8, FxHasher64, Narrow>();
+    scalars_found_are_listed::<i8, i8, i8, i8, FxHasher64, Narrow>();
+    texts_found_are_listed::<i8, i8, i8, FxHasher64, Narrow>();
     let bytes = four_entries();
     let map = small_map(&bytes)?;
     let found = match map.get_full(&7) {

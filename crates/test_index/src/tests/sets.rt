@@ -8,8 +8,8 @@ use rkyv_base::access::access;
 use rkyv_base::{Narrow, NoMemory, VecWriter, VerifyError, WriteError};
 use rkyv_index::set::laws::{
     both_hashers_look_up_alike, clones_are_the_same, index_sets_are_laid_out, items_at_are_listed,
-    listed_items_are_written, ordered_items_are_written, walks_by_for_are_iterations,
-    walks_visit_in_order,
+    listed_items_are_written, members_found_are_listed, ordered_items_are_written,
+    walks_by_for_are_iterations, walks_visit_in_order,
 };
 use rkyv_index::{ArchivedIndexMap, ArchivedIndexSet, IndexSetOf};
 use rkyv_scan::FxHasher64;
@@ -27,6 +27,7 @@ fn one_item_is_written(rt: HostRuntime) -> Result<(), Fail> {
     ordered_items_are_written::<Narrow, i8, i8>();
     walks_visit_in_order::<i8, i8, FxHasher64, Narrow>();
     items_at_are_listed::<i8, i8, FxHasher64, Narrow>();
+    members_found_are_listed::<i8, i8, i8, FxHasher64, Narrow>();
     walks_by_for_are_iterations::<i8, FxHasher64, Narrow>();
     let alloc = rt.alloc();
     let bytes = set_archive(alloc, &[1])?;
