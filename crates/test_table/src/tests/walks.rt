@@ -31,6 +31,7 @@ fn walks(bytes: &[u8], items: &[u8]) -> Result<bool, VerifyError> {
 #[test]
 fn items_are_walked_by_ascending_bucket(rt: HostRuntime) {
     laws::positions_are_yielded::<u32>();
+    laws::walk_visits_homes();
     let sixteen = [2, 3, 4, 5, 6, 7, 8, 9, 10, 11, 12, 13, 14, 15, 16, 1];
     let walked = [
         walks(&two_archived(), &[20, 10]).ok(),

@@ -104,6 +104,9 @@ fn three_numbers_are_written(rt: HostRuntime) {
     laws::tables_are_laid_out::<Narrow, u32>();
     laws::tables_are_written_one_way::<Narrow, u32, u32>();
     laws::written::tables_represent_locally::<Narrow, u32, u32>();
+    laws::written::written_tables_represent::<Narrow, u32, u32>();
+    laws::written::written_tables_pass::<Narrow, u32, u32>();
+    laws::written::represented_lists_were_written::<Narrow, u32, u32>();
     let front = [3, 2, 1, 0, 0xff, 0x28, 0x51, 0x7a, 0xff, 0x28, 0x51, 0x7a];
     // a number of eight bits has the same hash with a sign and without
     let hashes = [hash_of_i8(1), hash_of_i8(2), hash_of_i8(3)];
