@@ -1,8 +1,12 @@
-//! Lookups, each from the start that is computed with the reciprocal of the capacity.
+//! Lookups, each from the start that is computed with the reciprocal of the capacity, and placing
+//! from a start.
 
 use crate::tests::archives::{SIXTEEN, archived};
 use rkyv_base::{Narrow, VerifyError, Wide, Width, access_in};
+use rkyv_scan::simd::generic;
+use rkyv_table::controls::place::place_from;
 use rkyv_table::controls::reciprocal::Reciprocal;
+use rkyv_table::controls::wrapped::check_wrapped;
 use rkyv_table::{ArchivedHashTable, Strides, TableOf};
 use std::test::Fail;
 
@@ -74,6 +78,25 @@ fn the_rest_of_a_division(rt: HostRuntime) {
             0
         ]
     );
+}
+
+// Places an item into three empty buckets. Its hash begins at bucket 1, and its tag is 0x29.
+// Returns its bucket, and whether the first control bytes are right.
+fn placed_from_a_start() -> Option<(usize, bool)> {
+    let mut controls = [0xffu8; 31];
+    match check_wrapped(&controls, 3) {
+        Ok(()) => {
+            let bucket = place_from::<generic::Group>(&mut controls, 3, 1, 0x5200_0000_0000_0000);
+            let written = controls[..7] == [0xff, 0x29, 0xff, 0xff, 0x29, 0xff, 0xff];
+            Some((bucket, written))
+        }
+        Err(_) => None,
+    }
+}
+
+#[test]
+fn an_item_is_placed_from_a_start(rt: HostRuntime) {
+    expect_eq!(rt; placed_from_a_start(), Some((1, true)));
 }
 
 // Of seventeen buckets the last one has the first item, and the first fifteen have the others.

@@ -6,6 +6,7 @@ use rkyv_base::access::access;
 use rkyv_base::{Element, Entry, Narrow, VerifyError};
 use rkyv_table::table::laws;
 use rkyv_table::table::list_inputs::{PairRefs, Refs, WithUnits};
+use rkyv_table::table::take::next_item;
 use rkyv_table::{ArchivedHashTable, RawIter, TableOf};
 use test_support::archives::{four_pairs, no_items, one_key_twice, two_units};
 
@@ -120,4 +121,16 @@ fn lists_are_yielded_in_order(rt: HostRuntime) {
         units.next().is_none(),
     ];
     expect_eq!(rt; yielded, [true; 6]);
+}
+
+#[test]
+fn the_next_item_is_taken(rt: HostRuntime) {
+    let list = [5u8, 6];
+    let mut items = Refs::of(&list);
+    let taken = [
+        matches!(next_item(&mut items), Some(&5)),
+        matches!(next_item(&mut items), Some(&6)),
+        next_item(&mut items).is_none(),
+    ];
+    expect_eq!(rt; taken, [true; 3]);
 }
