@@ -17,6 +17,7 @@ macro_rules! expect_eq {
 
 mod archives;
 mod errors;
+mod first_lines;
 mod lines;
 mod numbers;
 mod run_errors;
