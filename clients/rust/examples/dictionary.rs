@@ -62,11 +62,11 @@ const NUMERALS: [(&str, u32); 27] = [
 ];
 
 fn main() -> Result<(), Box<dyn Error>> {
-    let file = Temporary::new("numerals.map");
+    let file = Temporary::new("numerals.map")?;
     let archive = Builder::<str, u32>::from(NUMERALS).build(Width::Narrow)?;
     archive.write_container(Checksum::Adler32, File::create(&*file)?)?;
 
-    // SAFETY: the name of the file has the number of this process, so nobody else uses it.
+    // SAFETY: this process has created the file, and no other program opens it.
     let mapping = unsafe { Mapping::open(&file)? };
     let map = Map::open_container(BYTES.get_or_init(|| mapping))?;
     DICTIONARY.get_or_init(|| map);

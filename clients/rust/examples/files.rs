@@ -17,12 +17,12 @@ use mapping::{Mapping, MappingMut, Temporary};
 use rkyv_maps::{update_container, Builder, Checksum, Map, MapMut, Width};
 
 fn main() -> Result<(), Box<dyn Error>> {
-    let file = Temporary::new("visits.map");
+    let file = Temporary::new("visits.map")?;
     let visits = Builder::<str, u64>::from([("index.html", 10), ("about.html", 2)]);
     let archive = visits.build(Width::Narrow)?;
     archive.write_container(Checksum::Adler32, File::create(&*file)?)?;
 
-    // SAFETY: the name of the file has the number of this process, so nobody else uses it.
+    // SAFETY: this process has created the file, and no other program opens it.
     let mut bytes = unsafe { MappingMut::open(&file)? };
     let mut map = MapMut::<str, u64>::open_container(&mut bytes)?;
     for page in ["about.html", "index.html", "about.html", "missing.html"] {

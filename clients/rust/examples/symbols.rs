@@ -17,7 +17,7 @@ mod mapping;
 use std::error::Error;
 use std::fs::{self, File};
 use std::io::{self, BufRead, Write};
-use std::path::Path;
+use std::path::{Path, PathBuf};
 use std::process::ExitCode;
 
 use mapping::{Mapping, Temporary};
@@ -34,8 +34,8 @@ type Table<'a> = Map<'a, str, u64>;
 
 /// Writes the symbols of `nm`'s lines, `ADDRESS TYPE NAME`, to a file. Others have no address.
 ///
-/// A running program may have mapped the file. So the symbols are written to a file beside it, whose
-/// name has `.new` behind it, and that file is renamed.
+/// A running program may have mapped the file. So the symbols are written to a new file beside it,
+/// whose name has `.new` behind it, and that file is renamed. Fails if a file has that name.
 fn build(path: &Path, lines: impl BufRead) -> Result<usize, Box<dyn Error>> {
     let mut symbols = Builder::<str, u64>::new();
     for line in lines.lines() {
@@ -49,8 +49,10 @@ fn build(path: &Path, lines: impl BufRead) -> Result<usize, Box<dyn Error>> {
     let archive = symbols.build(Width::Narrow)?;
     let mut new = path.as_os_str().to_owned();
     new.push(".new");
-    File::create(&new)
-        .and_then(|file| archive.write_container(Checksum::Adler32, file))
+    let new = PathBuf::from(new);
+    let file = File::create_new(&new).map_err(|error| in_file(&new, error))?;
+    archive
+        .write_container(Checksum::Adler32, file)
         .and_then(|()| fs::rename(&new, path))
         .map_err(|error| {
             let _ = fs::remove_file(&new);
@@ -100,7 +102,7 @@ fn list(table: Table) -> io::Result<()> {
 fn run(words: &[&str]) -> Result<bool, Box<dyn Error>> {
     match words {
         [] => {
-            let file = Temporary::new("example.symbols");
+            let file = Temporary::new("example.symbols")?;
             println!("{} symbols", build(&file, LINES.as_bytes())?);
             with_table(&file, |table| find(table, &["main", "_start"]))
         }

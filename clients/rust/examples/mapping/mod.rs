@@ -123,13 +123,19 @@ impl DerefMut for MappingMut {
     }
 }
 
-/// The path of a temporary file, which is removed when this is dropped.
+/// A temporary file, which is removed when this is dropped.
 pub struct Temporary(PathBuf);
 
 impl Temporary {
-    /// A path in the folder of temporary files that no other process has.
-    pub fn new(name: &str) -> Self {
-        Temporary(env::temp_dir().join(format!("{}-{name}", process::id())))
+    /// Creates an empty file in the folder of temporary files. Its name begins with the number of
+    /// this process.
+    ///
+    /// # Errors
+    /// The file is already there, or can't be created.
+    pub fn new(name: &str) -> Result<Self> {
+        let path = env::temp_dir().join(format!("{}-{name}", process::id()));
+        File::create_new(&path)?;
+        Ok(Temporary(path))
     }
 }
 
