@@ -67,16 +67,25 @@ static rkyv_status put(rkyv_builder *builder, uint32_t kind, char *line) {
     }
 }
 
-/* Writes a file: the header of a container, which may be of no bytes, and an archive. */
+/* Writes a file: the header of a container, which may be of no bytes, and an archive. Prints the error
+ * and returns 0 if that fails. */
 static int written(const char *path, const uint8_t *header, size_t header_length,
                    const uint8_t *bytes, size_t length) {
     FILE *file = fopen(path, "wb");
     if (file == NULL) {
+        perror(path);
         return 0;
     }
-    size_t count = fwrite(header, 1, header_length, file);
-    count += fwrite(bytes, 1, length, file);
-    return fclose(file) == 0 && count == header_length + length;
+    int is_whole = fwrite(header, 1, header_length, file) == header_length
+                && fwrite(bytes, 1, length, file) == length;
+    if (!is_whole) {
+        perror(path);
+    }
+    if (fclose(file) != 0 && is_whole) {
+        perror(path);
+        return 0;
+    }
+    return is_whole;
 }
 
 /* Builds the archive of the pairs of all lines by a builder. */
@@ -195,9 +204,6 @@ int main(int count, char **words) {
     printf("%s\n", rkyv_status_name(status));
     int failed = status == RKYV_OK && !written(words[3], header, in_container ? sizeof header : 0,
                                                bytes, length);
-    if (failed) {
-        perror(words[3]);
-    }
     rkyv_bytes_free(bytes);
     return failed;
 }

@@ -344,15 +344,18 @@ static rkyv_status opened(void *bytes, size_t length, uint32_t kind, uint32_t wi
                         : rkyv_map_open_writable(bytes, length, kind, width, &map);
 }
 
-/* Reads a file. Returns null if that fails. */
+/* Reads a file. Prints the error and returns null if that fails. */
 static void *bytes_of(const char *path, size_t *length) {
     FILE *file = fopen(path, "rb");
     long size = file != NULL && fseek(file, 0, SEEK_END) == 0 ? ftell(file) : -1;
     void *bytes = size < 0 ? NULL : malloc(size != 0 ? (size_t)size : 1);
-    if (bytes != NULL) {
+    if (bytes == NULL) {
+        perror(path);
+    } else {
         rewind(file);
         *length = fread(bytes, 1, (size_t)size, file);
         if (*length != (size_t)size) {
+            fprintf(stderr, "%s: it can't be read whole\n", path);
             free(bytes);
             bytes = NULL;
         }
@@ -374,7 +377,6 @@ int main(int count, char **words) {
     uint32_t width = (uint32_t)strtoul(words[2], NULL, 10);
     void *bytes = bytes_of(words[3], &length);
     if (bytes == NULL) {
-        perror(words[3]);
         return 1;
     }
     rkyv_status status = opened(bytes, length, kind, width, in_container);
