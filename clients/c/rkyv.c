@@ -465,6 +465,11 @@ static const rkyv_map *map_of(const rkyv_index_map *map) {
     return map != NULL ? &map->map : NULL;
 }
 
+/* The handle that a call for index maps opens. */
+static rkyv_map *handle_of(rkyv_index_map *map) {
+    return map != NULL ? &map->map : NULL;
+}
+
 const char *rkyv_status_name(uint32_t status) {
     switch (status) {
     case RKYV_OK: return "RKYV_OK";
@@ -640,22 +645,22 @@ rkyv_status rkyv_map_open_container_writable(void *bytes, size_t length, uint32_
 
 rkyv_status rkyv_index_open(const void *bytes, size_t length, uint32_t kind, uint32_t width,
                             rkyv_index_map *map) {
-    return open_map(bytes, NULL, length, kind, width, true, map != NULL ? &map->map : NULL);
+    return open_map(bytes, NULL, length, kind, width, true, handle_of(map));
 }
 
 rkyv_status rkyv_index_open_writable(void *bytes, size_t length, uint32_t kind, uint32_t width,
                                      rkyv_index_map *map) {
-    return open_map(bytes, bytes, length, kind, width, true, map != NULL ? &map->map : NULL);
+    return open_map(bytes, bytes, length, kind, width, true, handle_of(map));
 }
 
 rkyv_status rkyv_index_open_container(const void *bytes, size_t length, uint32_t kind,
                                       uint32_t width, rkyv_index_map *map) {
-    return open_container(bytes, NULL, length, kind, width, true, map != NULL ? &map->map : NULL);
+    return open_container(bytes, NULL, length, kind, width, true, handle_of(map));
 }
 
 rkyv_status rkyv_index_open_container_writable(void *bytes, size_t length, uint32_t kind,
                                                uint32_t width, rkyv_index_map *map) {
-    return open_container(bytes, bytes, length, kind, width, true, map != NULL ? &map->map : NULL);
+    return open_container(bytes, bytes, length, kind, width, true, handle_of(map));
 }
 
 rkyv_status rkyv_map_explain(const void *bytes, size_t length, uint32_t kind, uint32_t width,
@@ -1175,7 +1180,7 @@ static rkyv_status build_archive(const void *items, size_t count, uint32_t kind,
 }
 
 /* Stores what was built. */
-static rkyv_status hand_out(rkyv_status status, built made, uint8_t **bytes, size_t *length) {
+static rkyv_status store_built(rkyv_status status, built made, uint8_t **bytes, size_t *length) {
     if (status == RKYV_OK) {
         *bytes = made.bytes;
         *length = made.length;
@@ -1228,7 +1233,7 @@ static rkyv_status build(const void *items, size_t count, layout of, uint32_t ki
     if (status == RKYV_OK) {
         status = build_archive(items, count, kind, width, &made);
     }
-    return hand_out(status, made, bytes, length);
+    return store_built(status, made, bytes, length);
 }
 
 rkyv_status rkyv_build_numbers(const rkyv_number_item *items, size_t count, uint32_t kind,
@@ -1424,7 +1429,7 @@ rkyv_status rkyv_builder_finish(rkyv_builder *builder, uint8_t **bytes, size_t *
     }
     rkyv_status status =
         build_archive(builder->items, builder->count, builder->kind, builder->width, &made);
-    return hand_out(status, made, bytes, length);
+    return store_built(status, made, bytes, length);
 }
 
 void rkyv_builder_free(rkyv_builder *builder) {
