@@ -219,7 +219,8 @@ impl fmt::Display for ErrorKind {
                 "the number of full buckets differs from the number of pairs"
             }
             ErrorKind::UnwrappedControlByte => {
-                "a mirrored control byte differs from the one that it mirrors"
+                "a mirrored control byte differs from the one that it mirrors, \
+                 or one after them is not empty"
             }
             ErrorKind::PlaceOutOfRange => {
                 "an index in the table is not less than the number of pairs"
