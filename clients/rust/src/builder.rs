@@ -9,9 +9,9 @@ use crate::error::check;
 use crate::raw::{self, Pair};
 use crate::types::sealed::Store;
 use crate::types::{index_kind, kind};
-#[cfg(doc)]
-use crate::ErrorKind;
-use crate::{Checksum, Error, IndexMap, IndexMapMut, Key, Map, MapMut, Number, Value, Width};
+use crate::{
+    Checksum, Error, ErrorKind, IndexMap, IndexMapMut, Key, Map, MapMut, Number, Value, Width,
+};
 
 /// The pairs of a map that is to be archived.
 ///
@@ -125,9 +125,9 @@ impl<K: Key + ?Sized, V: Value + ?Sized> Builder<K, V> {
     /// Builds the archive of the pairs as a map of the kind.
     fn archive(&self, kind: u32, width: Width) -> Result<Archive<K, V>, Error> {
         let mut items = Vec::new();
-        if items.try_reserve_exact(self.len()).is_err() {
-            check(raw::NO_MEMORY)?;
-        }
+        items
+            .try_reserve_exact(self.len())
+            .map_err(|_| ErrorKind::NoMemory)?;
         items.extend(self.pairs().map(|(key, value)| Pair {
             value: V::raw(value),
             key: K::raw(key),

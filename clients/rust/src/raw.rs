@@ -138,7 +138,6 @@ const _: () = {
 pub const OK: u32 = 0;
 pub const NOT_FOUND: u32 = 1;
 pub const UNKNOWN_KIND: u32 = 7;
-pub const NO_MEMORY: u32 = 12;
 
 /// The number of bytes of a container's header.
 pub const HEADER_LEN: usize = 32;

@@ -352,7 +352,7 @@ impl<K: ?Sized> AsRef<[u8]> for SetArchive<K> {
 impl<K: ?Sized> From<SetArchive<K>> for Vec<u8> {
     /// Copies the bytes and frees those of the C library.
     fn from(archive: SetArchive<K>) -> Vec<u8> {
-        archive.as_bytes().to_vec()
+        archive.archive.into()
     }
 }
 
