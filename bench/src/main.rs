@@ -7,11 +7,13 @@
 #![cfg_attr(feature = "older", allow(dead_code, unused_imports))]
 
 mod clock;
+mod common;
 mod fx;
 mod library;
 mod random;
 
 use clock::now;
+use common::{flags, median, numbers, sum, text_of, time_each, COUNTS, KEYS_A_VALUE, MISS, SIZES};
 use fx::BuildFx;
 use library::{Accepted, InStd, Keys, Numbers, Ordered, Texts};
 use random::{XorShift32, XorShift64};
@@ -20,11 +22,6 @@ use std::collections::HashMap;
 use std::hash::{BuildHasher, Hash, RandomState};
 use std::hint::black_box;
 use std::time::Duration;
-
-const MISS: u64 = 1 << 32;
-
-// The least number of keys for each measured time.
-const KEYS_A_VALUE: usize = 1_000_000;
 
 #[derive(Clone, Copy, PartialEq, Eq)]
 enum Measure {
@@ -68,19 +65,6 @@ const BY_SIZE: &[Measure] = &[
     Measure::Hits,
     Measure::Misses,
     Measure::Walk,
-];
-
-// The numbers of entries, each with a number of rounds.
-
-const COUNTS: &[(usize, usize)] = &[(1_000, 31), (100_000, 31), (1_000_000, 15)];
-
-const SIZES: &[(usize, usize)] = &[
-    (100, 15),
-    (1_000, 15),
-    (10_000, 15),
-    (100_000, 15),
-    (1_000_000, 7),
-    (10_000_000, 3),
 ];
 
 // The hashes of an index map's keys are those of a hash map's.
@@ -206,10 +190,6 @@ fn time<T>(times: usize, mut call: impl FnMut() -> T) -> (Duration, T) {
     ((now() - begin) / times as u32, answer.unwrap())
 }
 
-fn sum(terms: impl Iterator<Item = u64>) -> u64 {
-    terms.fold(0, u64::wrapping_add)
-}
-
 fn build_std<K: Eq + Hash, S: BuildHasher + Default>(
     keys: impl ExactSizeIterator<Item = K>,
     values: &[u32],
@@ -219,21 +199,6 @@ fn build_std<K: Eq + Hash, S: BuildHasher + Default>(
         map.insert(key, *value);
     }
     map
-}
-
-/// Returns the mean time of several builds in a row, and the result of the last one. Each build is
-/// timed by itself. Its result is dropped outside of that time, before the next build begins.
-fn time_build<T>(times: usize, mut build: impl FnMut() -> T) -> (Duration, T) {
-    let mut taken = Duration::ZERO;
-    let mut built = None;
-    for _ in 0..times {
-        drop(built.take());
-        let begin = now();
-        let answer = black_box(build());
-        taken += now() - begin;
-        built = Some(answer);
-    }
-    (taken / times as u32, built.unwrap())
 }
 
 fn measure_std<Q: Key, K, S: BuildHasher + Default>(
@@ -260,14 +225,14 @@ fn measure_std<Q: Key, K, S: BuildHasher + Default>(
                 let keys = black_box(work.key_list).iter().map(|key| key.own());
                 build_std::<Q::Owned, S>(keys, work.values)
             };
-            (time_build(times, build).0, count)
+            (time_each(times, build).0, count)
         }
         Measure::BuildBorrowed => {
             let build = || {
                 let keys = black_box(work.key_list).iter().copied();
                 build_std::<Q, S>(keys, work.values)
             };
-            (time_build(times, build).0, count)
+            (time_each(times, build).0, count)
         }
         Measure::Access => unreachable!("it has no counterpart"),
         Measure::Hits => time(times, || lookup(black_box(work.hit_list))),
@@ -295,8 +260,7 @@ fn measure_ours<Q, K: Keys>(
     match measure {
         Measure::Hash => time(times, || black_box(work.keys).hash()),
         Measure::Build | Measure::BuildBorrowed => {
-            let (duration, len) =
-                time_build(times, || black_box(work.keys).build(work.values, out));
+            let (duration, len) = time_each(times, || black_box(work.keys).build(work.values, out));
             assert!(out[..len] == *archive, "another archive was built");
             (duration, work.values.len() as u64)
         }
@@ -306,11 +270,6 @@ fn measure_ours<Q, K: Keys>(
         Measure::Walk => time(times, || K::walk(black_box(accepted))),
         Measure::ReadBack => time(times, || K::read_back(black_box(accepted)) as u64),
     }
-}
-
-fn median(mut times: Vec<Duration>) -> f64 {
-    times.sort();
-    times[times.len() / 2].as_nanos() as f64
 }
 
 fn run<Q: Key, K: Keys>(
@@ -400,15 +359,6 @@ fn run<Q: Key, K: Keys>(
     }
 }
 
-fn numbers(random: &mut XorShift32, count: usize) -> Vec<u32> {
-    (0..count).map(|_| random.next()).collect()
-}
-
-// Texts of 1 to 25 bytes: a number's digits, and up to 15 more bytes, by the number.
-fn text_of(number: u32) -> String {
-    format!("{number}{}", &"/path/of/a/file"[..number as usize % 16])
-}
-
 fn texts(numbers: &[u32]) -> Texts {
     let mut texts = Texts::new();
     for number in numbers {
@@ -444,14 +394,12 @@ fn run_other_maps(numbers: [Numbers; 3], lists: &[Vec<u32>; 3], values: &[u32], 
 }
 
 fn main() {
-    let given = |name: &str| std::env::args().any(|argument| argument == name);
-    let by_size = given("--sizes");
+    let [by_size, keeps] = flags(["--sizes", "--keep-memory"]);
     let (counts, of_numbers, of_texts) = if by_size {
         (SIZES, BY_SIZE, BY_SIZE)
     } else {
         (COUNTS, OF_NUMBERS, OF_TEXTS)
     };
-    let keeps = given("--keep-memory");
     if keeps {
         library::keep_memory();
     }

@@ -5,12 +5,14 @@
 
 #[path = "../../src/clock.rs"]
 mod clock;
+#[path = "../../src/common.rs"]
+mod common;
 #[path = "../../src/fx.rs"]
 mod fx;
 #[path = "../../src/random.rs"]
 mod random;
 
-use clock::now;
+use common::{flags, median, numbers, sum, text_of, time_each, COUNTS, KEYS_A_VALUE, MISS, SIZES};
 use fx::BuildFx;
 use random::{XorShift32, XorShift64};
 use rkyv_maps::{Builder, Key, Map, Width};
@@ -18,11 +20,6 @@ use std::collections::HashMap;
 use std::hash::{BuildHasher, Hash, RandomState};
 use std::hint::black_box;
 use std::time::Duration;
-
-const MISS: u64 = 1 << 32;
-
-// The least number of keys for each measured time.
-const KEYS_A_VALUE: usize = 1_000_000;
 
 #[derive(Clone, Copy, PartialEq, Eq)]
 enum Measure {
@@ -39,19 +36,6 @@ const MEASURES: [Measure; 5] = [
     Measure::Hits,
     Measure::Misses,
     Measure::Walk,
-];
-
-// The numbers of entries, each with a number of rounds.
-
-const COUNTS: &[(usize, usize)] = &[(1_000, 31), (100_000, 31), (1_000_000, 15)];
-
-const SIZES: &[(usize, usize)] = &[
-    (100, 15),
-    (1_000, 15),
-    (10_000, 15),
-    (100_000, 15),
-    (1_000_000, 7),
-    (10_000_000, 3),
 ];
 
 impl Measure {
@@ -79,25 +63,6 @@ struct Workload<'a, K: ?Sized> {
     hits: Vec<&'a K>,
     misses: Vec<&'a K>,
     values: &'a [u32],
-}
-
-/// Returns the mean time of several calls in a row, and the result of the last one. Results are
-/// dropped outside of that time.
-fn time<T>(times: usize, mut call: impl FnMut() -> T) -> (Duration, T) {
-    let mut taken = Duration::ZERO;
-    let mut answer = None;
-    for _ in 0..times {
-        drop(answer.take());
-        let begin = now();
-        let result = black_box(call());
-        taken += now() - begin;
-        answer = Some(result);
-    }
-    (taken / times as u32, answer.unwrap())
-}
-
-fn sum(terms: impl Iterator<Item = u64>) -> u64 {
-    terms.fold(0, u64::wrapping_add)
 }
 
 fn build_std<K, S>(work: &Workload<'_, K>) -> HashMap<K::Owned, u32, S>
@@ -131,17 +96,17 @@ fn measure_ours<K: Key + ?Sized>(
     let lookup = |list: &[&K]| sum(list.iter().map(|key| map.get(key).map_or(MISS, u64::from)));
     match measure {
         Measure::Build => {
-            let (taken, built) = time(times, || build_ours(work));
+            let (taken, built) = time_each(times, || build_ours(work));
             assert!(built == archive, "another archive was built");
             (taken, work.values.len() as u64)
         }
-        Measure::Open => time(times, || {
+        Measure::Open => time_each(times, || {
             let map = Map::<K, u32>::open(black_box(archive), Width::Narrow);
             map.expect("the archive is valid").len() as u64
         }),
-        Measure::Hits => time(times, || lookup(black_box(&work.hits))),
-        Measure::Misses => time(times, || lookup(black_box(&work.misses))),
-        Measure::Walk => time(times, || {
+        Measure::Hits => time_each(times, || lookup(black_box(&work.hits))),
+        Measure::Misses => time_each(times, || lookup(black_box(&work.misses))),
+        Measure::Walk => time_each(times, || {
             sum(black_box(map).iter().map(|(_, value)| u64::from(value)))
         }),
     }
@@ -164,21 +129,16 @@ where
     };
     match measure {
         Measure::Build => {
-            let (taken, built) = time(times, || build_std::<K, S>(work));
+            let (taken, built) = time_each(times, || build_std::<K, S>(work));
             (taken, built.len() as u64)
         }
         Measure::Open => unreachable!("it has no counterpart"),
-        Measure::Hits => time(times, || lookup(black_box(&work.hits))),
-        Measure::Misses => time(times, || lookup(black_box(&work.misses))),
-        Measure::Walk => time(times, || {
+        Measure::Hits => time_each(times, || lookup(black_box(&work.hits))),
+        Measure::Misses => time_each(times, || lookup(black_box(&work.misses))),
+        Measure::Walk => time_each(times, || {
             sum(black_box(map).values().map(|value| u64::from(*value)))
         }),
     }
-}
-
-fn median(mut times: Vec<Duration>) -> f64 {
-    times.sort();
-    times[times.len() / 2].as_nanos() as f64
 }
 
 fn run<K>(kind: &str, work: &Workload<'_, K>, rounds: usize)
@@ -243,17 +203,8 @@ where
     }
 }
 
-fn numbers(random: &mut XorShift32, count: usize) -> Vec<u32> {
-    (0..count).map(|_| random.next()).collect()
-}
-
-// Texts of 1 to 25 bytes: a number's digits, and up to 15 more bytes, by the number.
-fn text_of(number: &u32) -> String {
-    format!("{number}{}", &"/path/of/a/file"[..*number as usize % 16])
-}
-
 fn main() {
-    let by_size = std::env::args().any(|argument| argument == "--sizes");
+    let [by_size] = flags(["--sizes"]);
     println!("| keys | entries | measure | crate, ns | std SipHash, ns | std Fx, ns | crate / SipHash | crate / Fx |");
     println!("|---|--:|---|--:|--:|--:|--:|--:|");
     for (count, rounds) in if by_size { SIZES } else { COUNTS }.iter().copied() {
@@ -274,7 +225,7 @@ fn main() {
         run("u32", &work, rounds);
         let texts = lists
             .each_ref()
-            .map(|list| list.iter().map(text_of).collect::<Vec<_>>());
+            .map(|list| list.iter().copied().map(text_of).collect::<Vec<_>>());
         let [keys, hits, misses] = texts
             .each_ref()
             .map(|list| list.iter().map(String::as_str).collect());
