@@ -91,13 +91,13 @@ pub fn keep_memory() {
 
 /// The result of an allocation for the library: whether it succeeds, and the block.
 #[repr(C)]
-pub struct Tried {
+pub struct Block {
     is_there: bool,
     block: *mut c_void,
 }
 
-fn tried(block: *mut c_void) -> Tried {
-    Tried {
+fn block_of(block: *mut c_void) -> Block {
+    Block {
         is_there: !block.is_null(),
         block,
     }
@@ -107,9 +107,9 @@ fn tried(block: *mut c_void) -> Tried {
 // bytes takes as many as its alignment.
 
 #[unsafe(no_mangle)]
-extern "C" fn rattle_alloc(size: usize, align: usize) -> Tried {
+extern "C" fn rattle_alloc(size: usize, align: usize) -> Block {
     // SAFETY: `malloc` takes any size.
-    tried(unsafe { malloc(if size == 0 { align } else { size }) })
+    block_of(unsafe { malloc(if size == 0 { align } else { size }) })
 }
 
 #[unsafe(no_mangle)]
@@ -118,9 +118,9 @@ unsafe extern "C" fn rattle_realloc(
     _kept: usize,
     size: usize,
     align: usize,
-) -> Tried {
+) -> Block {
     // SAFETY: the library only passes blocks that these functions returned.
-    tried(unsafe { realloc(block, if size == 0 { align } else { size }) })
+    block_of(unsafe { realloc(block, if size == 0 { align } else { size }) })
 }
 
 #[unsafe(no_mangle)]
@@ -141,25 +141,25 @@ pub trait Keys {
     fn access(archive: &[u8]) -> usize;
 
     /// Returns the sum of the found values, plus 2^32 for each key that isn't found.
-    fn lookup(&self, archive: &Accepted<'_, Self>) -> u64;
+    fn lookup(&self, archive: &ValidArchive<'_, Self>) -> u64;
 
     /// Returns the sum of all pairs of an archive.
-    fn walk(archive: &Accepted<'_, Self>) -> u64;
+    fn walk(archive: &ValidArchive<'_, Self>) -> u64;
 
     /// Reads an archive back into a map of std's. Returns its number of entries.
-    fn read_back(archive: &Accepted<'_, Self>) -> usize;
+    fn read_back(archive: &ValidArchive<'_, Self>) -> usize;
 }
 
 /// A valid archive of a map with such keys.
-pub struct Accepted<'a, K: ?Sized> {
+pub struct ValidArchive<'a, K: ?Sized> {
     archive: &'a [u8],
     kind: std::marker::PhantomData<K>,
 }
 
-impl<'a, K: Keys> Accepted<'a, K> {
+impl<'a, K: Keys> ValidArchive<'a, K> {
     /// Returns the archive, if it is valid and its map has this length.
     pub fn new(archive: &'a [u8], len: usize) -> Option<Self> {
-        (K::access(archive) == len + 1).then_some(Accepted {
+        (K::access(archive) == len + 1).then_some(ValidArchive {
             archive,
             kind: std::marker::PhantomData,
         })
@@ -194,7 +194,7 @@ impl Keys for Numbers {
         unsafe { rkyv_bench_access_u32(archive.as_ptr(), archive.len()) }
     }
 
-    fn lookup(&self, archive: &Accepted<'_, Self>) -> u64 {
+    fn lookup(&self, archive: &ValidArchive<'_, Self>) -> u64 {
         let archive = archive.archive;
         // SAFETY: as above, and the archive is valid.
         unsafe {
@@ -207,12 +207,12 @@ impl Keys for Numbers {
         }
     }
 
-    fn walk(archive: &Accepted<'_, Self>) -> u64 {
+    fn walk(archive: &ValidArchive<'_, Self>) -> u64 {
         // SAFETY: as above, and the archive is valid.
         unsafe { rkyv_bench_walk_u32(archive.archive.as_ptr(), archive.archive.len()) }
     }
 
-    fn read_back(archive: &Accepted<'_, Self>) -> usize {
+    fn read_back(archive: &ValidArchive<'_, Self>) -> usize {
         // SAFETY: as above, and the archive is valid.
         unsafe { rkyv_bench_read_std_u32(archive.archive.as_ptr(), archive.archive.len()) }
     }
@@ -246,7 +246,7 @@ impl Keys for Ordered {
         unsafe { rkyv_bench_access_index_u32(archive.as_ptr(), archive.len()) }
     }
 
-    fn lookup(&self, archive: &Accepted<'_, Self>) -> u64 {
+    fn lookup(&self, archive: &ValidArchive<'_, Self>) -> u64 {
         let (archive, keys) = (archive.archive, &self.0 .0);
         // SAFETY: as above, and the archive is valid.
         unsafe {
@@ -254,12 +254,12 @@ impl Keys for Ordered {
         }
     }
 
-    fn walk(archive: &Accepted<'_, Self>) -> u64 {
+    fn walk(archive: &ValidArchive<'_, Self>) -> u64 {
         // SAFETY: as above, and the archive is valid.
         unsafe { rkyv_bench_walk_index_u32(archive.archive.as_ptr(), archive.archive.len()) }
     }
 
-    fn read_back(_archive: &Accepted<'_, Self>) -> usize {
+    fn read_back(_archive: &ValidArchive<'_, Self>) -> usize {
         unreachable!("no call reads an index map back")
     }
 }
@@ -267,10 +267,10 @@ impl Keys for Ordered {
 /// Numbers that become a map of std's, which is archived as a hash map.
 pub struct InStd(pub Numbers);
 
-impl<'a> Accepted<'a, InStd> {
+impl<'a> ValidArchive<'a, InStd> {
     /// Returns the same archive, as that of a hash map.
-    fn as_map(&self) -> Accepted<'a, Numbers> {
-        Accepted {
+    fn as_map(&self) -> ValidArchive<'a, Numbers> {
+        ValidArchive {
             archive: self.archive,
             kind: std::marker::PhantomData,
         }
@@ -301,15 +301,15 @@ impl Keys for InStd {
         Numbers::access(archive)
     }
 
-    fn lookup(&self, archive: &Accepted<'_, Self>) -> u64 {
+    fn lookup(&self, archive: &ValidArchive<'_, Self>) -> u64 {
         self.0.lookup(&archive.as_map())
     }
 
-    fn walk(archive: &Accepted<'_, Self>) -> u64 {
+    fn walk(archive: &ValidArchive<'_, Self>) -> u64 {
         Numbers::walk(&archive.as_map())
     }
 
-    fn read_back(archive: &Accepted<'_, Self>) -> usize {
+    fn read_back(archive: &ValidArchive<'_, Self>) -> usize {
         Numbers::read_back(&archive.as_map())
     }
 }
@@ -378,7 +378,7 @@ impl Keys for Texts {
         unsafe { rkyv_bench_access_text(archive.as_ptr(), archive.len()) }
     }
 
-    fn lookup(&self, archive: &Accepted<'_, Self>) -> u64 {
+    fn lookup(&self, archive: &ValidArchive<'_, Self>) -> u64 {
         // SAFETY: as above, and the archive is valid.
         unsafe {
             rkyv_bench_lookup_text(
@@ -392,12 +392,12 @@ impl Keys for Texts {
         }
     }
 
-    fn walk(archive: &Accepted<'_, Self>) -> u64 {
+    fn walk(archive: &ValidArchive<'_, Self>) -> u64 {
         // SAFETY: as above, and the archive is valid.
         unsafe { rkyv_bench_walk_text(archive.archive.as_ptr(), archive.archive.len()) }
     }
 
-    fn read_back(_archive: &Accepted<'_, Self>) -> usize {
+    fn read_back(_archive: &ValidArchive<'_, Self>) -> usize {
         unreachable!("no call reads a map of texts back")
     }
 }

@@ -15,7 +15,7 @@ mod random;
 use clock::now;
 use common::{flags, median, numbers, sum, text_of, time_each, COUNTS, KEYS_A_VALUE, MISS, SIZES};
 use fx::BuildFx;
-use library::{Accepted, InStd, Keys, Numbers, Ordered, Texts};
+use library::{InStd, Keys, Numbers, Ordered, Texts, ValidArchive};
 use random::{XorShift32, XorShift64};
 use std::borrow::Borrow;
 use std::collections::HashMap;
@@ -182,12 +182,12 @@ fn workload<'a, K, Q>(
 
 /// Returns the mean time of several calls in a row, and the result of the last one.
 fn time<T>(times: usize, mut call: impl FnMut() -> T) -> (Duration, T) {
-    let mut answer = None;
+    let mut result = None;
     let begin = now();
     for _ in 0..times {
-        answer = Some(black_box(call()));
+        result = Some(black_box(call()));
     }
-    ((now() - begin) / times as u32, answer.unwrap())
+    ((now() - begin) / times as u32, result.unwrap())
 }
 
 fn build_std<K: Eq + Hash, S: BuildHasher + Default>(
@@ -254,7 +254,7 @@ fn measure_ours<Q, K: Keys>(
     times: usize,
     work: &Workload<'_, K, Q>,
     archive: &[u8],
-    accepted: &Accepted<'_, K>,
+    valid: &ValidArchive<'_, K>,
     out: &mut [u8],
 ) -> (Duration, u64) {
     match measure {
@@ -265,10 +265,10 @@ fn measure_ours<Q, K: Keys>(
             (duration, work.values.len() as u64)
         }
         Measure::Access => time(times, || K::access(black_box(archive)) as u64),
-        Measure::Hits => time(times, || black_box(work.hits).lookup(accepted)),
-        Measure::Misses => time(times, || black_box(work.misses).lookup(accepted)),
-        Measure::Walk => time(times, || K::walk(black_box(accepted))),
-        Measure::ReadBack => time(times, || K::read_back(black_box(accepted)) as u64),
+        Measure::Hits => time(times, || black_box(work.hits).lookup(valid)),
+        Measure::Misses => time(times, || black_box(work.misses).lookup(valid)),
+        Measure::Walk => time(times, || K::walk(black_box(valid))),
+        Measure::ReadBack => time(times, || K::read_back(black_box(valid)) as u64),
     }
 }
 
@@ -281,10 +281,10 @@ fn run<Q: Key, K: Keys>(
     let count = work.values.len();
     let mut out = vec![0; 128 * count + 1024];
     let len = work.keys.build(work.values, &mut out);
-    assert!(len > 0, "the archive was refused");
+    assert!(len > 0, "the map isn't archived");
     let archive = out[..len].to_vec();
-    let accepted: Accepted<'_, K> =
-        Accepted::new(&archive, count).expect("the archive is accepted");
+    let valid: ValidArchive<'_, K> =
+        ValidArchive::new(&archive, count).expect("the archive is valid");
     let owned = || work.key_list.iter().map(|key| key.own());
     let sip: HashMap<Q::Owned, u32, RandomState> = build_std(owned(), work.values);
     let fx: HashMap<Q::Owned, u32, BuildFx> = build_std(owned(), work.values);
@@ -310,15 +310,13 @@ fn run<Q: Key, K: Keys>(
     for _ in 0..rounds {
         random.shuffle(&mut tasks);
         for (measure, contestant) in &tasks {
-            let (duration, answer) = match contestant {
-                Contestant::Ours => {
-                    measure_ours(*measure, times, work, &archive, &accepted, &mut out)
-                }
+            let (duration, result) = match contestant {
+                Contestant::Ours => measure_ours(*measure, times, work, &archive, &valid, &mut out),
                 Contestant::Sip => measure_std(*measure, times, work, &sip),
                 Contestant::Fx => measure_std(*measure, times, work, &fx),
             };
             let expected = match measure {
-                Measure::Hash if *contestant == Contestant::Sip => answer,
+                Measure::Hash if *contestant == Contestant::Sip => result,
                 Measure::Hash => hash_sum,
                 Measure::Build | Measure::BuildBorrowed | Measure::ReadBack => count as u64,
                 Measure::Access => count as u64 + 1,
@@ -326,7 +324,7 @@ fn run<Q: Key, K: Keys>(
                 Measure::Misses => MISS * count as u64,
                 Measure::Walk => walk_sum,
             };
-            assert_eq!(answer, expected, "{}: another answer", measure.name());
+            assert_eq!(result, expected, "{}: another result", measure.name());
             taken.push((*measure, *contestant, duration));
         }
     }

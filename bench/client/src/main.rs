@@ -166,7 +166,7 @@ where
     for _ in 0..rounds {
         random.shuffle(&mut tasks);
         for (measure, contestant) in &tasks {
-            let (duration, answer) = match contestant {
+            let (duration, result) = match contestant {
                 Contestant::Crate => measure_ours(*measure, times, work, &archive, map),
                 Contestant::Sip => measure_std(*measure, times, work, &sip),
                 Contestant::Fx => measure_std(*measure, times, work, &fx),
@@ -176,7 +176,7 @@ where
                 Measure::Hits | Measure::Walk => value_sum,
                 Measure::Misses => MISS * count as u64,
             };
-            assert_eq!(answer, expected, "{}: another answer", measure.name());
+            assert_eq!(result, expected, "{}: another result", measure.name());
             taken.push((*measure, *contestant, duration));
         }
     }
