@@ -2,17 +2,18 @@
  *
  *     build KIND WIDTH FILE [container] < PAIRS
  *
- * KIND is the number of a `rkyv_kind`. A pair is a line `VALUE KEY`, without spaces in the value. An
- * item of a set is a line with a space in front. A line has at most 65,535 bytes, and none is zero.
- * A key of 32 bits is taken modulo 4294967296. The file has the archive, or its container with a
- * checksum. The last status is printed. It is RKYV_TOO_LONG for a longer line, or for more than 2,048
- * lines if no builder is used. The file is written only if it is RKYV_OK. One that can't be written
- * whole is left in part.
+ * KIND is the number of a `rkyv_kind`. KIND and WIDTH are decimal numbers of 32 bits. A pair is a
+ * line `VALUE KEY`, without spaces in the value. An item of a set is a line with a space in front. A
+ * line has at most 65,535 bytes, and none is zero. A key of 32 bits is taken modulo 4294967296. The
+ * file has the archive, or its container with a checksum. The last status is printed. It is
+ * RKYV_TOO_LONG for a longer line, or for more than 2,048 lines if no builder is used. The file is
+ * written only if it is RKYV_OK. One that can't be written whole is left in part.
  *
- * The program exits with 1 if the lines can't be read or the file can't be written, with 2 if the
- * arguments are wrong, and else with 0. */
+ * The program exits with 1 if the lines can't be read or the file or standard output can't be
+ * written, with 2 if the arguments are wrong, and else with 0. */
 #include "rkyv.h"
 
+#include <errno.h>
 #include <stdio.h>
 #include <stdlib.h>
 #include <string.h>
@@ -181,14 +182,26 @@ static rkyv_status build_at_once(uint32_t kind, uint32_t width, uint8_t **bytes,
     return status;
 }
 
+/* Whether a word is a decimal number of 32 bits, which is stored. */
+static int is_number(const char *word, uint32_t *number) {
+    char *end;
+    errno = 0;
+    const unsigned long long value = strtoull(word, &end, 10);
+    if (*word < '0' || *word > '9' || *end != 0 || errno != 0 || value > UINT32_MAX) {
+        return 0;
+    }
+    *number = (uint32_t)value;
+    return 1;
+}
+
 int main(int count, char **words) {
+    uint32_t kind = 0, width = 0;
     int in_container = count == 5 && strcmp(words[4], "container") == 0;
-    if (count != 4 && !in_container) {
+    if ((count != 4 && !in_container) || !is_number(words[1], &kind)
+        || !is_number(words[2], &width)) {
         fprintf(stderr, "build KIND WIDTH FILE [container] < PAIRS\n");
         return 2;
     }
-    uint32_t kind = (uint32_t)strtoul(words[1], NULL, 10);
-    uint32_t width = (uint32_t)strtoul(words[2], NULL, 10);
     uint8_t header[RKYV_CONTAINER_HEADER] = {0}, *bytes = NULL;
     size_t length = 0;
     rkyv_status status = has_builder(kind) ? build(kind, width, &bytes, &length)
@@ -205,5 +218,9 @@ int main(int count, char **words) {
     int failed = status == RKYV_OK && !written(words[3], header, in_container ? sizeof header : 0,
                                                bytes, length);
     rkyv_bytes_free(bytes);
+    if (fflush(stdout) != 0 || ferror(stdout)) {
+        perror("standard output");
+        return 1;
+    }
     return failed;
 }

@@ -3,17 +3,19 @@
  *
  *     maps KIND WIDTH FILE [container] < COMMANDS
  *
- * KIND is the number of a `rkyv_kind`. The width of a container may be 0, for either width. A
- * command is a line `get KEY`, `set KEY VALUE`, `count` or `list`, and for an index map `at INDEX`.
- * Each but `list` prints its status and, if that is RKYV_OK, its result on a line. `list` prints a line
- * for each pair. An unknown command prints RKYV_NOT_FOUND. A key of 32 bits is taken modulo
- * 4294967296. `set` writes numbers, and doesn't change the file. A line has at most 65,535 bytes, and
- * none is zero. A longer line prints RKYV_TOO_LONG, and no further line is read.
+ * KIND is the number of a `rkyv_kind`. The width of a container may be 0, for either width. KIND and
+ * WIDTH are decimal numbers of 32 bits. A command is a line `get KEY`, `set KEY VALUE`, `count` or
+ * `list`, and for an index map `at INDEX`. Each but `list` prints its status and, if that is RKYV_OK,
+ * its result on a line. `list` prints a line for each pair. An unknown command prints RKYV_NOT_FOUND.
+ * A key of 32 bits is taken modulo 4294967296. `set` writes numbers, and doesn't change the file. A
+ * line has at most 65,535 bytes, and none is zero. A longer line prints RKYV_TOO_LONG, and no further
+ * line is read.
  *
- * The program exits with 1 if the file or the lines can't be read, with 2 if the arguments are wrong,
- * and else with 0. */
+ * The program exits with 1 if the file or the lines can't be read or standard output can't be
+ * written, with 2 if the arguments are wrong, and else with 0. */
 #include "rkyv.h"
 
+#include <errno.h>
 #include <stdio.h>
 #include <stdlib.h>
 #include <string.h>
@@ -366,15 +368,27 @@ static void *bytes_of(const char *path, size_t *length) {
     return bytes;
 }
 
+/* Whether a word is a decimal number of 32 bits, which is stored. */
+static int is_number(const char *word, uint32_t *number) {
+    char *end;
+    errno = 0;
+    const unsigned long long value = strtoull(word, &end, 10);
+    if (*word < '0' || *word > '9' || *end != 0 || errno != 0 || value > UINT32_MAX) {
+        return 0;
+    }
+    *number = (uint32_t)value;
+    return 1;
+}
+
 int main(int count, char **words) {
     size_t length = 0;
+    uint32_t kind = 0, width = 0;
     int in_container = count == 5 && strcmp(words[4], "container") == 0;
-    if (count != 4 && !in_container) {
+    if ((count != 4 && !in_container) || !is_number(words[1], &kind)
+        || !is_number(words[2], &width)) {
         fprintf(stderr, "maps KIND WIDTH FILE [container] < COMMANDS\n");
         return 2;
     }
-    uint32_t kind = (uint32_t)strtoul(words[1], NULL, 10);
-    uint32_t width = (uint32_t)strtoul(words[2], NULL, 10);
     void *bytes = bytes_of(words[3], &length);
     if (bytes == NULL) {
         return 1;
@@ -393,5 +407,9 @@ int main(int count, char **words) {
         printf("%s\n", rkyv_status_name(status));
     }
     free(bytes);
+    if (fflush(stdout) != 0 || ferror(stdout)) {
+        perror("standard output");
+        return 1;
+    }
     return 0;
 }

@@ -1095,15 +1095,18 @@ static void store_pairs(const rkyv_map *map, uint64_t from, void *pairs, size_t 
 }
 
 /* The body of a call that stores several pairs of a type. Texts of the caller's pairs may be null, but
- * not those of the library's. The last argument is a pair whose texts are not null. */
+ * not those of the library's. The library gets no more room than the map has pairs. The last argument
+ * is a pair whose texts are not null. */
 #define SEVERAL(map, check, kind, from, pair_type, ...)                                            \
     rkyv_status status = first(check(map, kind), check_room(pairs, sizeof *pairs, room, count));   \
     if (status == RKYV_OK) {                                                                       \
+        const size_t length = (map)->header.length;                                                \
+        const size_t most = room < length ? room : length;                                         \
         const pair_type none = __VA_ARGS__;                                                        \
-        for (size_t i = 0; has_texts(kind) && i < room; i++) {                                     \
+        for (size_t i = 0; has_texts(kind) && i < most; i++) {                                     \
             pairs[i] = none;                                                                       \
         }                                                                                          \
-        store_pairs(map, from, pairs, room, count);                                                \
+        store_pairs(map, from, pairs, most, count);                                                \
     }                                                                                              \
     return status
 
@@ -1201,7 +1204,10 @@ typedef struct layout {
 /* RKYV_OK if each of the items has texts that are not null and may be there. */
 static rkyv_status check_texts(const void *items, size_t count, layout of) {
     rkyv_status status = RKYV_OK;
-    for (size_t i = 0; i < count; i++) {
+    if (of.texts == 0) {
+        return RKYV_OK;
+    }
+    for (size_t i = 0; status == RKYV_OK && i < count; i++) {
         const uint8_t *at = (const uint8_t *)items + i * of.size + of.position;
         for (size_t k = 0; status == RKYV_OK && k < of.texts; k++) {
             text one;

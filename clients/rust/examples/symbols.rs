@@ -73,19 +73,20 @@ fn in_file(path: &Path, error: impl Error) -> String {
     format!("{}: {error}", path.display())
 }
 
-/// Prints the addresses of names, and whether each name is in the table.
-fn find<N: AsRef<str>>(table: Table, names: &[N]) -> bool {
+/// Prints the addresses of names, and returns whether each name is in the table.
+fn find<N: AsRef<str>>(table: Table, names: &[N]) -> io::Result<bool> {
     let mut all = true;
+    let mut out = io::stdout().lock();
     for name in names.iter().map(AsRef::as_ref) {
         match table.get(name) {
-            Some(address) => println!("{address:016x} {name}"),
+            Some(address) => writeln!(out, "{address:016x} {name}")?,
             None => {
                 eprintln!("{name}: no such symbol");
                 all = false;
             }
         }
     }
-    all
+    Ok(all)
 }
 
 /// Prints the symbols by ascending address.
@@ -103,15 +104,17 @@ fn run(words: &[&str]) -> Result<bool, Box<dyn Error>> {
     match words {
         [] => {
             let file = Temporary::new("example.symbols")?;
-            println!("{} symbols", build(&file, LINES.as_bytes())?);
-            with_table(&file, |table| find(table, &["main", "_start"]))
+            let count = build(&file, LINES.as_bytes())?;
+            writeln!(io::stdout().lock(), "{count} symbols")?;
+            let found = with_table(&file, |table| find(table, &["main", "_start"]))?;
+            Ok(found?)
         }
         ["build", file] => {
             let count = build(file.as_ref(), io::stdin().lock())?;
-            println!("{count} symbols");
+            writeln!(io::stdout().lock(), "{count} symbols")?;
             Ok(true)
         }
-        ["find", file, names @ ..] => with_table(file.as_ref(), |table| find(table, names)),
+        ["find", file, names @ ..] => Ok(with_table(file.as_ref(), |table| find(table, names))??),
         ["list", file] => {
             with_table(file.as_ref(), list)??;
             Ok(true)

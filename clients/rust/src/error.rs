@@ -34,13 +34,13 @@ pub struct Error {
 }
 
 impl Error {
-    /// The kind of the error.
+    /// Returns the kind of the error.
     pub fn kind(&self) -> ErrorKind {
         self.kind
     }
 
-    /// The position in the archive of the part that is not valid, if the error has one. It is
-    /// negative if the part is before the archive.
+    /// Returns the position in the archive of the part that is not valid, if the error has one. It
+    /// is negative if the part is before the archive.
     pub fn position(&self) -> Option<i64> {
         use ErrorKind::{InvalidValue, OutOfRange, Unaligned};
         match self.kind {
@@ -49,7 +49,8 @@ impl Error {
         }
     }
 
-    /// The numbers of the error, or `None` if it has none. If it has one number, the second is 0.
+    /// Returns the numbers of the error, or `None` if it has none. If it has one number, the second
+    /// is 0.
     ///
     /// | [`ErrorKind`] | Numbers |
     /// |---|---|

@@ -42,12 +42,12 @@ impl RawMap {
         },
     };
 
-    /// The number of pairs of an open map.
+    /// Returns the number of pairs of an open map.
     pub fn len(&self) -> usize {
         self.header.length
     }
 
-    /// Whether the archive of an open map is wide.
+    /// Returns `true` if the archive of an open map is wide.
     pub fn is_wide(&self) -> bool {
         self.width == 64
     }
@@ -75,7 +75,7 @@ impl RawText {
         }
     }
 
-    /// The text itself.
+    /// Returns the text itself.
     ///
     /// # Safety
     /// The text is one of an open map, whose bytes are borrowed for `'a`.

@@ -237,6 +237,8 @@ fn builders_keep_their_pairs() {
     let mut builder = Builder::<u32, u32>::with_capacity(3);
     assert!(builder.is_empty() && builder.capacity() >= 3);
     assert!(Builder::<str, u64>::with_capacity(30).capacity() >= 30);
+    builder.reserve(30);
+    assert!(builder.is_empty() && builder.capacity() >= 30);
     let empty = builder.build(Width::Narrow).unwrap();
     builder.push(&1, 2);
     let archive = builder.build(Width::Narrow).unwrap();

@@ -85,6 +85,8 @@ fn builders_take_owned_and_borrowed_items() {
     let mut builder = SetBuilder::<str>::with_capacity(3);
     assert!(builder.capacity() >= 3 && builder.is_empty());
     builder.push("a");
+    builder.reserve(30);
+    assert!(builder.capacity() >= 31 && builder.len() == 1);
     builder.extend([String::from("b")]);
     builder.extend(["a"]);
     assert_eq!(
