@@ -28,10 +28,10 @@ module _ {V R : Type 0} (align : ℕ) (f : Format V R) (v : V) (p : ℕ) where
 
 module _ {V R : Type 0} (s : ElementSpec) (f : Format V R) (v : V) (p : ℕ) where
   -- `step`: next step of writing a root of the element `s` after `front`. It is a step of the
-  -- value, the zeros or the fixed bytes. If the element has bytes, an allocation may fail first
+  -- value, the zeros or the fixed bytes. An allocation for more than 64 fixed bytes may fail first
   abbrev pub RootNext : List ℕ → Step → Type 0
   RootNext front step =
-      ((0 < s.size) × Only (failure no_memory) front step)
+      ((64 < s.size) × Only (failure no_memory) front step)
       ⊎ f.next v p front step
       ⊎ ((r : R) × f.parts v p front r
       × (step ≡ piece (zeros (padding s.align (p + length front)))))

@@ -12,7 +12,7 @@ use crate::errors::VerifyError;
 use std::marker::PhantomData;
 
 /// The greatest size of an element, in bytes.
-pub const LARGEST: usize = 1_073_741_824;
+pub const MAX_ELEMENT_SIZE: usize = 1_073_741_824;
 
 /// A key followed by a value, as in an archive.
 ///
@@ -44,7 +44,7 @@ pub fn value_offset<K: Element, V: Element>() -> usize
     rounded_up(K::size(), V::align())
 }
 
-/// Returns the size of an entry in bytes, even if it is greater than `LARGEST`.
+/// Returns the size of an entry in bytes, even if it is greater than `MAX_ELEMENT_SIZE`.
 #[inline]
 pub fn whole_size<K: Element, V: Element>() -> usize
     ensures { result ≡ whole_size K.spec V.spec }
@@ -63,7 +63,7 @@ impl<K: Element, V: Element> Element for Entry<K, V> {
     #[inline]
     fn size() -> usize {
         let whole = whole_size::<K, V>();
-        if whole <= LARGEST { whole } else { 0 }
+        if whole <= MAX_ELEMENT_SIZE { whole } else { 0 }
     }
 
     #[inline]
@@ -73,7 +73,7 @@ impl<K: Element, V: Element> Element for Entry<K, V> {
 
     #[inline]
     fn check(bytes: &[u8], pos: u64, range: PartRange) -> Result<PartRange, VerifyError> {
-        if whole_size::<K, V>() > LARGEST {
+        if whole_size::<K, V>() > MAX_ELEMENT_SIZE {
             return Err(VerifyError::Refused(0));
         }
         let offset = value_offset::<K, V>() as u64;

@@ -63,7 +63,7 @@ pub enum WriteError<F> {
     /// A distance to a part that was written doesn't fit in the width.
     #[error("distance too large")]
     DistanceTooLarge,
-    /// The length of a text is the width's limit of texts, or more.
+    /// A text has 2^30 bytes or more, or 2^62 or more in a wide archive.
     #[error("text too long")]
     TextTooLong,
     /// The writer failed. It may have written a prefix of the piece.
@@ -169,7 +169,7 @@ pub enum VerifyError {
         /// The length of the map.
         len: usize,
     },
-    /// The fixed bytes at this position, or its text, are not a valid value of their type.
+    /// The fixed bytes at this position, or the text to which they lead, are not a valid value.
     #[error("invalid value at {pos}")]
     InvalidValue {
         /// The position of the fixed bytes.

@@ -21,7 +21,7 @@ ghost use Rattle.rkyv_base.specs.declared.errors.WriteError.TheVariants as write
 use crate::adapter::EntryAdapter;
 use crate::archive::Archive;
 use crate::element::{HasSpec, Represents};
-use crate::entry::{Entry, LARGEST};
+use crate::entry::{Entry, MAX_ELEMENT_SIZE};
 use crate::errors::{
     DistanceTooLarge, IteratorLengthMismatch, ReadError, RoundTripError, WriteError,
 };
@@ -137,15 +137,17 @@ pub fn wide_distances_fit()
 
 /// States that the greatest size of an element is 1,073,741,824 bytes.
 pub fn largest_element()
-    ensures { LARGEST ≡ 1073741824 }
+    ensures { MAX_ELEMENT_SIZE ≡ 1073741824 }
 {}
 
 /// States the output of each writer: its first position, its bytes, and its count of failures.
 ///
-/// That of a `VecWriter` begins at position 0. A `LimitWriter` has the bytes of its inner writer,
-/// and a count of failures of its own.
+/// That of a `VecWriter` begins at position 0. The writer of a vector has its bytes, and counted no
+/// failure. A `LimitWriter` has the bytes of its inner writer, and a count of failures of its own.
 pub fn outputs_of_writers<S: Writer>()
     ensures memory { (w : _) → ⟦<VecWriter as Writer>⟧.output w ≡ vec_output w }
+    ensures of_vec { (v : _) (w : _) → ⟦<VecWriter as From<Vec<u8>>>⟧.from_gives v w
+        ↔ (w ≡ (v.items, 0)) }
     ensures limit { (w : _) → ⟦<LimitWriter<S> as Writer>⟧.output w ≡ limited S.output w }
 {}
 

@@ -44,7 +44,7 @@ pub use access::{
 pub use adapter::EntryAdapter;
 pub use archive::{Archive, ResolveResult, Serialize, WriteResult};
 pub use element::{Element, HasSpec, PartRange, Represents};
-pub use entry::{Entry, LARGEST, value_offset, whole_size};
+pub use entry::{Entry, MAX_ELEMENT_SIZE, value_offset, whole_size};
 pub use errors::{DistanceTooLarge, IteratorLengthMismatch, ReadError, VerifyError, WriteError};
 pub use lend::Lend;
 pub use limit::{LimitFault, LimitWriter};

@@ -78,7 +78,7 @@ impl<W: Writer> LimitWriter<W> {
     }
 
     // Passes a piece that fits in the rest of the limit to the inner writer.
-    fn hand_on(&mut self, bytes: &[u8]) -> Result<(), LimitFault<W::Fault>>
+    fn pass_on(&mut self, bytes: &[u8]) -> Result<(), LimitFault<W::Fault>>
         requires end { end_of (limited W.output self.old) + length bytes.now < 2 ^ 64 }
         requires fits { length bytes.now ≤ self.old.left }
         ensures counts { Counts W.output self.old self.new }
@@ -143,13 +143,13 @@ impl<W: Writer> Writer for LimitWriter<W> {
     {
         let left = self.left as usize;
         if bytes.len() <= left {
-            return self.hand_on(bytes);
+            return self.pass_on(bytes);
         }
         if left == 0 {
             self.count_failure();
             return Err(LimitFault::Full);
         }
-        self.hand_on(&bytes[..left])?;
+        self.pass_on(&bytes[..left])?;
         self.count_failure();
         Err(LimitFault::Full)
     }

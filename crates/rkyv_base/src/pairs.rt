@@ -9,7 +9,7 @@ ghost use Rattle.rkyv_base.specs.Lemmas.Pairs.{pair_local};
 
 use crate::archive::{Archive, ResolveResult, Serialize, WriteResult};
 use crate::element::{Element, Represents};
-use crate::entry::{Entry, LARGEST, value_offset, whole_size};
+use crate::entry::{Entry, MAX_ELEMENT_SIZE, value_offset, whole_size};
 use crate::errors::WriteError;
 use crate::width::Width;
 use crate::writer::Writer;
@@ -61,7 +61,7 @@ pub(crate) fn resolve_entry<W: Width, A: Archive<W>, B: Archive<W>>(
         (λ _. f.image (key.now, value.now) resolver pos out.new)
         (λ _. f.overflow (key.now, value.now) resolver pos) }
 {
-    if whole_size::<A::Archived, B::Archived>() > LARGEST {
+    if whole_size::<A::Archived, B::Archived>() > MAX_ELEMENT_SIZE {
         return Ok(());
     }
     let offset = value_offset::<A::Archived, B::Archived>();
@@ -82,7 +82,7 @@ pub(crate) fn serialize_entry<S: Writer, W: Width, A: Serialize<S, W>, B: Serial
         Serializes W.LIMIT f (key.now, value.now)
         (S.output serializer.old) (S.output serializer.new) result }
 {
-    if whole_size::<A::Archived, B::Archived>() > LARGEST {
+    if whole_size::<A::Archived, B::Archived>() > MAX_ELEMENT_SIZE {
         return Err(WriteError::Refused(0));
     }
     let key = key.serialize(alloc, serializer)?;

@@ -7,7 +7,7 @@
 //! 2. Zeros are written up to the alignment of the root.
 //! 3. The root's fixed bytes are written. Their position is the result of `write_root`.
 
-ghost use Rattle.std.specs.Prelude.{◌≡◌, ◌<◌, length, MatchResult};
+ghost use Rattle.std.specs.Prelude.{◌≡◌, length, MatchResult};
 ghost use Rattle.rkyv_base.specs.{ArchiveOf, ToBytesFails, WritesRoot, narrow_limit, root_format};
 
 use crate::archive::{Serialize, WriteResult};
@@ -15,14 +15,13 @@ use crate::element::Element;
 use crate::errors::WriteError;
 use crate::width::{Narrow, Width};
 use crate::writer::{NoMemory, VecWriter, Writer, align_for_in, append_in};
-use std::alloc::{AllocError, Global};
+use std::alloc::Global;
 
 /// Writes a value as the root of an archive of the width `W`, and returns its position.
 ///
 /// # Errors
 ///
-/// - `Memory`: the buffer for the root's fixed bytes could not be allocated.
-///   An element of size 0 needs none.
+/// - `Memory`: the root has more than 64 fixed bytes, and a buffer for them could not be allocated.
 /// - The error of serializing the value.
 /// - The error of appending zeros up to the root's alignment.
 /// - `DistanceTooLarge`: a distance from the root doesn't fit in the width.
@@ -38,10 +37,28 @@ pub fn write_root_in<W: Width, S: Writer, V: Serialize<S, W>>(
         (S.output serializer.old) (S.output serializer.new) result }
 {
     let size = <V::Archived as Element>::size();
-    let mut scratch = scratch_of(alloc, size)?;
+    if size <= 64 {
+        let mut out = [0u8; 64];
+        return write_root_by::<W, _, _>(alloc, value, &mut out[..size], serializer);
+    }
+    let mut out = vec![in alloc; 0u8; size]?;
+    write_root_by::<W, _, _>(alloc, value, out.as_mut_slice(), serializer)
+}
+
+// Writes a value as a root, with a buffer for the root's fixed bytes.
+#[inline]
+fn write_root_by<W: Width, S: Writer, V: Serialize<S, W>>(
+    alloc: Global,
+    value: &V,
+    out: &mut [u8],
+    serializer: &mut S,
+) -> WriteResult<u64, S>
+    requires room { length out.old ≡ V.Archived.spec.size }
+    ensures { WritesRoot W.LIMIT (root_format V.Archived.spec V.format) value.now
+        (S.output serializer.old) (S.output serializer.new) result }
+{
     let resolver = value.serialize(alloc, serializer)?;
     let root = align_for_in::<W, V::Archived, _>(serializer)?;
-    let out = scratch.as_mut_slice();
     value.resolve(resolver, root, out)?;
     append_in::<W, S>(serializer, out)?;
     Ok(root)
@@ -123,14 +140,4 @@ pub fn to_bytes<V: Serialize<VecWriter, Narrow>>(
         (ToBytesFails narrow_limit V.Archived.spec V.format value.now) }
 {
     to_bytes_in::<Narrow, V>(alloc, value)
-}
-
-// Returns a buffer of `size` bytes. An empty one is not allocated.
-fn scratch_of(alloc: Global, size: usize) -> Result<Vec<u8>, AllocError>
-    ensures { MatchResult result (λ buffer. length buffer.items ≡ size) (λ _. 0 < size) }
-{
-    if size == 0 {
-        return Ok(Vec::new(alloc));
-    }
-    vec![in alloc; 0u8; size]
 }

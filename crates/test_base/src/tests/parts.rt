@@ -1,7 +1,7 @@
 //! Tests of parts, entries and roots that are known to be valid.
 
 use rkyv_base::{
-    Archive, EntryResolver, LARGEST, Narrow, PartRange, access_in, access_unchecked,
+    Archive, EntryResolver, MAX_ELEMENT_SIZE, Narrow, PartRange, access_in, access_unchecked,
     distance_target, laws, part_in, whole_size,
 };
 
@@ -50,7 +50,7 @@ fn number_again(bytes: &[u8]) -> Option<u32> {
 #[test]
 fn entries_are_resolved(rt: HostRuntime) {
     let resolved = resolved(&(1, 2));
-    let is_small = whole_size::<u8, u32>() <= LARGEST;
+    let is_small = whole_size::<u8, u32>() <= MAX_ELEMENT_SIZE;
     let again = number_again(&[7, 0, 0, 0]);
     expect_eq!(rt;
         (resolved, is_small, again),

@@ -20,6 +20,26 @@ fn pairs_are_padded(rt: HostRuntime) {
     expect_eq!(rt; padded, [true; 3]);
 }
 
+// The buffer for up to 64 fixed bytes needs no memory; that for more is allocated.
+#[test]
+fn roots_of_64_and_of_72_bytes(rt: HostRuntime) {
+    let alloc = rt.alloc();
+    let eight = (((1u64, 2u64), (3u64, 4u64)), ((5u64, 6u64), (7u64, 8u64)));
+    let first = [
+        1, 0, 0, 0, 0, 0, 0, 0, 2, 0, 0, 0, 0, 0, 0, 0, 3, 0, 0, 0, 0, 0, 0, 0, 4, 0, 0, 0, 0, 0,
+        0, 0, 5, 0, 0, 0, 0, 0, 0, 0, 6, 0, 0, 0, 0, 0, 0, 0, 7, 0, 0, 0, 0, 0, 0, 0, 8, 0, 0, 0,
+        0, 0, 0, 0,
+    ];
+    let mut both = [0; 72];
+    both[..64].copy_from_slice(&first);
+    both[64] = 9;
+    let written = [
+        is_archived_as(alloc, &eight, &first),
+        is_archived_as(alloc, &(eight, 9u64), &both),
+    ];
+    expect_eq!(rt; written, [true; 2]);
+}
+
 // Returns the parts of a pair and of its inner pair, read in place.
 fn parts(bytes: &[u8]) -> Option<(u8, i32, bool)> {
     let root = access::<Entry<u8, Entry<i32, bool>>>(bytes).ok()?;

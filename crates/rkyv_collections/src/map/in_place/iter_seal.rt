@@ -20,7 +20,7 @@ ghost use Rattle.rkyv_collections.specs.{entries_in, entries_of, map_spec};
 
 use crate::map::{ArchivedHashMap, HashMapOf};
 use rkyv_base::{
-    ArchiveSeal, Element, Entry, LARGEST, Narrow, Scalar, Seal, View, Width, value_offset,
+    ArchiveSeal, Element, Entry, MAX_ELEMENT_SIZE, Narrow, Scalar, Seal, View, Width, value_offset,
     whole_size,
 };
 use rkyv_keys::valid_at;
@@ -91,7 +91,7 @@ impl<'a, K: Element, V: Element, H, W> IterMut<'a, K, V, H, W> {
         ensures takes { YieldsKeyPos K.spec V.spec (entries_in self.old) result
             (entries_in self.new) }
     {
-        if whole_size::<K, V>() > LARGEST {
+        if whole_size::<K, V>() > MAX_ELEMENT_SIZE {
             return None;
         }
         self.entries.next_pos()

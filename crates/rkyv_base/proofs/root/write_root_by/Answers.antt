@@ -2,7 +2,7 @@ use Rattle.std.proofs.Common.{arith}
 use Rattle.std.proofs.lemmas.Grind.{common_steps}
 use Rattle.std.proofs.lemmas.Result.{err_from_is_err_and}
 use Rattle.rkyv_base.proofs.RootWriting.{root_align_fails, root_append_fails, root_overflow_fails, root_wrote}
-use Rattle.rkyv_base.proofs.root.write_root_in.Goals as goal
+use Rattle.rkyv_base.proofs.root.write_root_by.Goals as goal
 
 pub returns-in_err-resolver : goal.returns-in_err-resolver
 returns-in_err-resolver g c = grind (arith, err_from_is_err_and)
