@@ -1,6 +1,6 @@
 //! Opening and sealing a container.
 //!
-//! - `seal` writes the header over the first 32 bytes.
+//! - `fill_header` writes the header over the first 32 bytes.
 //! - `open` returns the header and the archive, of any contents.
 //! - `open_as` also checks that the contents are the expected ones. Take it if they are known.
 
@@ -88,11 +88,11 @@ pub fn open_as(bytes: &[u8], expected: Contents) -> Result<&[u8], ContainerError
 /// ```rust
 /// let mut bytes = [0; 41];
 /// bytes[32..].copy_from_slice(b"Wikipedia");
-/// let header = seal(&mut bytes, names(), true);
+/// let header = fill_header(&mut bytes, names(), true);
 /// assert_eq!(rt; header, names_header());
 /// assert_eq!(rt; bytes, NAMES);
 /// ```
-pub fn seal(bytes: &mut [u8], contents: Contents, checked: bool) -> Header
+pub fn fill_header(bytes: &mut [u8], contents: Contents, checked: bool) -> Header
     requires { 32 ≤ length bytes.old }
     ensures header { result ≡ header_of contents (drop 32 bytes.old) checked }
     ensures container { IsContainer result (drop 32 bytes.old) bytes.new }

@@ -4,8 +4,8 @@
 //! the length of the archive, and its checksum if the writer asks for one. `open_as` opens
 //! no container of other contents. No function compares the contents with the archive itself.
 //!
-//! - To write, `seal` writes the header of an archive that follows room for it. `Header::new` and
-//!   `Header::to_bytes` are its two steps.
+//! - To write, `fill_header` writes a header over the first 32 bytes, which the caller has left
+//!   before the archive. `Header::new` and `Header::to_bytes` are its two steps.
 //! - To read, `open_as` returns the archive of a container with the expected contents. `open`
 //!   returns the header and the archive of any container.
 //!
@@ -22,7 +22,7 @@ pub mod header;
 pub mod laws;
 
 pub use checksum::adler32;
-pub use container::{open, open_as, seal};
+pub use container::{fill_header, open, open_as};
 pub use contents::{Contents, ItemType, Kind, Width};
 pub use errors::ContainerError;
 pub use header::{HEADER_LEN, Header, MAGIC, VERSION};

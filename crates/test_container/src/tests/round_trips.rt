@@ -1,7 +1,7 @@
 //! A written header is read back. A sealed container is opened as its own contents alone.
 ghost use Rattle.std.specs.Prelude.{IsTrue, length, ◌≡◌, ◌↔◌, ◌≤◌};
 
-use rkyv_container::{ContainerError, Contents, Header, open_as, seal};
+use rkyv_container::{ContainerError, Contents, Header, fill_header, open_as};
 
 // Returns the header that is read from the bytes of a header.
 fn read_back(header: Header) -> Result<Header, ContainerError>
@@ -15,7 +15,7 @@ fn opens_as(bytes: &mut [u8], sealed: Contents, checked: bool, expected: Content
     requires { 32 ≤ length bytes.old }
     ensures { IsTrue result ↔ (sealed ≡ expected) }
 {
-    seal(bytes, sealed, checked);
+    fill_header(bytes, sealed, checked);
     open_as(bytes, expected).is_ok()
 }
 

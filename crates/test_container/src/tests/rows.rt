@@ -1,6 +1,6 @@
 //! Worked rows: the bytes of containers, written down from the layout.
 use rkyv_container::header::header_constants;
-use rkyv_container::{Contents, Header, ItemType, Kind, Width, open, open_as, seal};
+use rkyv_container::{Contents, Header, ItemType, Kind, Width, fill_header, open, open_as};
 
 /// The header of the narrow hash map of `u32` with 1 to 2, which has 60 bytes, without a checksum.
 pub(crate) const NUMBERS: [u8; 32] = [
@@ -78,7 +78,7 @@ fn headers_are_read(rt: HostRuntime) {
 fn containers_are_sealed(rt: HostRuntime) {
     let mut bytes = [0; 41];
     bytes[32..].copy_from_slice(b"Wikipedia");
-    let header = seal(&mut bytes, names(), true);
+    let header = fill_header(&mut bytes, names(), true);
     assert_eq!(rt; header, names_header());
     assert_eq!(rt; bytes, NAMES);
 }
@@ -102,7 +102,7 @@ fn opens_as(bytes: &[u8], contents: Contents, archive: &[u8]) -> bool {
 #[test]
 fn containers_are_opened(rt: HostRuntime) {
     let mut empty = [0xff; 32];
-    let header = seal(&mut empty, numbers(), true);
+    let header = fill_header(&mut empty, numbers(), true);
     let opened = [
         opens(&NAMES, names_header(), b"Wikipedia"),
         opens_as(&NAMES, names(), b"Wikipedia"),
