@@ -22,6 +22,7 @@ pub mod controls;
 pub mod table;
 
 pub use controls::find::Strides;
+pub use table::decoded::Decoded;
 pub use table::raw_iter::RawIter;
 pub use table::raw_iter_seal::RawIterSeal;
 pub use table::resolve::HashTableResolver;

@@ -15,7 +15,7 @@ use rkyv_scan::{GroupKind, Marks};
 use std::marker::Model;
 
 /// A counter of the strides of sixteen control bytes that lookups read.
-#[derive(Drop)]
+#[derive(Debug, Drop)]
 pub struct Strides {
     count: u64,
 }
@@ -24,6 +24,15 @@ impl Model for Strides {
     ghost Value = { ℕ };
 
     ghost view = { λ s. s.count };
+}
+
+impl Default for Strides {
+    ghost is_default = { λ s. s ≡ 0 };
+
+    #[inline]
+    fn default() -> Self {
+        Strides::new()
+    }
 }
 
 impl Strides {

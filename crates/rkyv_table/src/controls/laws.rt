@@ -1,11 +1,12 @@
 //! Laws of probe sequences, walks and searches, and of written control bytes.
 ghost use Rattle.std.specs.Iterator.{YieldsFirst, item_count};
-ghost use Rattle.std.specs.Prelude.{List, ℕ, ◌≡◌};
+ghost use Rattle.std.specs.Prelude.{List, ℕ, ◌≡◌, ◌↔◌};
 ghost use Rattle.rkyv_table.specs.{BucketsAreProbed, FirstEmptyIsNextHome, FoundOnWritten};
 ghost use Rattle.rkyv_table.specs.{HomesAreFirstEmpty, HomesAreOneList, HomesExist};
 ghost use Rattle.rkyv_table.specs.{MarkedAreWalked, SearchIsBounded, StridesCover, StridesReadARow};
 ghost use Rattle.rkyv_table.specs.{SameSteps, WalkedAreFull, WrittenAreOneList, WrittenAreValid};
 
+use crate::controls::find::Strides;
 use crate::controls::probe::Probe;
 use crate::controls::walk::Walk;
 use rkyv_scan::GroupKind;
@@ -90,6 +91,11 @@ pub fn strides_are_yielded()
     ensures remain { (left : List ℕ)
         → ⟦<Probe as Iterator>⟧.remaining left ≡ item_count (λ s. s) left }
     ensures ready { (left : List ℕ) → ⟦<Probe as Iterator>⟧.can_next left }
+{}
+
+/// States that a default counter of strides has the count 0.
+pub fn counters_begin_at_zero()
+    ensures { (strides : _) → ⟦<Strides as Default>⟧.is_default strides ↔ (strides ≡ 0) }
 {}
 
 /// States that a search in valid control bytes ends within ceil(cap / 16) strides.

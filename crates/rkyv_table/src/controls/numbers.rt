@@ -6,17 +6,23 @@ ghost use Rattle.rkyv_table.specs.{IsCapacity, capacity_write_error, control_cou
 ghost use Rattle.rkyv_table.specs.{probe_capacity, start, tag};
 
 use rkyv_base::WriteError;
+use thiserror::Error;
 
-/// An error of `capacity`.
-#[derive(Debug, Clone, Copy, PartialEq, Eq)]
+/// The error of a capacity. The texts are those of the write errors that it becomes.
+#[derive(Clone, Copy, Debug, PartialEq, Eq, Error)]
 pub enum CapacityError {
     /// The load factor isn't a fraction above 0 and at most 1.
+    #[error("invalid load factor {numerator} / {denominator}, load factor must be a fraction in the range (0, 1]")]
     InvalidLoadFactor {
+        /// The numerator of the load factor.
         numerator: usize,
+        /// The denominator of the load factor.
         denominator: usize,
     },
-    /// The capacity for this length is above the limit.
+    /// The capacity of a table of this length is above the limit.
+    #[error("capacity too large for length {len}")]
     CapacityTooLarge {
+        /// The number of items.
         len: usize,
     },
 }

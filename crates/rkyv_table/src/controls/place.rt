@@ -85,6 +85,7 @@ pub fn place_from<G: GroupKind>(controls: &mut [u8], cap: usize, start: usize, h
 /// # Errors
 ///
 /// - `AllocError`: the list of buckets could not be allocated. The control bytes are unchanged.
+///   No hashes need no memory.
 pub fn place<G: GroupKind>(
     alloc: Global,
     controls: &mut [u8],

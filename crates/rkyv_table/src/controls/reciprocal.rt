@@ -3,7 +3,7 @@ ghost use Rattle.std.specs.Prelude.{◌%◌, ◌*◌, ◌+◌, ◌-◌, ◌/◌,
 
 /// A divisor and its reciprocal, which takes remainders without a division.
 #[repr(C)]
-#[derive(Clone, Copy)]
+#[derive(Clone, Copy, Debug)]
 pub struct Reciprocal {
     divisor: u64,
     // The quotient of 2^64 - 1 and the divisor.
@@ -40,7 +40,7 @@ impl Reciprocal {
 
     /// Returns the number modulo the divisor.
     #[inline]
-    pub fn rest(self, number: u64) -> u64
+    pub fn remainder(self, number: u64) -> u64
         ensures { result ≡ number % self.divisor }
     {
         // The quotient, or one less.

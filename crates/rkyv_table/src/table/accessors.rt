@@ -134,17 +134,8 @@ impl<'a, T: Element, W: Width> ArchivedHashTable<'a, T, W> {
     pub(crate) fn start(self, hash: u64) -> usize
         ensures { 0 < self.entry.header.cap → result ≡ hash % self.entry.header.cap }
     {
-        self.header.reciprocal.rest(hash) as usize
+        self.header.reciprocal.remainder(hash) as usize
     }
-}
-
-// The capacity, or 1 if there are no buckets.
-#[inline]
-fn divisor_of(cap: usize) -> u64
-    ensures some { 0 < result }
-    ensures same { 0 < cap → result ≡ cap }
-{
-    if cap == 0 { 1 } else { cap as u64 }
 }
 
 // Decodes the header of a table; takes one division.
@@ -156,17 +147,14 @@ fn decode<T: Element, W: Width>(view: View<'_, TableOf<T, W>>) -> Decoded
     let pos = view.pos();
     let header = read_header::<W>(view.bytes(), pos);
     let (len, cap) = (header.len as usize, header.cap as usize);
-    let reciprocal = Reciprocal::new(divisor_of(cap));
-    if cap == 0 {
-        return Decoded {
-            controls_pos: 0,
-            len,
-            cap,
-            reciprocal,
-        };
-    }
+    let reciprocal = Reciprocal::new((cap as u64).max(1));
+    let controls_pos = if cap == 0 {
+        0
+    } else {
+        controls_pos(pos, header)
+    };
     Decoded {
-        controls_pos: controls_pos(pos, header),
+        controls_pos,
         len,
         cap,
         reciprocal,

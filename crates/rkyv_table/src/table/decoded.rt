@@ -11,7 +11,7 @@ use crate::controls::reciprocal::Reciprocal;
 /// A table, map or set decodes its header once. Its lookups then take no division. A caller in C
 /// can keep it between calls.
 #[repr(C)]
-#[derive(Clone, Copy)]
+#[derive(Clone, Copy, Debug)]
 pub struct Decoded {
     // The position of the first control byte; without meaning if there are no buckets.
     pub(crate) controls_pos: usize,

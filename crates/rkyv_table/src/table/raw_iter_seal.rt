@@ -61,6 +61,9 @@ struct NextItem {
 /// While only items are written and stay valid, `next_pos`, `next_with` and `next_seal_with`
 /// return each item once. They return as many items as `len` says, and then `None`. The cursor
 /// is unspecified after `next_seal` has returned a seal, and after `bytes_mut`.
+///
+/// If control bytes are overwritten, the cursor may find no further full bucket. Its calls then
+/// return `None`, and `len` stays above 0.
 #[derive(Drop)]
 #[must_use]
 pub struct RawIterSeal<'a, T> {
@@ -100,7 +103,7 @@ impl<'a, T: Element> RawIterSeal<'a, T> {
         Some(NextItem { bucket, at })
     }
 
-    /// Returns the position of the next item, or `None` at the end.
+    /// Returns the position of the next item, or `None` if it finds none.
     #[inline]
     pub fn next_pos(&mut self) -> Option<u64>
         ensures archive { SameArchive self.old self.new }
@@ -114,7 +117,7 @@ impl<'a, T: Element> RawIterSeal<'a, T> {
         Some(first.at as u64)
     }
 
-    /// Returns a seal of the next item, or `None` at the end.
+    /// Returns a seal of the next item, or `None` if it finds none.
     ///
     /// The contract of `next_seal_with` also covers the items that remain.
     #[inline]

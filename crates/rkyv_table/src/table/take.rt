@@ -75,7 +75,7 @@ pub(crate) fn take_pairs<G: GroupKind, X: Drop, I: Iterator<Item = (u64, X)>>(
         let Some((hash, item)) = next_item(&mut rest) else {
             return Err(count);
         };
-        let start = reciprocal.rest(hash) as usize;
+        let start = reciprocal.remainder(hash) as usize;
         place_item::<G, X>(controls, slots, cap, start, hash, item);
     }
     match next_item(&mut rest) {

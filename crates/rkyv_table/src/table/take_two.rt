@@ -59,7 +59,7 @@ pub(crate) fn take_two<G: GroupKind, X: Drop, I: Iterator<Item = X>, J: Iterator
             }
             return Err(count_of_items);
         };
-        let start = reciprocal.rest(hash) as usize;
+        let start = reciprocal.remainder(hash) as usize;
         place_item::<G, X>(controls, slots, cap, start, hash, item);
     }
     match next_item(&mut rest) {

@@ -341,6 +341,7 @@ fn finds_a_candidate(rt: HostRuntime) -> Result<(), AllocError> {
     let table = Table::written::<lanes::Group>(rt.alloc(), 3, &[2, 2])?;
     let controls = table.controls.as_slice();
     laws::search_is_bounded();
+    laws::counters_begin_at_zero();
     laws::marked_are_walked();
     let found = [
         candidate(controls, table.cap, table.len, 2),

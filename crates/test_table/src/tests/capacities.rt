@@ -1,4 +1,4 @@
-//! The errors of capacities, by their text of `Debug`.
+//! The errors of capacities, by their texts.
 
 use rkyv_table::controls::numbers::{CapacityError, capacity};
 use std::alloc::Global;
@@ -37,4 +37,30 @@ fn errors_of_capacities_have_a_debug_text(rt: HostRuntime) {
     };
     let same = capacity(1, (8, 7), 2) == Err(error);
     expect_eq!(rt; (shown, same), ([true; 2], true));
+}
+
+// Returns whether an error is displayed as this text.
+fn is_displayed(alloc: Global, error: CapacityError, text: &str) -> bool {
+    matches!(format!(in alloc; "{error}"), Ok(shown) if shown.as_str() == text)
+}
+
+#[test]
+fn errors_of_capacities_are_displayed_as_write_errors(rt: HostRuntime) {
+    let alloc = rt.alloc();
+    let shown = [
+        is_displayed(
+            alloc,
+            CapacityError::InvalidLoadFactor {
+                numerator: 8,
+                denominator: 7,
+            },
+            "invalid load factor 8 / 7, load factor must be a fraction in the range (0, 1]",
+        ),
+        is_displayed(
+            alloc,
+            CapacityError::CapacityTooLarge { len: 9 },
+            "capacity too large for length 9",
+        ),
+    ];
+    assert_eq!(rt; shown, [true; 2]);
 }

@@ -236,6 +236,16 @@ fn starts_of_one_stride(bytes: &[u8]) -> usize {
 }
 
 #[test]
+fn the_usual_counter_counts_from_0(rt: HostRuntime) {
+    let strides = Strides::default();
+    let printed = matches!(
+        format!(in rt.alloc(); "{strides:?}"),
+        Ok(text) if text.as_str() == "Strides { count: 0 }"
+    );
+    expect_eq!(rt; (strides.count(), printed), (0, true));
+}
+
+#[test]
 fn sixteen_buckets_are_one_stride(rt: HostRuntime) {
     expect_eq!(rt; starts_of_one_stride(&fifteen_archived()), 16);
 }

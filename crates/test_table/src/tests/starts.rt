@@ -56,14 +56,14 @@ fn viewed_and_placed(
 #[test]
 fn the_rest_of_a_division(rt: HostRuntime) {
     let rests = [
-        Reciprocal::new(1).rest(u64::MAX),
-        Reciprocal::new(3).rest(u64::MAX),
-        Reciprocal::new(5).rest(5),
-        Reciprocal::new(7).rest(6),
-        Reciprocal::new(10).rest(u64::MAX),
-        Reciprocal::new(1 << 63).rest(u64::MAX),
-        Reciprocal::new(u64::MAX).rest(u64::MAX - 1),
-        Reciprocal::new(u64::MAX).rest(u64::MAX),
+        Reciprocal::new(1).remainder(u64::MAX),
+        Reciprocal::new(3).remainder(u64::MAX),
+        Reciprocal::new(5).remainder(5),
+        Reciprocal::new(7).remainder(6),
+        Reciprocal::new(10).remainder(u64::MAX),
+        Reciprocal::new(1 << 63).remainder(u64::MAX),
+        Reciprocal::new(u64::MAX).remainder(u64::MAX - 1),
+        Reciprocal::new(u64::MAX).remainder(u64::MAX),
     ];
     expect_eq!(rt;
         rests,

@@ -1,5 +1,5 @@
 use Rattle.rkyv_table.proofs.Reciprocals.{quotient_below, rest_below, rest_is, rest_less}
-use Rattle.rkyv_table.proofs.controls.reciprocal.Reciprocal.rest.Goals as goal
+use Rattle.rkyv_table.proofs.controls.reciprocal.Reciprocal.remainder.Goals as goal
 use Rattle.std.proofs.Common.{arith}
 use Rattle.std.proofs.lemmas.Grind.{common_steps}
 
