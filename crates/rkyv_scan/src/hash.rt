@@ -31,8 +31,8 @@ pub trait KeyHasher: Default + Drop {
     /// Feeds the bytes without their number: two writes may hash as one write of both joined.
     ///
     /// Feeds the whole words of eight bytes first, each in little-endian order.
-    /// Up to three words follow, for the remaining bytes: four, two and one of them,
-    /// each fed if the remaining length has that bit.
+    /// Of the remaining bytes, the first four are one word if there are four, the next two
+    /// if there are two more, and the last one if one is left.
     fn write(&mut self, bytes: &[u8])
         ensures { self.new ≡ hasher.feed self.old (Bytes bytes.now) };
 
