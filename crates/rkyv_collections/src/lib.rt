@@ -34,6 +34,7 @@ pub use map::write::HashMapResolver;
 pub use map::{ArchivedHashMap, HashMapOf};
 pub use rkyv_keys::keys::{KeyElement, NativeKey, NativeQuery, Query};
 pub use rkyv_scan::hash::{FxHasher64, FxHasher64Wide, KeyHasher};
+pub use rkyv_table::Decoded;
 pub use set::write::HashSetResolver;
 pub use set::{ArchivedHashSet, HashSetOf};
 pub use std_maps::equality::EqArchived;

@@ -26,10 +26,7 @@ use std::marker::PhantomData;
 
 /// The header of a hash map of `K` to `V` under the hasher `H`, in an archive of the width `W`.
 pub struct HashMapOf<K, V, H = FxHasher64, W = Narrow> {
-    key: PhantomData<K>,
-    value: PhantomData<V>,
-    hasher: PhantomData<H>,
-    width: PhantomData<W>,
+    kinds: PhantomData<(K, V, H, W)>,
 }
 
 /// A hash map of `K` to `V` under the hasher `H` that is read in an archive of the width `W`.

@@ -19,9 +19,7 @@ use std::marker::PhantomData;
 
 /// The header of a hash set of `K` under the hasher `H`, in an archive of the width `W`.
 pub struct HashSetOf<K, H = FxHasher64, W = Narrow> {
-    key: PhantomData<K>,
-    hasher: PhantomData<H>,
-    width: PhantomData<W>,
+    kinds: PhantomData<(K, H, W)>,
 }
 
 /// A hash set of `K` under the hasher `H` that is read in an archive of the width `W`.

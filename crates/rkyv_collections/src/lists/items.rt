@@ -19,6 +19,7 @@ use std::marker::PhantomData;
 /// A list of items that is archived as a set under the hasher `H` and a load factor.
 ///
 /// The items are inserted in order, and equal items are kept. A lookup finds the first of them.
+/// Two lists are equal if their items and load factors are.
 ///
 /// # Examples
 ///
@@ -30,14 +31,16 @@ use std::marker::PhantomData;
 /// }
 /// ```
 #[derive_where(Clone, Copy)]
+#[derive_where(Debug, Eq, PartialEq; A)]
 pub struct SetItems<'a, A, H = FxHasher64> {
     items: &'a [A],
     load_factor: (usize, usize),
+    #[derive_where(skip)]
     hasher: PhantomData<H>,
 }
 
 impl<'a, A> SetItems<'a, A> {
-    /// Returns the list under the usual hasher and the load factor 7 / 8.
+    /// Returns the list under `FxHasher64` and the load factor 7 / 8.
     #[inline]
     pub fn new(items: &'a [A]) -> SetItems<'a, A>
         ensures items { result.items.now ≡ items.now }

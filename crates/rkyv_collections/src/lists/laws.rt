@@ -1,6 +1,7 @@
 //! Laws of the lists, over their definitions alone.
 
-ghost use Rattle.std.specs.Prelude.{◌≡◌, ◌↔◌};
+ghost use Rattle.std.specs.Cmp.Lexicographic.{pointwise};
+ghost use Rattle.std.specs.Prelude.{◌&&◌, ◌≡◌, ◌↔◌};
 
 use crate::lists::{MapPairs, SetItems};
 
@@ -21,4 +22,23 @@ where
     ensures same { (list clone : _) →
         ⟦<SetItems<'a, A, H> as Clone>⟧.is_clone list clone ↔ (clone ≡ list) }
     ensures infallible { (list : _) → ⟦<SetItems<'a, A, H> as Clone>⟧.is_infallible list }
+{}
+
+/// States that lists of pairs are equal if their pairs are, in order, and their load factors.
+pub fn pair_lists_are_compared<'a, A: PartialEq, B: PartialEq, H>()
+where
+    A: 'a,
+    B: 'a,
+    ensures { (x y : _) → ⟦<MapPairs<'a, A, B, H> as PartialEq>⟧.eq x y
+        ≡ (pointwise ⟦<(A, B) as PartialEq>⟧.eq x.pairs.now y.pairs.now
+        && ⟦<(usize, usize) as PartialEq>⟧.eq x.load_factor y.load_factor) }
+{}
+
+/// States that lists of items are equal if their items are, in order, and their load factors.
+pub fn item_lists_are_compared<'a, A: PartialEq, H>()
+where
+    A: 'a,
+    ensures { (x y : _) → ⟦<SetItems<'a, A, H> as PartialEq>⟧.eq x y
+        ≡ (pointwise A.eq x.items.now y.items.now
+        && ⟦<(usize, usize) as PartialEq>⟧.eq x.load_factor y.load_factor) }
 {}

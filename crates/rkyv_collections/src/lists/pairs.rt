@@ -19,7 +19,7 @@ use std::marker::PhantomData;
 /// A list of pairs that is archived as a map under the hasher `H` and a load factor.
 ///
 /// The pairs are inserted in order, and pairs with equal keys are kept. A lookup finds
-/// the first of them.
+/// the first of them. Two lists are equal if their pairs and load factors are.
 ///
 /// # Examples
 ///
@@ -28,14 +28,16 @@ use std::marker::PhantomData;
 /// to_bytes(alloc, &list)
 /// ```
 #[derive_where(Clone, Copy)]
+#[derive_where(Debug, Eq, PartialEq; A, B)]
 pub struct MapPairs<'a, A, B, H = FxHasher64> {
     pairs: &'a [(A, B)],
     load_factor: (usize, usize),
+    #[derive_where(skip)]
     hasher: PhantomData<H>,
 }
 
 impl<'a, A, B> MapPairs<'a, A, B> {
-    /// Returns the list under the usual hasher and the load factor 7 / 8.
+    /// Returns the list under `FxHasher64` and the load factor 7 / 8.
     #[inline]
     pub fn new(pairs: &'a [(A, B)]) -> MapPairs<'a, A, B>
         ensures pairs { result.pairs.now ≡ pairs.now }

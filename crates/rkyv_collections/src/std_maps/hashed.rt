@@ -32,6 +32,7 @@ use std::marker::PhantomData;
 /// }
 /// ```
 #[derive(Drop)]
+#[derive_where(Clone, Copy; M)]
 pub struct Hashed<M, H = FxHasher64> {
     pub(crate) map: M,
     hasher: PhantomData<H>,

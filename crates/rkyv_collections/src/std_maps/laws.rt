@@ -179,6 +179,14 @@ pub fn hashed_values_are_compared<M: PartialEq, H>()
     ensures { (x y : _) → ⟦<Hashed<M, H> as PartialEq>⟧.eq x y ≡ M.eq x.map y.map }
 {}
 
+/// States that a clone of a wrapped value wraps a clone of it, and fails only if that clone does.
+pub fn hashed_values_are_cloned<M: Clone, H>()
+    ensures clones { (x clone : _) →
+        ⟦<Hashed<M, H> as Clone>⟧.is_clone x clone ↔ M.is_clone x.map clone.map }
+    ensures infallible { (x : _) →
+        ⟦<Hashed<M, H> as Clone>⟧.is_infallible x ↔ M.is_infallible x.map }
+{}
+
 /// States which errors deserializing a map of std can return.
 ///
 /// Memory could not be allocated, and the map is not empty, or a key or a value has the error,

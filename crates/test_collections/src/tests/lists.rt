@@ -1,8 +1,12 @@
 //! Tests of lists of items that are archived as sets.
 
 use crate::tests::opened::key_set;
+use crate::tests::round_trip::prints;
 use rkyv_base::{NoMemory, VerifyError, WriteError, to_bytes};
-use rkyv_collections::lists::laws::{item_clones_are_the_same, pair_clones_are_the_same};
+use rkyv_collections::lists::laws::{
+    item_clones_are_the_same, item_lists_are_compared, pair_clones_are_the_same,
+    pair_lists_are_compared,
+};
 use rkyv_collections::{MapPairs, SetItems};
 use rkyv_scan::FxHasher64;
 use std::alloc::Global;
@@ -107,4 +111,40 @@ fn a_copy_of_a_list_is_archived_alike(rt: HostRuntime) {
     item_clones_are_the_same::<u8, FxHasher64>();
     pair_clones_are_the_same::<u8, u8, FxHasher64>();
     expect_eq!(rt; copied(rt.alloc(), &[1, 2, 3]), Some((true, (3, 3, [true, false]))));
+}
+
+#[test]
+fn lists_are_compared_by_items_and_load_factor(rt: HostRuntime) {
+    pair_lists_are_compared::<u8, u8, FxHasher64>();
+    item_lists_are_compared::<u8, FxHasher64>();
+    let list: MapPairs<'_, u8, u8> = MapPairs::new(&[(1, 2), (3, 4)]);
+    let items: SetItems<'_, u8> = SetItems::new(&[1, 2]);
+    let equal = [
+        list == MapPairs::new(&[(1, 2), (3, 4)]),
+        list == MapPairs::new(&[(1, 2), (3, 5)]),
+        list == MapPairs::with_load_factor(&[(1, 2), (3, 4)], (1, 2)),
+        items == SetItems::new(&[1, 2]),
+        items == SetItems::new(&[2, 1]),
+        items == SetItems::with_load_factor(&[1, 2], (1, 2)),
+    ];
+    expect_eq!(rt; equal, [true, false, false, true, false, false]);
+}
+
+#[test]
+fn lists_print_their_items_and_load_factor(rt: HostRuntime) {
+    let list: MapPairs<'_, u8, u8> = MapPairs::new(&[(1, 2)]);
+    let items: SetItems<'_, u8> = SetItems::with_load_factor(&[3, 4], (1, 2));
+    let printed = [
+        prints(
+            rt.alloc(),
+            &list,
+            "MapPairs { pairs: [(1, 2)], load_factor: (7, 8), .. }",
+        ),
+        prints(
+            rt.alloc(),
+            &items,
+            "SetItems { items: [3, 4], load_factor: (1, 2), .. }",
+        ),
+    ];
+    expect_eq!(rt; printed, [true; 2]);
 }

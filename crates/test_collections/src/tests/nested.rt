@@ -2,7 +2,8 @@
 
 use crate::tests::archives::is_map_archive;
 use rkyv_base::access::access;
-use rkyv_base::{Entry, VecWriter, VerifyError, WriteError, write_root};
+use rkyv_base::{Entry, Narrow, VecWriter, VerifyError, WriteError, write_root};
+use rkyv_collections::map::laws::nested::value_writes_are_nested;
 use rkyv_collections::{ArchivedHashMap, HashMapOf, MapPairs};
 use std::alloc::Global;
 use test_support::archives::{one_pair, two_maps};
@@ -70,6 +71,7 @@ fn a_value_that_fails_ends_the_write(rt: HostRuntime) {
 
 #[test]
 fn two_maps_are_read(rt: HostRuntime) {
+    value_writes_are_nested::<i8, HashMapOf<i8, i8>, Narrow>();
     expect_eq!(rt; reads(&two_maps()).ok(), Some((2, [true, true, false])));
 }
 

@@ -78,8 +78,8 @@ fn lookups_in_both_widths(rt: HostRuntime) -> Result<(), Fail> {
     Ok(())
 }
 
-// Returns whether a value prints as `text`.
-fn prints<M: Debug>(alloc: Global, value: &M, text: &str) -> bool {
+/// Returns whether a value prints as `text`.
+pub(crate) fn prints<M: Debug>(alloc: Global, value: &M, text: &str) -> bool {
     matches!(format!(in alloc; "{value:?}"), Ok(shown) if shown.as_str() == text)
 }
 
