@@ -35,7 +35,7 @@ pub use map::write::resolve::IndexMapResolver;
 pub use map::{ArchivedIndexMap, IndexMapOf};
 pub use rkyv_keys::keys::{KeyElement, NativeKey, NativeQuery, Query};
 pub use rkyv_scan::hash::{FxHasher64, FxHasher64Wide, KeyHasher};
-pub use rkyv_table::Strides;
+pub use rkyv_table::{Decoded, Strides};
 pub use set::write::IndexSetResolver;
 pub use set::{ArchivedIndexSet, IndexSetOf};
 pub use width::IndexWidth;

@@ -39,8 +39,8 @@ use std::alloc::Global;
 ///     Ok(to_bytes(alloc, &list)?)
 /// }
 /// ```
-#[derive(Drop)]
-pub struct OrderedPairs<K, V>(pub Vec<(K, V)>);
+#[derive(Debug, Drop, Eq, PartialEq)]
+pub struct OrderedPairs<A, B>(pub Vec<(A, B)>);
 
 impl<W: IndexWidth, A, B, K: KeyElement + Represents<A>, V: Represents<B>> Represents<
     OrderedPairs<A, B>,
@@ -121,8 +121,8 @@ where
 ///     Ok(to_bytes(alloc, &list)?)
 /// }
 /// ```
-#[derive(Drop)]
-pub struct OrderedItems<K>(pub Vec<K>);
+#[derive(Debug, Drop, Eq, PartialEq)]
+pub struct OrderedItems<A>(pub Vec<A>);
 
 impl<W: IndexWidth, A, K: KeyElement + Represents<A>> Represents<OrderedItems<A>>
     for IndexSetOf<K, FxHasher64, W> {

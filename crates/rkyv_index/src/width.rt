@@ -13,7 +13,7 @@ use rkyv_base::{Narrow, Scalar, Wide, Width};
 /// A width whose numbers can be indices of entries.
 ///
 /// The code of an encoded number is that number.
-pub trait IndexWidth: Width {
+pub trait IndexWidth: Width<Place = Self::Index> {
     /// The element of an index in an index map: a number of one word.
     type Index: Scalar;
 

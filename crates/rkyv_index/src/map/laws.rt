@@ -4,6 +4,7 @@
 //! deserialized lists and writes of one value in place.
 //! `written` is about the bytes of written index maps, `list_archives` about root index maps, and
 //! `nested` about writes in a map or index map that is a value.
+ghost use Rattle.std.specs.Cmp.Lexicographic.{pointwise};
 ghost use Rattle.std.specs.Int.{w32};
 ghost use Rattle.std.specs.Prelude.{◌↔◌, ◌≡◌};
 ghost use Rattle.rkyv_base.specs.{SameSpec, SameValues, entry_spec};
@@ -126,6 +127,12 @@ pub fn index_maps_are_compared<K: ElementEq, V: ElementEq, H, W: IndexWidth>()
 pub fn read_index_maps_are_compared<'a, K: ElementEquiv, V: ElementEquiv, H, W: IndexWidth>()
     ensures { (m n : _) → ⟦<ArchivedIndexMap<'a, K, V, H, W> as PartialEq>⟧.eq m n
         ≡ index_maps_equal K.same V.same m n }
+{}
+
+/// States that lists of pairs are equal if their pairs are, in order.
+pub fn pair_lists_are_compared<A: PartialEq, B: PartialEq>()
+    ensures { (x y : _) → ⟦<OrderedPairs<A, B> as PartialEq>⟧.eq x y
+        ≡ pointwise ⟦<(A, B) as PartialEq>⟧.eq x.0.items y.0.items }
 {}
 
 /// States that a clone of an index map is the same index map, and that cloning never fails.

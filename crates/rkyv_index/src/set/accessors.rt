@@ -73,7 +73,7 @@ impl<'a, K: Element, H, W: IndexWidth> ArchivedIndexSet<'a, K, H, W> {
         self.map.capacity()
     }
 
-    /// Returns an iterator over the keys, in order.
+    /// Returns an iterator over the keys, in insertion order.
     #[inline]
     pub fn iter(self) -> Keys<'a, K, ()>
         ensures archive { result.archive ≡ index_archive (keys_of self.entry) }
@@ -151,7 +151,7 @@ impl<'a, K: Element, H, W: IndexWidth> ArchivedIndexSet<'a, K, H, W> {
     }
 }
 
-/// `for key in set` visits the keys, in order.
+/// `for key in set` visits the keys, in insertion order.
 impl<'a, K: Element, H, W: IndexWidth> IntoIterator for ArchivedIndexSet<'a, K, H, W> {
     type Item = View<'a, K>;
 
@@ -167,7 +167,7 @@ impl<'a, K: Element, H, W: IndexWidth> IntoIterator for ArchivedIndexSet<'a, K, 
     }
 }
 
-/// `for key in &set` visits the keys, in order.
+/// `for key in &set` visits the keys, in insertion order.
 impl<'a, K: Element, H, W: IndexWidth> IntoIterator for &ArchivedIndexSet<'a, K, H, W> {
     type Item = View<'a, K>;
 

@@ -3,6 +3,7 @@
 //! They are about the layout, the formats of lists, lookups, keys at an index, iterations,
 //! comparisons, clones and deserialized lists.
 //! `written` is about the bytes of written index sets.
+ghost use Rattle.std.specs.Cmp.Lexicographic.{pointwise};
 ghost use Rattle.std.specs.Int.{w32};
 ghost use Rattle.std.specs.Prelude.{◌↔◌, ◌≡◌};
 ghost use Rattle.rkyv_keys.specs.{SameComparison, fx_key_format, hash_at, native_key_format};
@@ -113,6 +114,12 @@ pub fn index_sets_are_compared<K: ElementEq, H, W: IndexWidth>()
 pub fn read_index_sets_are_compared<'a, K: ElementEquiv, H, W: IndexWidth>()
     ensures { (s t : _) → ⟦<ArchivedIndexSet<'a, K, H, W> as PartialEq>⟧.eq s t
         ≡ index_sets_equal K.same s t }
+{}
+
+/// States that lists of keys are equal if their keys are, in order.
+pub fn item_lists_are_compared<A: PartialEq>()
+    ensures { (x y : _) → ⟦<OrderedItems<A> as PartialEq>⟧.eq x y
+        ≡ pointwise A.eq x.0.items y.0.items }
 {}
 
 /// States that a clone of an index set is the same index set, and that cloning never fails.

@@ -1,4 +1,4 @@
-//! `==` of index maps and index sets.
+//! `==` of index maps, of index sets and of the lists that are archived as them.
 
 use crate::tests::opened::key_set;
 use crate::tests::writing::{narrow, set_archive, wide};
@@ -6,10 +6,15 @@ use rkyv_base::access::access;
 use rkyv_base::{Narrow, VerifyError, Wide, access_in, to_bytes};
 use rkyv_collections::{ArchivedHashMap, HashMapOf, MapPairs};
 use rkyv_index::map::laws::{
-    index_maps_are_compared, matched_keys_are_found, read_index_maps_are_compared,
+    index_maps_are_compared, matched_keys_are_found, pair_lists_are_compared,
+    read_index_maps_are_compared,
 };
-use rkyv_index::set::laws::{index_sets_are_compared, read_index_sets_are_compared};
-use rkyv_index::{ArchivedIndexMap, IndexMapOf, IndexSetOf, IndexWidth, OrderedPairs};
+use rkyv_index::set::laws::{
+    index_sets_are_compared, item_lists_are_compared, read_index_sets_are_compared,
+};
+use rkyv_index::{
+    ArchivedIndexMap, IndexMapOf, IndexSetOf, IndexWidth, OrderedItems, OrderedPairs,
+};
 use rkyv_keys::ElementEq;
 use rkyv_scan::FxHasher64;
 use std::alloc::Global;
@@ -167,5 +172,32 @@ fn hash_maps_compare_index_maps_in_order(rt: HostRuntime) -> Result<(), Fail> {
         same_values(two.as_slice(), backwards.as_slice())?,
     ];
     expect_eq!(rt; found, [true, false]);
+    Ok(())
+}
+
+#[test]
+fn lists_are_equal_in_the_same_order(rt: HostRuntime) -> Result<(), Fail> {
+    pair_lists_are_compared::<i8, i8>();
+    item_lists_are_compared::<i8>();
+    let alloc = rt.alloc();
+    let pairs = OrderedPairs(vec![in alloc; (1i8, 2i8), (3, 4)]?);
+    let items = OrderedItems(vec![in alloc; 1i8, 2]?);
+    let equal = [
+        pairs == OrderedPairs(vec![in alloc; (1, 2), (3, 4)]?),
+        pairs == OrderedPairs(vec![in alloc; (3, 4), (1, 2)]?),
+        items == OrderedItems(vec![in alloc; 1, 2]?),
+        items == OrderedItems(vec![in alloc; 1]?),
+    ];
+    expect_eq!(rt; equal, [true, false, true, false]);
+    Ok(())
+}
+
+#[test]
+fn lists_print_their_items(rt: HostRuntime) -> Result<(), Fail> {
+    let alloc = rt.alloc();
+    let pairs = OrderedPairs(vec![in alloc; (1i8, 2i8)]?);
+    let items = OrderedItems(vec![in alloc; 1i8, 2]?);
+    let shown = format!(in alloc; "{pairs:?} {items:?}")?;
+    expect_eq!(rt; shown.as_str(), "OrderedPairs([(1, 2)]) OrderedItems([1, 2])");
     Ok(())
 }

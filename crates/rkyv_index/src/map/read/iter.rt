@@ -1,6 +1,6 @@
 //! Iterators over the pairs, the keys and the values of an index map.
 //!
-//! Each returns views, in order.
+//! Each returns views, in insertion order.
 ghost use Rattle.std.specs.Prelude.{length, ◌≡◌};
 ghost use Rattle.std.specs.Iterator.{at_most};
 ghost use Rattle.rkyv_base.specs.{entry_spec};
@@ -13,7 +13,7 @@ use rkyv_base::view::PairView;
 use rkyv_base::{Element, Entry, HasSpec, View};
 use std::marker::{Model, PhantomData};
 
-/// The pairs of an index map that remain, in order.
+/// The pairs of an index map that remain, in insertion order.
 #[derive(Drop)]
 pub struct Iter<'a, K: HasSpec, V: HasSpec> {
     archive: &'a [u8],
@@ -75,7 +75,7 @@ impl<'a, K: Element, V: Element> ExactSizeIterator for Iter<'a, K, V> {
     }
 }
 
-/// The keys of an index map that remain, in order.
+/// The keys of an index map that remain, in insertion order.
 #[derive(Drop)]
 pub struct Keys<'a, K: HasSpec, V: HasSpec> {
     pairs: Iter<'a, K, V>,
@@ -119,7 +119,7 @@ impl<'a, K: Element, V: Element> ExactSizeIterator for Keys<'a, K, V> {
     }
 }
 
-/// The values of an index map that remain, in order.
+/// The values of an index map that remain, in insertion order.
 #[derive(Drop)]
 pub struct Values<'a, K: HasSpec, V: HasSpec> {
     pairs: Iter<'a, K, V>,
@@ -164,7 +164,7 @@ impl<'a, K: Element, V: Element> ExactSizeIterator for Values<'a, K, V> {
 }
 
 impl<'a, K: Element, V: Element, H, W: IndexWidth> ArchivedIndexMap<'a, K, V, H, W> {
-    /// Returns an iterator over the pairs, in order.
+    /// Returns an iterator over the pairs, in insertion order.
     ///
     /// # Examples
     ///
@@ -198,7 +198,7 @@ impl<'a, K: Element, V: Element, H, W: IndexWidth> ArchivedIndexMap<'a, K, V, H,
         }
     }
 
-    /// Returns an iterator over the keys, in order.
+    /// Returns an iterator over the keys, in insertion order.
     #[inline]
     pub fn keys(self) -> Keys<'a, K, V>
         ensures archive { result.archive ≡ index_archive self.entry }
@@ -209,7 +209,7 @@ impl<'a, K: Element, V: Element, H, W: IndexWidth> ArchivedIndexMap<'a, K, V, H,
         Keys { pairs: self.iter() }
     }
 
-    /// Returns an iterator over the values, in order.
+    /// Returns an iterator over the values, in insertion order.
     #[inline]
     pub fn values(self) -> Values<'a, K, V>
         ensures archive { result.archive ≡ index_archive self.entry }
@@ -221,7 +221,7 @@ impl<'a, K: Element, V: Element, H, W: IndexWidth> ArchivedIndexMap<'a, K, V, H,
     }
 }
 
-/// `for (key, value) in map` visits the pairs, in order.
+/// `for (key, value) in map` visits the pairs, in insertion order.
 impl<'a, K: Element, V: Element, H, W: IndexWidth> IntoIterator
     for ArchivedIndexMap<'a, K, V, H, W> {
     type Item = PairView<'a, K, V>;
@@ -238,7 +238,7 @@ impl<'a, K: Element, V: Element, H, W: IndexWidth> IntoIterator
     }
 }
 
-/// `for (key, value) in &map` visits the pairs, in order.
+/// `for (key, value) in &map` visits the pairs, in insertion order.
 impl<'a, K: Element, V: Element, H, W: IndexWidth> IntoIterator
     for &ArchivedIndexMap<'a, K, V, H, W> {
     type Item = PairView<'a, K, V>;

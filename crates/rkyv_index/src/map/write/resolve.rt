@@ -92,9 +92,8 @@ impl<'a, K: HasSpec, V: HasSpec, H, W: IndexWidth> ArchivedIndexMap<'a, K, V, H,
         requires fits { pos + W.INDEX_SIZE < 2 ^ 64 }
         ensures { WritesIndexHeader W.word resolver pos out.old out.new result }
     {
-        let distance = match W::distance(resolver.entries, pos + W::TABLE_SIZE as u64) {
-            Some(distance) => distance,
-            None => return Err(DistanceTooLarge),
+        let Some(distance) = W::distance(resolver.entries, pos + W::TABLE_SIZE as u64) else {
+            return Err(DistanceTooLarge);
         };
         let (table, entries) = out.split_at_mut(W::TABLE_SIZE);
         ArchivedHashTable::<W::Index, W>::resolve_from_len(
