@@ -12,6 +12,7 @@ use crate::pair::{AsPair, FromPair, PairEntry};
 use crate::tuple::{AsTuple, FromTuple, TupleEntry};
 use rkyv_base::{Archive, Entry, Represents, Width};
 use rkyv_keys::{Deserialize, KeyHash, MatchesNative};
+use std::hash::Hash;
 
 /// States that a `PairEntry` is archived and represented as the pair of its parts.
 pub fn pairs_are_archived_as_their_parts<
@@ -49,6 +50,12 @@ pub fn pairs_hash_as_their_parts<A: KeyHash, B: KeyHash, T: AsPair<First = A, Se
         ≡ A.calls (T.pair x.0).0 ++ B.calls (T.pair x.0).1 }
     ensures read { (x : _) → ⟦<PairEntry<T> as KeyHash>⟧.can_read x
         ↔ BothRead A.can_read B.can_read (T.pair x.0) }
+{}
+
+/// States that std hashes the first part of a `PairEntry`, and then the second.
+pub fn pairs_hash_for_std<A: Hash, B: Hash, T: AsPair<First = A, Second = B>>()
+    ensures { (x : _) → ⟦<PairEntry<T> as Hash>⟧.hash_input x
+        ≡ A.hash_input (T.pair x.0).0 ++ B.hash_input (T.pair x.0).1 }
 {}
 
 /// States that a `PairEntry` fails to deserialize only with the errors of its parts.
@@ -103,6 +110,12 @@ pub fn tuples_hash_as_their_parts<
         ≡ A.calls (T.tuple x.0).0 ++ B.calls (T.tuple x.0).1 }
     ensures read { (x : _) → ⟦<TupleEntry<T> as KeyHash>⟧.can_read x
         ↔ BothRead A.can_read B.can_read (T.tuple x.0) }
+{}
+
+/// States that std hashes the first part of a `TupleEntry`, and then the second.
+pub fn tuples_hash_for_std<A: Hash + Drop, B: Hash + Drop, T: AsTuple<First = A, Second = B>>()
+    ensures { (x : _) → ⟦<TupleEntry<T> as Hash>⟧.hash_input x
+        ≡ A.hash_input (T.tuple x.0).0 ++ B.hash_input (T.tuple x.0).1 }
 {}
 
 /// States that a `TupleEntry` fails to deserialize only with the errors of its parts.

@@ -1,6 +1,7 @@
 //! `PairEntry` as a key: equality, hashing, lookup and deserialization.
 
-ghost use Rattle.std.specs.Prelude.{◌&&◌, ◌↔◌, ◌≡◌, IsTrue};
+ghost use Rattle.std.specs.Prelude.{◌&&◌, ◌++◌, ◌↔◌, ◌≡◌, IsTrue};
+ghost use Rattle.std.proofs.Common.{rules};
 ghost use Rattle.std.specs.Cmp.{and_equiv, and_per, on_equiv, on_per};
 ghost use Rattle.rkyv_base.specs.{AtView, IsValidView, entry_spec};
 ghost use Rattle.rkyv_keys.specs.{BothRead, Deserializes, at_view, entry_deserialize_fails};
@@ -18,6 +19,7 @@ use rkyv_keys::{
 };
 use rkyv_scan::KeyHasher;
 use std::alloc::Global;
+use std::hash::{Hash, Hasher};
 
 impl<A: PartialEq, B: PartialEq, T: AsPair<First = A, Second = B>> PartialEq for PairEntry<T> {
     ghost eq = { λ x y.
@@ -35,6 +37,21 @@ impl<A: PartialEq, B: PartialEq, T: AsPair<First = A, Second = B>> PartialEq for
 impl<A: Eq, B: Eq, T: AsPair<First = A, Second = B>> Eq for PairEntry<T> {
     ghost laws = { and_equiv (on_equiv (λ x. (T.pair x.0).0) A.Eq.laws)
         (on_equiv (λ x. (T.pair x.0).1) B.Eq.laws) };
+}
+
+/// std's maps and sets hash the first part, and then the second.
+impl<A: Hash, B: Hash, T: AsPair<First = A, Second = B>> Hash for PairEntry<T> {
+    ghost hash_input = { λ x.
+        A.hash_input (T.pair x.0).0 ++ B.hash_input (T.pair x.0).1 };
+
+    ghost respects_eq = { Prim.search rules };
+
+    #[inline]
+    fn hash<S: Hasher>(&self, state: &mut S) {
+        let (first, second) = (self.0.first(), self.0.second());
+        first.hash(state);
+        second.hash(state);
+    }
 }
 
 impl<A: KeyHash, B: KeyHash, T: AsPair<First = A, Second = B>> KeyHash for PairEntry<T> {

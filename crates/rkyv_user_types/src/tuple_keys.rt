@@ -1,6 +1,7 @@
 //! `TupleEntry` as a key: equality, hashing, lookup and deserialization.
 
-ghost use Rattle.std.specs.Prelude.{◌&&◌, ◌↔◌, ◌≡◌, IsTrue};
+ghost use Rattle.std.specs.Prelude.{◌&&◌, ◌++◌, ◌↔◌, ◌≡◌, IsTrue};
+ghost use Rattle.std.proofs.Common.{rules};
 ghost use Rattle.std.specs.Cmp.{and_equiv, and_per, on_equiv, on_per};
 ghost use Rattle.rkyv_base.specs.{AtView, IsValidView, entry_spec};
 ghost use Rattle.rkyv_keys.specs.{BothRead, Deserializes, at_view, entry_deserialize_fails};
@@ -18,6 +19,7 @@ use rkyv_keys::{
 };
 use rkyv_scan::KeyHasher;
 use std::alloc::Global;
+use std::hash::{Hash, Hasher};
 
 impl<A: PartialEq + Drop, B: PartialEq + Drop, T: AsTuple<First = A, Second = B>> PartialEq
     for TupleEntry<T> {
@@ -36,6 +38,20 @@ impl<A: PartialEq + Drop, B: PartialEq + Drop, T: AsTuple<First = A, Second = B>
 impl<A: Eq + Drop, B: Eq + Drop, T: AsTuple<First = A, Second = B>> Eq for TupleEntry<T> {
     ghost laws = { and_equiv (on_equiv (λ x. (T.tuple x.0).0) A.Eq.laws)
         (on_equiv (λ x. (T.tuple x.0).1) B.Eq.laws) };
+}
+
+/// std's maps and sets hash the first part, and then the second.
+impl<A: Hash + Drop, B: Hash + Drop, T: AsTuple<First = A, Second = B>> Hash for TupleEntry<T> {
+    ghost hash_input = { λ x.
+        A.hash_input (T.tuple x.0).0 ++ B.hash_input (T.tuple x.0).1 };
+
+    ghost respects_eq = { Prim.search rules };
+
+    #[inline]
+    fn hash<S: Hasher>(&self, state: &mut S) {
+        let parts = self.0.tuple();
+        parts.hash(state);
+    }
 }
 
 impl<A: KeyHash + Drop, B: KeyHash + Drop, T: AsTuple<First = A, Second = B>> KeyHash

@@ -6,6 +6,7 @@ mod color_scalar;
 pub mod landmark;
 pub mod pixel;
 pub mod point;
+pub mod segment;
 pub mod spot;
 pub mod spot_archived;
 pub mod spot_keys;

@@ -7,6 +7,7 @@ use crate::color::Color;
 use crate::landmark::Landmark;
 use crate::pixel::Pixel;
 use crate::point::Point;
+use crate::segment::Segment;
 use crate::spot::Spot;
 use crate::spot_archived::{ArchivedSpot, spot_of};
 use crate::symbol::Symbol;
@@ -41,6 +42,24 @@ fn a_point_is_a_pair(rt: HostRuntime) -> Result<(), Fail> {
         hashes[0] == hashes[1],
     ];
     assert_eq!(rt; results, [true; 9]);
+    Ok(())
+}
+
+#[test]
+fn a_segment_is_a_pair_of_points(rt: HostRuntime) -> Result<(), Fail> {
+    let segment = PairEntry(Segment {
+        from: PairEntry(Point { x: -2, y: 3 }),
+        to: PairEntry(Point { x: 1, y: 0 }),
+    });
+    let bytes = to_bytes(rt.alloc(), &segment)?;
+    let root = access::<Entry<Entry<i32, i32>, Entry<i32, i32>>>(bytes.as_slice())?;
+    let results = [
+        bytes.as_slice() == [0xfe, 0xff, 0xff, 0xff, 3, 0, 0, 0, 1, 0, 0, 0, 0, 0, 0, 0].as_slice(),
+        root.key().value().to_native() == 3,
+        root.value().key().to_native() == 1,
+        segment.same(root),
+    ];
+    assert_eq!(rt; results, [true; 4]);
     Ok(())
 }
 

@@ -10,15 +10,20 @@ use rkyv_collections::Hashed;
 use rkyv_collections::std_maps::round_trip::round_trips_equal;
 use rkyv_user_types::laws::{
     pairs_are_archived_as_their_parts, pairs_are_compared_as_their_parts,
-    pairs_fail_as_their_parts, pairs_hash_as_their_parts, tuples_are_archived_as_their_parts,
-    tuples_are_compared_as_their_parts, tuples_fail_as_their_parts, tuples_hash_as_their_parts,
+    pairs_fail_as_their_parts, pairs_hash_as_their_parts, pairs_hash_for_std,
+    tuples_are_archived_as_their_parts, tuples_are_compared_as_their_parts,
+    tuples_fail_as_their_parts, tuples_hash_as_their_parts, tuples_hash_for_std,
 };
 use rkyv_user_types::{PairEntry, TupleEntry};
 use std::alloc::{AllocError, Global};
-use std::collections::HashMap;
+use std::collections::{HashMap, HashSet};
 use std::test::Fail;
 
 type Places = Hashed<HashMap<u8, PairEntry<Point>>>;
+
+type Names = Hashed<HashMap<PairEntry<Point>, u8>>;
+
+type Pixels = Hashed<HashSet<TupleEntry<Pixel>>>;
 
 // Writes a point and a pixel, compares the archives with them, and reads them back.
 fn values_round_trip(
@@ -65,5 +70,37 @@ fn a_map_of_points(rt: HostRuntime) -> Result<(), Fail> {
     let map = one_place(rt.alloc())?;
     let same = round_trips_equal::<Narrow, Places>(rt.alloc(), &map).ok();
     assert_eq!(rt; same, Some(true));
+    Ok(())
+}
+
+// Returns whether a map of std with a point as a key comes back.
+fn named_points_round_trip(alloc: Global) -> Result<bool, Fail> {
+    let mut map = HashMap::new(alloc);
+    map.insert(PairEntry(Point { x: -2, y: 3 }), 7u8)?;
+    let names: Names = Hashed::new(map);
+    Ok(round_trips_equal::<Narrow, Names>(alloc, &names)?)
+}
+
+// Returns whether a set of std with a pixel comes back.
+fn pixels_round_trip(alloc: Global) -> Result<bool, Fail> {
+    let mut set = HashSet::new(alloc);
+    set.insert(TupleEntry(Pixel {
+        level: 7,
+        x: 300,
+        y: 2,
+    }))?;
+    let pixels: Pixels = Hashed::new(set);
+    Ok(round_trips_equal::<Wide, Pixels>(alloc, &pixels)?)
+}
+
+#[test]
+fn user_defined_types_are_keys_of_std_maps(rt: HostRuntime) -> Result<(), Fail> {
+    pairs_hash_for_std::<i32, i32, Point>();
+    tuples_hash_for_std::<u8, (u16, u16), Pixel>();
+    let same = [
+        named_points_round_trip(rt.alloc())?,
+        pixels_round_trip(rt.alloc())?,
+    ];
+    assert_eq!(rt; same, [true; 2]);
     Ok(())
 }
