@@ -16,7 +16,7 @@ use std::alloc::{AllocError, Global};
 use thiserror::Error;
 
 /// The items of a table, and the result of one lookup.
-#[derive(Debug, Drop)]
+#[derive(Debug, Drop, Eq, PartialEq)]
 pub struct TableReport {
     /// The positions of its items, in bucket order.
     pub walked: Vec<u64>,
@@ -27,7 +27,7 @@ pub struct TableReport {
 }
 
 /// The error of `look_over`.
-#[derive(Debug, Drop, Error)]
+#[derive(Clone, Copy, Debug, PartialEq, Eq, Error)]
 pub enum LookError {
     /// The bytes are not a valid table.
     #[error("{0}")]

@@ -15,7 +15,7 @@ use std::alloc::Global;
 use thiserror::Error;
 
 /// The error of `write_and_look_over`.
-#[derive(Debug, Drop, Error)]
+#[derive(Clone, Copy, Debug, PartialEq, Eq, Error)]
 pub enum ListError {
     /// The list can't be written.
     #[error("{0}")]
@@ -65,7 +65,7 @@ impl From<LookError> for ListError {
 ///
 /// # Errors
 ///
-/// - `Write`: the list can't be written. It has the error of the write.
+/// - `Write`: the list can't be written. It has the error of `write_list`.
 /// - `Look(LookError::Memory)`: the list has items, and memory for their positions could not be
 ///   allocated.
 ///

@@ -7,7 +7,7 @@ use rkyv_table::{ArchivedHashTable, TableOf};
 use std::alloc::Global;
 
 /// The positions of a written list.
-#[derive(Clone, Copy, Debug)]
+#[derive(Clone, Copy, Debug, PartialEq, Eq)]
 pub struct WrittenList {
     /// The position after the table.
     pub end: u64,
@@ -27,7 +27,12 @@ pub struct WrittenList {
 ///
 /// # Errors
 ///
-/// - The errors of `serialize_from_iter`.
+/// - `InvalidLoadFactor`: the load factor isn't above 0 and at most 1.
+/// - `CapacityTooLarge`: the capacity is above `W::MAX_CAPACITY`.
+/// - `Memory`: `len` isn't 0, and memory for placing the items could not be allocated.
+/// - `IteratorLengthMismatch`: the number of items isn't `len`, or else the number of hashes isn't.
+///   The number is counted up to `len + 1`.
+/// - The error of the first item or piece that fails.
 /// - The error of appending zeros up to the header's alignment.
 /// - `DistanceTooLarge`: the distance to the table doesn't fit in the width.
 /// - The error of appending the header.

@@ -4,14 +4,15 @@ ghost use Rattle.rkyv_table.specs.{CanCompareOf, table_spec};
 
 use rkyv_base::{
     Entry, LimitWriter, Narrow, PartRange, Scalar, Seal, VecWriter, VerifyError, View, Wide, Width,
-    Writer, access_in,
+    WriteError, Writer, access_in,
 };
 use rkyv_end_to_end::{
-    LookError, TableReport, look_over, lookups_find_listed, write_and_look_over, write_list,
-    written_items_are_replaced, written_lists_represent,
+    ListError, LookError, TableReport, look_over, lookups_find_listed, write_and_look_over,
+    write_list, written_items_are_replaced, written_lists_represent,
 };
 use rkyv_table::{ArchivedHashTable, TableOf};
 use std::alloc::Global;
+use std::test::Fail;
 
 // Returns `true` if the walk, the result and the strides of a lookup are these.
 fn is_report(report: &TableReport, walked: &[u64], found: Option<u64>, strides: u64) -> bool {
@@ -227,4 +228,33 @@ fn untrusted_bytes_are_reported_or_rejected(rt: HostRuntime) {
         }))
     );
     assert_eq!(rt; [found, none, failed], [true; 3]);
+}
+
+#[test]
+fn errors_are_displayed(rt: HostRuntime) -> Result<(), Fail> {
+    let alloc = rt.alloc();
+    let verify = LookError::Verify(VerifyError::UnwrappedControlByte { index: 3 });
+    let write = ListError::Write(WriteError::CapacityTooLarge { len: 7 });
+    let look = ListError::Look(LookError::Memory);
+    let shown = [
+        format!(in alloc; "{}", LookError::Memory)?,
+        format!(in alloc; "{verify}")?,
+        format!(in alloc; "{write}")?,
+        format!(in alloc; "{look}")?,
+    ];
+    assert_eq!(rt;
+        [
+            shown[0].as_str(),
+            shown[1].as_str(),
+            shown[2].as_str(),
+            shown[3].as_str()
+        ],
+        [
+            "no memory",
+            "unwrapped control byte at index 3",
+            "capacity too large for length 7",
+            "no memory"
+        ]
+    );
+    Ok(())
 }
