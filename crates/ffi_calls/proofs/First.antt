@@ -1,16 +1,18 @@
 -- The results for the first pair of a list whose key passes the test.
 use Rattle.rkyv_base.specs.declared.element.HasSpec.{Ghosts as Specs}
 use Rattle.rkyv_base.specs.declared.width.Word.{Ghosts as Words}
-use Rattle.std.proofs.Common.{◌≡◌, ◌∙◌, ℕ, Bool, List, None, Option, Some, ap, false, subst, sym, true}
+use mir.Val.{bits}
+use Rattle.std.proofs.Common.{◌≡◌, ◌∙◌, ℕ, ◌-◌, ◌<◌, ◌^◌, Bool, List, None, Option, Some, ap, false, inr, length, subst, sym, true}
 use Rattle.std.specs.Option.{is_some}
 use Rattle.std.specs.Borrow.{Bor}
 use Rattle.std.specs.Prelude.{IfSome, MatchOption}
 use Rattle.std.proofs.lemmas.Option.{same_Some}
-use Rattle.rkyv_base.specs.{Viewable, pos_of_found}
+use Rattle.rkyv_base.specs.{Encoding, pos_of_found}
 use Rattle.rkyv_base.specs.declared.view.View.{View}
 use Rattle.rkyv_collections.specs.{IsValueIn, map_bytes}
 use Rattle.rkyv_collections.specs.declared.map.ArchivedHashMap.{ArchivedHashMap}
-use Rattle.rkyv_keys.specs.{IsFoundValue}
+use Rattle.rkyv_keys.specs.{IsFoundValue, first_pair, with_first}
+use Rattle.ffi_calls.specs.{SetsFirstPair}
 
 -- the value is at the position `target`
 abbrev RepresentsIn : {B : Type 0} → (List ℕ → ℕ → B → Type 0) → List ℕ → Option ℕ → B → Type 0
@@ -45,3 +47,16 @@ module _ {X B : Type 0} (At : ℕ → B → Type 0) (IsValue : X → B → Type 
 pub first_set : {P : Type 0} (o : Option P) (found : Bool) (status : ℕ) → found ≡ is_some o → (found ≡ true → status ≡ 0) → (found ≡ false → status ≡ 1) → MatchOption o (status ≡ 1) (λ pair. status ≡ 0)
 first_set None found status e if_found missed = missed e
 first_set (Some p) found status e if_found missed = if_found e
+
+-- After an overwrite of `value` in `b`, the map at the root of `c` represents the list with `value` in the first pair.
+-- `Represents d p`: the map at `p` in `d` represents a list; `size`: size of its fixed bytes
+pub first_pair_set : {A N : Type 0} (accepts : A → Bool) (e : Encoding N) (Represents : List ℕ → ℕ → ℕ × ℕ → List (A × N) → Type 0) (size : ℕ) (b c : List ℕ) (root number : ℕ) (value : N) (found : Bool) (status : ℕ)
+    → root ≡ length b - size → length c ≡ length b → number < 2 ^ bits e.word → e.code value ≡ number
+    → ((factor : ℕ × ℕ) (pairs : List (A × N)) → Represents b root factor pairs → (found ≡ is_some (first_pair accepts pairs)) × Represents c root factor (with_first accepts value pairs))
+    → (found ≡ true → status ≡ 0) → (found ≡ false → status ≡ 1)
+    → SetsFirstPair accepts e (Represents b (length b - size)) (Represents c (length c - size)) number status
+first_pair_set accepts e Represents size b c root number value found status at same small code sets if_found missed factor pairs represents =
+    let after = sets factor pairs (subst (λ p. Represents b p factor pairs) (sym at) represents) in
+    let root_after = at ∙ ap (λ n. n - size) (sym same) in
+    let shown = subst (λ p. Represents c p factor (with_first accepts value pairs)) root_after after.1 in
+    inr (small, (value, code, first_set (first_pair accepts pairs) found status after.0 if_found missed, shown))

@@ -1,16 +1,14 @@
 -- The result of an overwrite in an index map, after which the archive is valid.
-use Rattle.std.proofs.Common.{◌≡◌, ◌⊎◌, ◌∙◌, ℕ, ◌*◌, ◌+◌, ◌-◌, ◌<◌, suc, zero, Bool, List, [], ◌∷◌, None, Option, Some, ap, arith, false, inl, inr, length, refl, subst, sym, true}
+use Rattle.std.proofs.Common.{◌≡◌, ◌∙◌, ℕ, ◌*◌, ◌+◌, ◌-◌, Bool, List, None, Option, Some, ap, arith, false, length, subst, sym, true}
 use Rattle.std.specs.Int.{Width, byte_len}
-use Rattle.std.specs.Option.{is_some, option_map}
-use Rattle.std.specs.Prelude.{MatchOption, slice_get, slice_set}
-use Rattle.std.proofs.lemmas.Option.{same_Some}
+use Rattle.std.specs.Option.{option_map}
+use Rattle.std.specs.Prelude.{MatchOption}
 use Rattle.rkyv_scan.specs.{HasherCall}
 use Rattle.rkyv_base.specs.{ElementSpec, Encoding, IsValidArchive, Viewable, entry_spec, value_pos, with_value}
 use Rattle.rkyv_base.specs.Lemmas.Bytes.{agree_on_part}
-use Rattle.rkyv_keys.specs.{first_pair, with_first}
 use Rattle.rkyv_table.specs.{IsDecoded}
 use Rattle.rkyv_table.specs.declared.table.decoded.Decoded.{Decoded}
-use Rattle.rkyv_index.specs.{IsFirst, KeepsIndexMap, index_found, index_kind, pair_pos}
+use Rattle.rkyv_index.specs.{KeepsIndexMap, index_found, index_kind, pair_pos}
 use Rattle.ffi_calls.specs.{KeepsHeader, hash_by, index_in, index_map, index_root, value_found_in}
 use Rattle.ffi_calls.proofs.Writing.{accepted_again, decoded_again}
 

@@ -13,7 +13,7 @@ ghost use Rattle.ffi_calls.specs.{UpdatesContainer, WritesContainerHeader, conta
 
 use crate::explanation::{Explanation, explain_container_error, explained};
 use crate::status::{DONE, UNKNOWN_CODES, WRONG_LENGTH, container_status};
-use rkyv_container::{Contents, HEADER_LEN, Header, ItemType, Kind, Width, open_as, seal};
+use rkyv_container::{Contents, HEADER_LEN, Header, ItemType, Kind, Width, fill_header, open_as};
 
 /// The archive in a container, which is borrowed from it.
 #[repr(C)]
@@ -173,6 +173,6 @@ pub fn update_container(bytes: &mut [u8]) -> u32
     if header.len != (bytes.len() - HEADER_LEN) as u64 {
         return WRONG_LENGTH;
     }
-    seal(bytes, header.contents, header.checksum.is_some());
+    fill_header(bytes, header.contents, header.checksum.is_some());
     DONE
 }

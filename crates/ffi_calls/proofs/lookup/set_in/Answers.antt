@@ -1,10 +1,10 @@
-use Rattle.std.proofs.Common.{◌≡◌, ◌∙◌, ℕ, ◌-◌, List, ap, arith, inl, inr, length, refl, subst, sym}
+use Rattle.std.proofs.Common.{◌≡◌, ℕ, List, arith, inl, inr, length, refl}
 use Rattle.rkyv_scan.specs.{fx_hasher, low_halves}
 use Rattle.rkyv_base.specs.{ScalarRepresents}
-use Rattle.rkyv_keys.specs.{first_pair, hash_at, with_first}
+use Rattle.rkyv_keys.specs.{hash_at}
 use Rattle.rkyv_collections.specs.{MapRepresents, map_spec}
 use Rattle.ffi_calls.proofs.Writing.{overwrite_status, set_keeps_header, set_kept}
-use Rattle.ffi_calls.proofs.First.{first_set}
+use Rattle.ffi_calls.proofs.First.{first_pair_set}
 use Rattle.ffi_calls.proofs.lookup.set_in.Goals as goal
 
 pub returns-in_default-clause-sets : goal.returns-in_default-clause-sets
@@ -38,22 +38,13 @@ pub returns-in_default-clause-listed : goal.returns-in_default-clause-listed
 returns-in_default-clause-listed g c = λ factor pairs represents. inl (c.in_default.ensures.exact, refl)
 
 pub returns-clause-listed : goal.returns-clause-listed
-returns-clause-listed g c = λ factor pairs represents.
-    let e = g.V.Scalar.encoding in
-    let b = c.args.archive.now in
+returns-clause-listed g c =
     let set = c.set_value_of-found in
+    let root = c.root_of-root in
+    let number = c.in-Some in
     let accepts = g.A.PartialEq.eq c.args.key.now in
-    let Represents : List ℕ → ℕ → List (g.row.A.Denot × g.row.V.Denot) → Type 0 = λ d r ps. MapRepresents g.W.Word.word g.K.HasSpec.spec g.V.HasSpec.spec g.K.Represents.represents (ScalarRepresents e) (hash_at (fx_hasher low_halves) g.K.KeyElement.key_calls) factor d r ps in
-    let at = c.root_of-root.ensures.at in
-    let same : length set.new.archive ≡ length b = omega (arith, set.auto.archive) in
-    let after = set.ensures.listed factor pairs (subst (λ p. Represents b p pairs) (sym at) represents) in
-    let root_after = at ∙ ap (λ n. n - (map_spec g.W.Word.word g.K.HasSpec.spec g.V.HasSpec.spec).size) (sym same) in
-    inr (
-      c.in-Some.ensures.read.0,
-      (
-        c.in-Some.number,
-        c.in-Some.ensures.exact,
-        first_set (first_pair accepts pairs) set.result c.status_of.result after.0 c.status_of.ensures.yes c.status_of.ensures.no,
-        subst (λ p. Represents set.new.archive p (with_first accepts c.in-Some.number pairs)) root_after after.1,
-      ),
-    )
+    let e = g.V.Scalar.encoding in
+    let Represents : List ℕ → ℕ → ℕ × ℕ → List (g.row.A.Denot × g.row.V.Denot) → Type 0 = λ d r factor pairs. MapRepresents g.W.Word.word g.K.HasSpec.spec g.V.HasSpec.spec g.K.Represents.represents (ScalarRepresents e) (hash_at (fx_hasher low_halves) g.K.KeyElement.key_calls) factor d r pairs in
+    let same : length set.new.archive ≡ length c.args.archive.now = omega (arith, set.auto.archive) in
+    first_pair_set accepts e Represents (map_spec g.W.Word.word g.K.HasSpec.spec g.V.HasSpec.spec).size c.args.archive.now set.new.archive root.result c.args.value number.number set.result c.status_of.result
+    root.ensures.at same number.ensures.read.0 number.ensures.exact set.ensures.listed c.status_of.ensures.yes c.status_of.ensures.no
