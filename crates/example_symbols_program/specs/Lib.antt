@@ -8,5 +8,6 @@ unfoldable pub use ByAddress.{PairsRepresentAt, Row, address_spec, index_header,
 unfoldable pub use ByAddress.{pairs_format, turned}
 pub use ByAddress.{IsAscending}
 unfoldable pub use Commands.{command_of, least_count}
-unfoldable pub use Errors.{IsFileError, IsValidationError, IsWriteError}
+unfoldable pub use Errors.{FileFails, IsFileError, IsInputError, IsValidationError, IsWriteError}
+unfoldable pub use Errors.{ValidationFails}
 unfoldable pub use Outcomes.{IsOutcomeFor, LooksUpAll, outcome_of, outcome_of_names}

@@ -2,11 +2,12 @@
 #![tactic(auto)]
 
 ghost use Rattle.std.specs.Iterator.{IsFinite};
-ghost use Rattle.std.specs.Prelude.{IfOk, IsTrue, List, None, Ok, OnOk, Some, drop, false, length};
-ghost use Rattle.std.specs.Prelude.{map, string_bytes, ℕ, ◌<◌, ◌↔◌, ◌≡◌, ◌≢◌};
+ghost use Rattle.std.specs.Prelude.{IfErr, IfOk, IsTrue, List, None, Ok, OnOk, Some, drop, false};
+ghost use Rattle.std.specs.Prelude.{length, map, string_bytes, ℕ, ◌<◌, ◌↔◌, ◌≡◌, ◌≢◌};
 ghost use Rattle.std.specs.Str.Lines.{lines};
 ghost use Rattle.example_symbols.specs.{IsTable, address_found, symbols_of};
-ghost use Rattle.example_symbols_program.specs.{IsOutcomeFor, LooksUpAll, command_of, outcome_of};
+ghost use Rattle.example_symbols_program.specs.{FileFails, IsInputError, IsOutcomeFor, LooksUpAll};
+ghost use Rattle.example_symbols_program.specs.{ValidationFails, command_of, outcome_of};
 ghost use Rattle.example_symbols_program.specs.{outcome_of_names};
 
 mod by_address;
@@ -42,17 +43,23 @@ fn write(
 }
 
 /// Writes the bytes to a file.
-fn write_file(rt: &HostRuntime, file: &str, bytes: &[u8]) -> Result<(), SymbolsError> {
+fn write_file(rt: &HostRuntime, file: &str, bytes: &[u8]) -> Result<(), SymbolsError>
+    ensures { IfErr result (FileFails file.now) }
+{
     fs::write(rt, file, bytes).map_err(|error| file_error(rt.alloc(), file, error))
 }
 
 /// Returns the bytes of a file.
-fn read_file(rt: &HostRuntime, file: &str) -> Result<Vec<u8>, SymbolsError> {
+fn read_file(rt: &HostRuntime, file: &str) -> Result<Vec<u8>, SymbolsError>
+    ensures { IfErr result (FileFails file.now) }
+{
     fs::read(rt, file).map_err(|error| file_error(rt.alloc(), file, error))
 }
 
 /// Returns the text on standard input.
-fn read_input(rt: &HostRuntime) -> Result<String, SymbolsError> {
+fn read_input(rt: &HostRuntime) -> Result<String, SymbolsError>
+    ensures { IfErr result IsInputError }
+{
     io::read_to_string(rt.alloc(), rt.reader()).map_err(SymbolsError::Input)
 }
 
@@ -75,7 +82,8 @@ fn write_address<W: Write>(out: &mut W, table: &[u8], name: &str) -> Result<Outc
 
 /// Validates the table of a file.
 fn validate(rt: &HostRuntime, file: &str, table: &[u8]) -> Result<(), SymbolsError>
-    ensures { OnOk result (IsTable table.now) }
+    ensures valid { OnOk result (IsTable table.now) }
+    ensures fails { IfErr result (ValidationFails file.now) }
 {
     check(table).map_err(|error| invalid_error(rt.alloc(), file, error))
 }
@@ -221,6 +229,18 @@ fn execute(rt: &HostRuntime, name: &str, arguments: &[String]) -> Result<Outcome
     ensures get { command_of name.now (length arguments.now) ≡ Some Command.Get
         → 1 < length arguments.now
         → IfOk result (IsOutcomeFor (map string_bytes (drop 1 arguments.now))) }
+    ensures lines { command_of name.now (length arguments.now) ≡ Some Command.Get
+        → length arguments.now ≡ 1
+        → IfOk result (λ outcome. (text : List ℕ) × IsOutcomeFor (lines text) outcome) }
+    ensures all { command_of name.now (length arguments.now) ≡ Some Command.All
+        → IfOk result (λ outcome. (text : List ℕ)
+        × IsOutcomeFor (map (λ symbol. symbol.0) (symbols_of text)) outcome) }
+    ensures write { command_of name.now (length arguments.now) ≡ Some Command.Write
+        → IfOk result (λ outcome. outcome ≡ Outcome.Complete) }
+    ensures list { command_of name.now (length arguments.now) ≡ Some Command.List
+        → IfOk result (λ outcome. outcome ≡ Outcome.Complete) }
+    ensures help { command_of name.now (length arguments.now) ≡ Some Command.Help
+        → IfOk result (λ outcome. outcome ≡ Outcome.Complete) }
 {
     match command_of(name, arguments.len()) {
         Some(Command::Help) => {
