@@ -96,7 +96,7 @@ pub(crate) fn controls_of(capacity: usize, pos: usize) -> Option<usize>
 
 /// Returns the numbers of the hash map at a view of its header.
 ///
-/// Each key is looked up, unless the lookups read more than `limit` strides.
+/// Each key is looked up, unless the lookups read more than `limit` strides, or more than 2^63.
 ///
 /// # Requires
 ///

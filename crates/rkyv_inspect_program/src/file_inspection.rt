@@ -11,7 +11,7 @@ use rkyv_container::{Contents, Header, open};
 use rkyv_inspect::{Inspection, inspect};
 use std::alloc::Global;
 
-/// The greatest number of strides that the lookups of all keys may read.
+/// The limit of the strides that the lookups of all keys read. Past it, they are left out.
 const STRIDES: u64 = 16_777_216;
 
 /// The inspection of the bytes of a file.
@@ -25,7 +25,7 @@ pub struct FileInspection<'a> {
     pub inspection: Inspection,
 }
 
-/// Returns the inspection of an archive, whose lookups read at most `STRIDES` strides.
+/// Returns the inspection of an archive, without lookups if they read more than `STRIDES` strides.
 fn inspect_archive(
     alloc: Global,
     file: &str,

@@ -23,8 +23,8 @@ container.
   --svg          prints a drawing of the fields alone, as SVG
   -h, --help     prints this text
 
-exit status: 0 if the archive is valid or this text is printed, 1 if the archive is invalid, 2 if
-the command line isn't one of these, 3 if there is another error";
+exit status: 0 if the archive is valid or --help is given, 1 if FILE is no container or the archive
+is invalid, 2 if the command line isn't one of these, 3 if there is another error";
 
 /// The name of an option.
 #[derive(Clone, Copy, Debug, PartialEq, Eq)]

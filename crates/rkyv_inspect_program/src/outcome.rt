@@ -7,7 +7,7 @@ use crate::errors::ProgramError;
 /// The outcome of a run that doesn't fail.
 #[derive(Clone, Copy, Debug, PartialEq, Eq)]
 pub enum Outcome {
-    /// The archive is valid, or the usage is printed.
+    /// The archive is valid, or `--help` is given.
     Complete,
     /// The command line isn't one of the usage.
     Misused,
@@ -17,7 +17,7 @@ pub enum Outcome {
 ///
 /// | Status | Outcome |
 /// |---|---|
-/// | 0 | the archive is valid, or the usage is printed |
+/// | 0 | the archive is valid, or `--help` is given |
 /// | 1 | the file can't be opened as a container, or the archive is invalid |
 /// | 2 | the command line isn't one of the usage |
 /// | 3 | another error |

@@ -5,7 +5,12 @@ use crate::tests::archives::{
     WIDE_SET,
 };
 use crate::tests::support::{narrow, numbers, wide};
+use rkyv_base::access::access;
+use rkyv_collections::HashMapOf;
 use rkyv_container::{Contents, ItemType, Kind};
+use rkyv_index::IndexMapOf;
+use rkyv_inspect::index_summary::index_summary;
+use rkyv_inspect::map_summary::map_summary;
 use rkyv_inspect::{Lookups, Summary, inspect};
 use std::alloc::Global;
 use std::test::Fail;
@@ -19,14 +24,18 @@ type Numbers = (usize, usize, u64, Option<usize>, Option<usize>);
 /// Returns the numbers of an archive.
 fn numbers_of(alloc: Global, archive: &[u8], contents: Contents) -> Result<Numbers, Fail> {
     let inspection = inspect(alloc, archive, contents, 1000)?;
-    let summary = &inspection.summary;
-    Ok((
+    Ok(all_of(&inspection.summary))
+}
+
+/// Returns the numbers of a summary.
+fn all_of(summary: &Summary) -> Numbers {
+    (
         summary.len,
         summary.capacity,
         summary.header_pos,
         summary.controls_pos,
         misplaced_of(summary),
-    ))
+    )
 }
 
 /// Returns the number of misplaced keys, if the keys are looked up.
@@ -99,6 +108,23 @@ fn sets_and_index_maps(rt: HostRuntime) -> Result<(), Fail> {
     expect_eq!(rt; found, (2, 3, 84, Some(12), Some(0)));
     let found = numbers_of(alloc, &WIDE_SET, wide_set)?;
     expect_eq!(rt; found, (3, 4, 88, Some(32), Some(0)));
+    Ok(())
+}
+
+// A `char` has the bytes and the hash of its number.
+#[test]
+fn summaries_of_other_keys(rt: HostRuntime) -> Result<(), Fail> {
+    let alloc = rt.alloc();
+    let map = access::<HashMapOf<char, u32>>(&ONE_NUMBER)?;
+    let index = access::<IndexMapOf<char, u32>>(&INDEX_NUMBER)?;
+    let found = [
+        all_of(&map_summary(alloc, map, 1000)?),
+        all_of(&index_summary(alloc, index, 1000)?),
+    ];
+    expect_eq!(rt;
+        found,
+        [(1, 2, 48, Some(16), Some(0)), (1, 2, 48, Some(8), Some(0))]
+    );
     Ok(())
 }
 
