@@ -4,12 +4,12 @@ use Rattle.rkyv_base.specs.declared.errors.VerifyError.{VerifyError}
 use Rattle.rkyv_base.specs.declared.errors.WriteError.{WriteError}
 use Rattle.rkyv_base.specs.declared.writer.NoMemory.{NoMemory}
 use Rattle.rkyv_dict.specs.declared.form.Form.{Form}
-use Rattle.rkyv_dict.specs.Steps.{RunsTo}
 use Rattle.rkyv_dict.specs.Archives.{IsArchive, ValidationFails}
 use Rattle.rkyv_dict.specs.Built.{BuildFails, IsBuilt}
-use Rattle.rkyv_dict.specs.Errors.{write_error_text, is_allocation_failure}
+use Rattle.rkyv_dict.specs.Errors.{is_allocation_failure, write_error_text}
 use Rattle.rkyv_dict.specs.Forms.{Pairs}
 use Rattle.rkyv_dict.specs.States.{State}
+use Rattle.rkyv_dict.specs.Steps.{RunsTo}
 
 -- the pairs have at most one archive of a form under a load factor
 abbrev pub BuildsAreOne : Type 0

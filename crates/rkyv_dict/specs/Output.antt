@@ -4,8 +4,8 @@ use Rattle.rkyv_base.specs.declared.errors.VerifyError.{VerifyError}
 use Rattle.rkyv_base.specs.declared.errors.WriteError.{WriteError}
 use Rattle.rkyv_dict.specs.declared.form.Form.{Form}
 use Rattle.rkyv_dict.specs.Archives.{line, listing, misplaced_count, value_found, value_line}
+use Rattle.rkyv_dict.specs.Errors.{verify_error_text, write_error_text}
 use Rattle.rkyv_dict.specs.First.{first_value_text}
-use Rattle.rkyv_dict.specs.Errors.{write_error_text, verify_error_text}
 use Rattle.rkyv_dict.specs.Forms.{LookupKey, Pairs}
 use Rattle.rkyv_dict.specs.Hex.{hex_of}
 use Rattle.rkyv_dict.specs.States.{Archived}

@@ -31,7 +31,8 @@ const BAD_LINE: &str = "error 10 BadLine";
 
 /// The bytes of an archive.
 ///
-/// `built_len` is the length of the list when it was built, or `None` after `check`.
+/// `built_len` is the length of the list when it was built, or `None` after `check`. No code reads
+/// it: the contracts relate the archive to the list by it.
 #[derive(Drop)]
 struct Stored {
     bytes: Vec<u8>,
