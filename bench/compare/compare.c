@@ -27,9 +27,9 @@ enum measure {
 
 static const char *const NAMES[MEASURES] = {
     "u32 | hash", "u32 | build", "u32 | lookup, found", "u32 | lookup, not found", "u32 | access",
-    "u32 | walk", "text | hash", "text | build", "text | lookup, found", "text | lookup, not found",
-    "text | access", "text | walk", "index u32 | build", "index u32 | lookup, found",
-    "index u32 | lookup, not found", "index u32 | access", "index u32 | walk",
+    "u32 | iteration", "text | hash", "text | build", "text | lookup, found", "text | lookup, not found",
+    "text | access", "text | iteration", "index u32 | build", "index u32 | lookup, found",
+    "index u32 | lookup, not found", "index u32 | access", "index u32 | iteration",
 };
 
 typedef size_t build_numbers(const uint32_t *, size_t, const uint32_t *, size_t, uint8_t *, size_t);

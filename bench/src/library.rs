@@ -1,7 +1,7 @@
 //! Safe Rust over the static library `bench_library`.
 //!
 //! Nothing checks a call from Rust against a contract. So each call here satisfies the contract:
-//! texts are only made from `&str`s, and lookups and walks only get valid archives.
+//! texts are only made from `&str`s, and lookups and iterations only get valid archives.
 
 use std::ffi::{c_int, c_void};
 
@@ -144,7 +144,7 @@ pub trait Keys {
     fn lookup(&self, archive: &ValidArchive<'_, Self>) -> u64;
 
     /// Returns the sum of all pairs of an archive.
-    fn walk(archive: &ValidArchive<'_, Self>) -> u64;
+    fn iterate(archive: &ValidArchive<'_, Self>) -> u64;
 
     /// Reads an archive back into a map of std's. Returns its number of entries.
     fn read_back(archive: &ValidArchive<'_, Self>) -> usize;
@@ -207,7 +207,7 @@ impl Keys for Numbers {
         }
     }
 
-    fn walk(archive: &ValidArchive<'_, Self>) -> u64 {
+    fn iterate(archive: &ValidArchive<'_, Self>) -> u64 {
         // SAFETY: as above, and the archive is valid.
         unsafe { rkyv_bench_walk_u32(archive.archive.as_ptr(), archive.archive.len()) }
     }
@@ -254,7 +254,7 @@ impl Keys for Ordered {
         }
     }
 
-    fn walk(archive: &ValidArchive<'_, Self>) -> u64 {
+    fn iterate(archive: &ValidArchive<'_, Self>) -> u64 {
         // SAFETY: as above, and the archive is valid.
         unsafe { rkyv_bench_walk_index_u32(archive.archive.as_ptr(), archive.archive.len()) }
     }
@@ -305,8 +305,8 @@ impl Keys for InStd {
         self.0.lookup(&archive.as_map())
     }
 
-    fn walk(archive: &ValidArchive<'_, Self>) -> u64 {
-        Numbers::walk(&archive.as_map())
+    fn iterate(archive: &ValidArchive<'_, Self>) -> u64 {
+        Numbers::iterate(&archive.as_map())
     }
 
     fn read_back(archive: &ValidArchive<'_, Self>) -> usize {
@@ -392,7 +392,7 @@ impl Keys for Texts {
         }
     }
 
-    fn walk(archive: &ValidArchive<'_, Self>) -> u64 {
+    fn iterate(archive: &ValidArchive<'_, Self>) -> u64 {
         // SAFETY: as above, and the archive is valid.
         unsafe { rkyv_bench_walk_text(archive.archive.as_ptr(), archive.archive.len()) }
     }

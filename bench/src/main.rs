@@ -32,7 +32,7 @@ enum Measure {
     Access,
     Hits,
     Misses,
-    Walk,
+    Iterate,
     // Reads an archive back into a map of std's. For std's side, a new map is filled.
     ReadBack,
 }
@@ -45,7 +45,7 @@ const OF_NUMBERS: &[Measure] = &[
     Measure::Access,
     Measure::Hits,
     Measure::Misses,
-    Measure::Walk,
+    Measure::Iterate,
 ];
 
 const OF_TEXTS: &[Measure] = &[
@@ -55,7 +55,7 @@ const OF_TEXTS: &[Measure] = &[
     Measure::Access,
     Measure::Hits,
     Measure::Misses,
-    Measure::Walk,
+    Measure::Iterate,
 ];
 
 // The measures over the number of entries.
@@ -64,7 +64,7 @@ const BY_SIZE: &[Measure] = &[
     Measure::Access,
     Measure::Hits,
     Measure::Misses,
-    Measure::Walk,
+    Measure::Iterate,
 ];
 
 // The hashes of an index map's keys are those of a hash map's.
@@ -73,7 +73,7 @@ const OF_INDEX_MAPS: &[Measure] = &[
     Measure::Access,
     Measure::Hits,
     Measure::Misses,
-    Measure::Walk,
+    Measure::Iterate,
 ];
 
 // An archived map of std's is a hash map.
@@ -88,7 +88,7 @@ impl Measure {
             Measure::Access => "access",
             Measure::Hits => "lookup, found",
             Measure::Misses => "lookup, not found",
-            Measure::Walk => "walk",
+            Measure::Iterate => "iteration",
             Measure::ReadBack => "read back",
         }
     }
@@ -113,7 +113,7 @@ trait Key: Copy + Eq + Hash {
 
     fn own(self) -> Self::Owned;
 
-    /// Returns the number that a walk adds for a key.
+    /// Returns the number that an iteration adds for a key.
     fn weight(key: &Self::Asked) -> u64;
 }
 
@@ -237,7 +237,7 @@ fn measure_std<Q: Key, K, S: BuildHasher + Default>(
         Measure::Access => unreachable!("it has no counterpart"),
         Measure::Hits => time(times, || lookup(black_box(work.hit_list))),
         Measure::Misses => time(times, || lookup(black_box(work.miss_list))),
-        Measure::Walk => time(times, || {
+        Measure::Iterate => time(times, || {
             sum(black_box(map)
                 .iter()
                 .map(|(key, value)| Q::weight(key.borrow()).wrapping_add(u64::from(*value))))
@@ -267,7 +267,7 @@ fn measure_ours<Q, K: Keys>(
         Measure::Access => time(times, || K::access(black_box(archive)) as u64),
         Measure::Hits => time(times, || black_box(work.hits).lookup(valid)),
         Measure::Misses => time(times, || black_box(work.misses).lookup(valid)),
-        Measure::Walk => time(times, || K::walk(black_box(valid))),
+        Measure::Iterate => time(times, || K::iterate(black_box(valid))),
         Measure::ReadBack => time(times, || K::read_back(black_box(valid)) as u64),
     }
 }
@@ -301,7 +301,7 @@ fn run<Q: Key, K: Keys>(
     let mut random = XorShift64::new();
     let times = KEYS_A_VALUE.div_ceil(count);
     let hit_sum = sum(work.values.iter().map(|value| u64::from(*value)));
-    let walk_sum =
+    let pair_sum =
         hit_sum.wrapping_add(sum(work.key_list.iter().map(|key| Q::weight(key.asked()))));
     let hash_sum = sum(work
         .key_list
@@ -322,7 +322,7 @@ fn run<Q: Key, K: Keys>(
                 Measure::Access => count as u64 + 1,
                 Measure::Hits => hit_sum,
                 Measure::Misses => MISS * count as u64,
-                Measure::Walk => walk_sum,
+                Measure::Iterate => pair_sum,
             };
             assert_eq!(result, expected, "{}: another result", measure.name());
             taken.push((*measure, *contestant, duration));

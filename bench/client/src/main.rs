@@ -27,7 +27,7 @@ enum Measure {
     Open,
     Hits,
     Misses,
-    Walk,
+    Iterate,
 }
 
 const MEASURES: [Measure; 5] = [
@@ -35,7 +35,7 @@ const MEASURES: [Measure; 5] = [
     Measure::Open,
     Measure::Hits,
     Measure::Misses,
-    Measure::Walk,
+    Measure::Iterate,
 ];
 
 impl Measure {
@@ -45,7 +45,7 @@ impl Measure {
             Measure::Open => "open",
             Measure::Hits => "lookup, found",
             Measure::Misses => "lookup, not found",
-            Measure::Walk => "walk",
+            Measure::Iterate => "iteration",
         }
     }
 }
@@ -106,7 +106,7 @@ fn measure_ours<K: Key + ?Sized>(
         }),
         Measure::Hits => time_each(times, || lookup(black_box(&work.hits))),
         Measure::Misses => time_each(times, || lookup(black_box(&work.misses))),
-        Measure::Walk => time_each(times, || {
+        Measure::Iterate => time_each(times, || {
             sum(black_box(map).iter().map(|(_, value)| u64::from(value)))
         }),
     }
@@ -135,7 +135,7 @@ where
         Measure::Open => unreachable!("it has no counterpart"),
         Measure::Hits => time_each(times, || lookup(black_box(&work.hits))),
         Measure::Misses => time_each(times, || lookup(black_box(&work.misses))),
-        Measure::Walk => time_each(times, || {
+        Measure::Iterate => time_each(times, || {
             sum(black_box(map).values().map(|value| u64::from(*value)))
         }),
     }
@@ -173,7 +173,7 @@ where
             };
             let expected = match measure {
                 Measure::Build | Measure::Open => count as u64,
-                Measure::Hits | Measure::Walk => value_sum,
+                Measure::Hits | Measure::Iterate => value_sum,
                 Measure::Misses => MISS * count as u64,
             };
             assert_eq!(result, expected, "{}: another result", measure.name());
