@@ -4,6 +4,7 @@ use Rattle.std.specs.declared.io.Error.{Error}
 use Rattle.rkyv_base.specs.declared.errors.VerifyError.{VerifyError}
 use Rattle.rkyv_base.specs.declared.errors.WriteError.{WriteError}
 use Rattle.rkyv_base.specs.declared.writer.NoMemory.{NoMemory}
+use Rattle.example_symbols.specs.{ValidationFails}
 use Rattle.example_symbols_program.specs.declared.errors.SymbolsError.{SymbolsError}
 use Rattle.example_symbols_program.specs.declared.errors.SymbolsError.TheVariants.{File, Input}
 use Rattle.example_symbols_program.specs.declared.errors.SymbolsError.TheVariants.{Invalid, Memory}
@@ -36,6 +37,8 @@ IsValidationError name cause (Invalid file error) = (string_bytes file ≡ name)
 IsValidationError _ _ (Memory _) = Unit {0}
 IsValidationError _ _ _ = ⊥
 
--- the error of the program for some invalid archive in the file `name`, or a failed allocation
-abbrev pub ValidationFails : List ℕ → SymbolsError → Type 0
-ValidationFails name e = (cause : VerifyError) × IsValidationError name cause e
+-- the error of the program for the first fault of `table` in the file `name`, or a failed
+-- allocation
+abbrev pub RejectsTable : List ℕ → List ℕ → SymbolsError → Type 0
+RejectsTable name table e =
+    (cause : VerifyError) × ValidationFails table cause × IsValidationError name cause e

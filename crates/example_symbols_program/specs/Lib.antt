@@ -9,5 +9,5 @@ unfoldable pub use ByAddress.{pairs_format, turned}
 pub use ByAddress.{IsAscending}
 unfoldable pub use Commands.{command_of, least_count}
 unfoldable pub use Errors.{FileFails, IsFileError, IsInputError, IsValidationError, IsWriteError}
-unfoldable pub use Errors.{ValidationFails}
+unfoldable pub use Errors.{RejectsTable}
 unfoldable pub use Outcomes.{IsOutcomeFor, LooksUpAll, outcome_of, outcome_of_names}

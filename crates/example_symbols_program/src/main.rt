@@ -2,12 +2,12 @@
 #![tactic(auto)]
 
 ghost use Rattle.std.specs.Iterator.{IsFinite};
-ghost use Rattle.std.specs.Prelude.{IfErr, IfOk, IsTrue, List, None, Ok, OnOk, Some, drop, false};
-ghost use Rattle.std.specs.Prelude.{length, map, string_bytes, ℕ, ◌<◌, ◌↔◌, ◌≡◌, ◌≢◌};
+ghost use Rattle.std.specs.Prelude.{IfErr, IfOk, IsTrue, List, MatchResult, None, Ok, Some, drop};
+ghost use Rattle.std.specs.Prelude.{false, length, map, string_bytes, ℕ, ◌<◌, ◌↔◌, ◌≡◌, ◌≢◌};
 ghost use Rattle.std.specs.Str.Lines.{lines};
 ghost use Rattle.example_symbols.specs.{IsTable, address_found, symbols_of};
 ghost use Rattle.example_symbols_program.specs.{FileFails, IsInputError, IsOutcomeFor, LooksUpAll};
-ghost use Rattle.example_symbols_program.specs.{ValidationFails, command_of, outcome_of};
+ghost use Rattle.example_symbols_program.specs.{RejectsTable, command_of, outcome_of};
 ghost use Rattle.example_symbols_program.specs.{outcome_of_names};
 
 mod by_address;
@@ -82,8 +82,8 @@ fn write_address<W: Write>(out: &mut W, table: &[u8], name: &str) -> Result<Outc
 
 /// Validates the table of a file.
 fn validate(rt: &HostRuntime, file: &str, table: &[u8]) -> Result<(), SymbolsError>
-    ensures valid { OnOk result (IsTable table.now) }
-    ensures fails { IfErr result (ValidationFails file.now) }
+    ensures { MatchResult result (λ _. IsTable table.now)
+        (RejectsTable file.now table.now) }
 {
     check(table).map_err(|error| invalid_error(rt.alloc(), file, error))
 }
