@@ -120,8 +120,8 @@ impl<F> From<IteratorLengthMismatch> for WriteError<F> {
 pub enum VerifyError {
     /// A part or the root isn't inside its range of bytes, or the archive is longer than the limit.
     ///
-    /// The position is negative if a distance leads before the start of the archive, or if
-    /// the archive is shorter than its root.
+    /// The position is negative if a distance leads before the start of the archive, if the buckets
+    /// of a table would begin before it, or if the archive is shorter than its root.
     #[error("{size} bytes at {pos} are out of range")]
     OutOfRange {
         /// The position of the first byte of the part.

@@ -47,9 +47,9 @@ unfoldable pub use Map.SealedMap.{CanCompareKeysAt, CanCompareKeysIn, ComparesKe
 unfoldable pub use Map.SealedMap.{FindsFirstByAt, FoundValueByHasAt, IsAcceptedKeyAt, IsKeyPosIn}
 unfoldable pub use Map.SealedMap.{IsMapSeal, IsPairSeal, IsPairSealAt, IsValueSealAt, map_sealed}
 pub use Map.SealedMap.{FoundByHasAt, IsKeyAt, IsPairPos, IsValueSeal}
-unfoldable pub use Map.SealedPairs.{IsPairIter, KeepsPairs, KeepsValues, LendsFirstPair}
-unfoldable pub use Map.SealedPairs.{LendsFirstValue, MayWritePair, MayWriteValue, YieldsKeyPos}
-unfoldable pub use Map.SealedPairs.{YieldsValuePos, entries_in, entries_of}
+unfoldable pub use Map.SealedPairs.{IsPairIter, IsPairOfMap, IsValueOfMap, KeepsPairs, KeepsValues}
+unfoldable pub use Map.SealedPairs.{LendsFirstPair, LendsFirstValue, MayWritePair, MayWriteValue}
+unfoldable pub use Map.SealedPairs.{YieldsKeyPos, YieldsValuePos, entries_in, entries_of}
 pub use Map.SealedPairs.{HasAllPairs, IsDone, IsSplitPair, StepsAndWritesPair, StepsAndWritesValue}
 pub use Map.SealedPairs.{YieldsPairAt}
 unfoldable pub use Map.ValueWrites.{KeepsMapAt, ValueWritesKeepLookups, ValueWritesKeepMaps}

@@ -1,9 +1,11 @@
 //! Laws of scripts and of errors, each a function whose contract is the statement.
 ghost use Rattle.rkyv_dict.specs.{BuildsAreOne, BuildsHaveResult, ChecksAreOne, ChecksHaveResult};
 ghost use Rattle.rkyv_dict.specs.{ScriptsAreOne, ScriptsHaveOutput, message_of};
-ghost use Rattle.std.specs.Prelude.{Some, ◌≡◌};
+ghost use Rattle.rkyv_dict.specs.declared.run.RunError.TheVariants.{Memory};
+ghost use Rattle.std.specs.Prelude.{Some, ◌≡◌, ◌↔◌};
 
 use crate::run::RunError;
+use std::alloc::AllocError;
 use std::fmt;
 
 /// States that the pairs have at most one archive of a form under a load factor.
@@ -34,6 +36,11 @@ pub fn checks_have_result()
 /// States that the lines of each script have an output.
 pub fn scripts_have_output()
     ensures { ScriptsHaveOutput }
+{}
+
+/// States that `?` converts a failed allocation into `Memory`.
+pub fn errors_are_converted()
+    ensures { (a : _) (e : _) → ⟦<RunError as From<AllocError>>⟧.from_gives a e ↔ (e ≡ Memory) }
 {}
 
 /// States the texts that `Display` writes for the errors of a run.

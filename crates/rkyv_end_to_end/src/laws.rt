@@ -1,15 +1,32 @@
-//! The laws of written lists.
+//! The laws of written lists, and of errors that `?` converts.
 //!
-//! They hold after writes of items in place too.
-ghost use Rattle.std.specs.Prelude.{ℕ};
+//! Those of lists hold after writes of items in place too.
+ghost use Rattle.std.specs.Prelude.{ℕ, ◌≡◌, ◌↔◌};
 ghost use Rattle.rkyv_end_to_end.specs.{ItemsAreReplaced, ListsAreValid, LookupsFindListed};
 ghost use Rattle.rkyv_end_to_end.specs.{encoding};
+ghost use Rattle.rkyv_end_to_end.specs.declared.looking.LookError.TheVariants.{Memory, Verify};
+ghost use Rattle.rkyv_end_to_end.specs.declared.whole.ListError.TheVariants.{Look, Write};
 
-use rkyv_base::{Archive, Lend, View, Width};
+use crate::looking::LookError;
+use crate::whole::ListError;
+use rkyv_base::{Archive, Lend, NoMemory, VerifyError, View, Width, WriteError};
 use rkyv_table::table::laws::written::{
     represented_lists_were_written, written_tables_pass, written_tables_represent,
 };
 use rkyv_table::table::laws::{lookups_find_the_first, walk_visits_homes};
+use std::alloc::AllocError;
+
+/// States into which error `?` converts an error.
+pub fn errors_are_converted()
+    ensures verify { (a : _) (e : _) → ⟦<LookError as From<VerifyError>>⟧.from_gives a e
+        ↔ (e ≡ Verify a) }
+    ensures memory { (a : _) (e : _) → ⟦<LookError as From<AllocError>>⟧.from_gives a e
+        ↔ (e ≡ Memory) }
+    ensures write { (a : _) (e : _) → ⟦<ListError as From<WriteError<NoMemory>>>⟧.from_gives a e
+        ↔ (e ≡ Write a) }
+    ensures look { (a : _) (e : _) → ⟦<ListError as From<LookError>>⟧.from_gives a e
+        ↔ (e ≡ Look a) }
+{}
 
 /// States that a written table with its header is valid in each archive that has its bytes.
 ///

@@ -10,7 +10,9 @@ mod looking;
 mod whole;
 mod writing;
 
-pub use laws::{lookups_find_listed, written_items_are_replaced, written_lists_represent};
+pub use laws::{
+    errors_are_converted, lookups_find_listed, written_items_are_replaced, written_lists_represent,
+};
 pub use looking::{LookError, TableReport, look_over};
 pub use whole::{ListError, write_and_look_over};
 pub use writing::{WrittenList, write_list};

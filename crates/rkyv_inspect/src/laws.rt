@@ -1,13 +1,24 @@
-//! Laws of the types of keys and values that are shown.
+//! Laws of the types of keys and values that are shown, and of errors that `?` converts.
 //!
 //! An implementation names these in its own ghost members. The laws say them of each type,
 //! by the definitions in `specs/`.
 
-ghost use Rattle.std.specs.Prelude.{false, true, ◌≡◌};
+ghost use Rattle.std.specs.Prelude.{false, true, ◌≡◌, ◌↔◌};
 ghost use Rattle.rkyv_inspect.specs.{SameParts, no_part, part_of_text};
+ghost use Rattle.rkyv_inspect.specs.declared.errors.InspectError.TheVariants.{Invalid, Memory};
 
+use crate::errors::InspectError;
 use crate::fields::Field;
-use rkyv_base::{Text, Width};
+use rkyv_base::{Text, VerifyError, Width};
+use std::alloc::AllocError;
+
+/// States into which error `?` converts an error.
+pub fn errors_are_converted()
+    ensures invalid { (a : _) (e : _) → ⟦<InspectError as From<VerifyError>>⟧.from_gives a e
+        ↔ (e ≡ Invalid a) }
+    ensures memory { (a : _) (e : _) → ⟦<InspectError as From<AllocError>>⟧.from_gives a e
+        ↔ (e ≡ Memory) }
+{}
 
 /// States which types have a text: numbers and texts, but not the unit type.
 pub fn numbers_and_texts_are_shown<W: Width>()

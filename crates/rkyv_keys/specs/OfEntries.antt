@@ -26,7 +26,7 @@ module _ (k v : ElementSpec) where
       → List ℕ → ℕ → A × B → Type 0
   entry_equals key value b p pair = key b p pair.0 × value b (p + value_offset k v) pair.1
 
--- `e`: error of the key, or, after the key was deserialized, error of the value
+-- `e`: error of the key, or, if the key's bytes represent a value, error of the value
 abbrev pub entry_deserialize_fails : {A B : Type 0} → DeserializeMembers A → DeserializeMembers B
     → DeserializeErrors
 entry_deserialize_fails {A} k v b p e =

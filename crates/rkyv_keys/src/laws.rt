@@ -7,7 +7,8 @@
 
 ghost use Rattle.std.specs.Prelude.{[], string_bytes, ◌++◌, ◌∷◌, ◌≡◌, ◌↔◌};
 ghost use Rattle.rkyv_scan.specs.{I16, I32, I64, I8, Isize, U16, U32, U64, U8, Usize};
-ghost use Rattle.rkyv_base.specs.{IsTextOf, SameValues, ScalarRepresents, unit_represents};
+ghost use Rattle.rkyv_base.specs.{IsTextOf, IsValidView, SameValues, ScalarRepresents};
+ghost use Rattle.rkyv_base.specs.{unit_represents};
 ghost use Rattle.rkyv_keys.specs.{BothRead, FitsByValue, FitsSameKeys, HashesAsWritten, HashesBy};
 ghost use Rattle.rkyv_keys.specs.{RestsOnKeys, SameComparison, SameErrors, at_view, bool_call};
 ghost use Rattle.rkyv_keys.specs.{entry_deserialize_fails, entry_equals, entry_same};
@@ -38,7 +39,11 @@ pub fn queries_rest_on_keys<K: KeyElement, Q: Query<K>>()
 {}
 
 /// States that a view of a key is hashed as that key, and matches the keys that are the same as it.
+///
+/// It can be read if it is valid.
 pub fn views_match_same_keys<'a, K: KeyElement>()
+    ensures read { (view : _) →
+        ⟦<View<'a, K> as KeyHash>⟧.can_read view ↔ IsValidView K.spec view }
     ensures hashed { (view : _) →
         ⟦<View<'a, K> as KeyHash>⟧.calls view ≡ at_view K.key_calls view }
     ensures matched { FitsSameKeys K.same ⟦<View<'a, K> as Query<K>>⟧.fits }
@@ -116,7 +121,7 @@ where
 /// States the errors with which scalars, the unit value, texts and pairs are deserialized.
 ///
 /// Scalars and `()` never fail. A text fails only to allocate, and never if it is empty. A pair
-/// fails with an error of its key or, if the key can be deserialized, with one of its value.
+/// fails with an error of its key or, if the key's bytes represent a value, with one of its value.
 pub fn errors_of_deserializing<N: ScalarKey, W: Width, A: Drop, B, K, V>()
 where
     K: Deserialize<A>,

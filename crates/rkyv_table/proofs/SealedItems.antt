@@ -7,7 +7,7 @@ use Rattle.std.specs.Int.{Width}
 use Rattle.std.proofs.lemmas.Bool.{cases_eq, le-ltb, lt-ltb}
 use Rattle.rkyv_base.specs.{ElementSpec, IsElement, ModifiesOnly, StaysValid, Viewable, archive_in, pos_in}
 use Rattle.rkyv_scan.proofs.Indices.{range_agree}
-use Rattle.rkyv_table.specs.{IsItemAt, IsReadAt, IsSealIter, IsTableSeal, KeepsTable, StaysThere, cap_at, controls_pos, cursor_buckets_left, full_from, len_at, pos_before, table_bytes, table_controls, table_pos, table_spec, walk}
+use Rattle.rkyv_table.specs.{IsItemAt, IsItemOfTable, IsReadAt, IsSealIter, IsTableSeal, KeepsTable, StaysThere, YieldsBucket, cap_at, controls_pos, cursor_buckets_left, full_from, len_at, pos_before, table_bytes, table_controls, table_pos, table_spec, walk}
 use Rattle.rkyv_table.specs.declared.table.TableOf.{TableOf}
 use Rattle.rkyv_table.specs.declared.table.ArchivedHashTable.{ArchivedHashTable}
 use Rattle.rkyv_base.specs.declared.seal.ArchiveSeal.{ArchiveSeal}
@@ -26,6 +26,10 @@ full_taken controls cap b h full = grind (arith, lt-ltb)
 pub full_skipped : (controls : List ℕ) (cap b : ℕ) → b < cap → 128 ≤ slice_index controls b → full_from controls cap b ≡ full_from controls cap (b + 1)
 unfolding full_from
 full_skipped controls cap b h empty = grind (arith, le-ltb)
+
+-- the item that a step takes is a valid item of the table
+pub item_taken : {T : Type 0} {s : ElementSpec} {before after : RawIterSeal T} {q r : ℕ} → ((w : Width) (p : ℕ) → IsSealIter w s p before → YieldsBucket w s p before after q) → r ≡ q → IsItemOfTable s before r
+item_taken {s} {before} takes at = λ w p is. subst (λ n. Viewable s before.archive.now n) (sym at) (takes w p is).item.viewable
 
 module _ {T : Type 0} (w : Width) (s : ElementSpec) (law : IsElement s) (p : ℕ) (r : RawIterSeal T) (is : IsSealIter w s p r) where
   abbrev bytes : List ℕ

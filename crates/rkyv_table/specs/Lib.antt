@@ -95,9 +95,10 @@ pub use Table.OneWay.{WritesOneWay}
 unfoldable pub use Table.Bare.{AcceptedOf, CanCompareOf, ComparesByOf, ReadsExactly, WritesFound}
 unfoldable pub use Table.Bare.{table_in}
 pub use Table.Bare.{IsItemOf, LendsFound, LooksUp, TableIn}
-unfoldable pub use Table.SealedItems.{CountsDown, FindsFirstLeft, KeepsCursor, LendsFirst, MaySeal}
-unfoldable pub use Table.SealedItems.{MaySealIn, MaySealNext, MayWriteAt, MayWriteNext, WrittenBy}
-unfoldable pub use Table.SealedItems.{YieldsPosition, cursor_buckets_left, cursor_bytes, cursor_len}
+unfoldable pub use Table.SealedItems.{CountsDown, FindsFirstLeft, IsItemOfTable, KeepsCursor}
+unfoldable pub use Table.SealedItems.{LendsFirst, MaySeal, MaySealIn, MaySealNext, MayWriteAt}
+unfoldable pub use Table.SealedItems.{MayWriteNext, WrittenBy, YieldsPosition, cursor_buckets_left}
+unfoldable pub use Table.SealedItems.{cursor_bytes, cursor_len}
 pub use Table.SealedItems.{IsItemAt, IsSealIter, LendsArchive, SameArchive, SealedBy, StaysThere}
 pub use Table.SealedItems.{StepsAndWrites, YieldsBucket}
 unfoldable pub use Table.FoundWrites.{MayWriteIn, WritesIn}

@@ -3,7 +3,7 @@ use Rattle.std.specs.Prelude.{◌≡◌, ℕ, ◌+◌, ◌≤◌, List, [], ◌�
 use Rattle.std.specs.Prelude.{take}
 use Rattle.std.specs.Borrow.{MutBor}
 use Rattle.std.specs.Int.{Width}
-use Rattle.rkyv_base.specs.{ElementSpec, bytes_in, bytes_of, entry_spec, pos_of, seal_pos}
+use Rattle.rkyv_base.specs.{ElementSpec, Viewable, bytes_in, bytes_of, entry_spec, pos_of, seal_pos}
 use Rattle.rkyv_base.specs.{value_pos}
 use Rattle.rkyv_base.specs.declared.entry.Entry.{Entry}
 use Rattle.rkyv_base.specs.declared.seal.Seal.{Seal}
@@ -99,17 +99,29 @@ module _ {K V : Type 0} (k v : ElementSpec) where
   abbrev pub KeepsValues : RawIterSeal (Entry K V) → ℕ → RawIterSeal (Entry K V) → Type 0
   KeepsValues before q after = (key : ℕ) → q ≡ value_pos k v key → KeepsPairs before key after
 
-  -- the writer can be called with the bytes of the cursor and each position at which a value fits
+  -- `q`: position of a valid value in the bytes of the cursor, if it is over a valid map
+  abbrev pub IsValueOfMap : RawIterSeal (Entry K V) → ℕ → Type 0
+  IsValueOfMap r q = (w : Width) (p : ℕ) → IsPairIter w p r → Viewable v (cursor_bytes r) q
+
+  -- `q`: position of a valid key in the bytes of the cursor, before its valid value, if it is
+  -- over a valid map
+  abbrev pub IsPairOfMap : RawIterSeal (Entry K V) → ℕ → Type 0
+  IsPairOfMap r q = (w : Width) (p : ℕ) → IsPairIter w p r
+      → Viewable k (cursor_bytes r) q × Viewable v (cursor_bytes r) (value_pos k v q)
+
+  -- the writer can be called with the bytes of the cursor and each position at which a value fits.
+  -- It may rely on a valid value there, if the cursor is over a valid map
   abbrev pub MayWriteValue : {F : Type 0} → (F → MutBor (List ℕ) → ℕ → Type 0)
       → RawIterSeal (Entry K V) → F → Type 0
   MayWriteValue pre before write = (b : MutBor (List ℕ)) (q : ℕ) → b.now ≡ cursor_bytes before
-      → q + v.size ≤ length b.now → pre write b q
+      → q + v.size ≤ length b.now → IsValueOfMap before q → pre write b q
 
-  -- the writer can be called with the bytes of the cursor and each position at which a pair fits
+  -- the writer can be called with the bytes of the cursor and each position at which a pair fits.
+  -- It may rely on a valid pair there, if the cursor is over a valid map
   abbrev pub MayWritePair : {F : Type 0} → (F → MutBor (List ℕ) → ℕ → Type 0)
       → RawIterSeal (Entry K V) → F → Type 0
-  MayWritePair pre before write = (b : MutBor (List ℕ)) (q : ℕ)
-      → b.now ≡ cursor_bytes before → value_pos k v q + v.size ≤ length b.now → pre write b q
+  MayWritePair pre before write = (b : MutBor (List ℕ)) (q : ℕ) → b.now ≡ cursor_bytes before
+      → value_pos k v q + v.size ≤ length b.now → IsPairOfMap before q → pre write b q
 
   -- a step over the positions of the keys of a map, and the write to the archive if a pair remained
   pub record StepsAndWritesPair (Writes : List ℕ → ℕ → List ℕ

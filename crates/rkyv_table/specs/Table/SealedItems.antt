@@ -107,11 +107,16 @@ KeepsCursor s before q after =
     → KeepsTable w s before.archive.now after.archive.now p i × IsSealIter w s p after
     × (cursor_buckets_left w p after ≡ cursor_buckets_left w p before)
 
--- `write` can be called with the archive and each position at which an item fits
+-- `q`: position of a valid item in the bytes of the cursor, if it is over a valid table
+abbrev pub IsItemOfTable : {T : Type 0} → ElementSpec → RawIterSeal T → ℕ → Type 0
+IsItemOfTable s r q = (w : Width) (p : ℕ) → IsSealIter w s p r → Viewable s r.archive.now q
+
+-- `write` can be called with the archive and each position at which an item fits. It may rely on
+-- a valid item there, if the cursor is over a valid table
 abbrev pub MayWriteNext : {F T : Type 0} → (F → MutBor (List ℕ) → ℕ → Type 0) → ElementSpec
     → RawIterSeal T → F → Type 0
 MayWriteNext pre s before write = (b : MutBor (List ℕ)) (q : ℕ) → b.now ≡ before.archive.now
-    → q + s.size ≤ length b.now → pre write b q
+    → q + s.size ≤ length b.now → IsItemOfTable s before q → pre write b q
 
 -- `write` can be called with the archive and position `q`
 abbrev pub MayWriteAt : {F T : Type 0} → (F → MutBor (List ℕ) → ℕ → Type 0) → RawIterSeal T → ℕ → F
@@ -150,12 +155,13 @@ pub record SealedBy {F R T : Type 0} (post : F → MutBor (Seal T) → R → Mut
   pub met : post write given r left
   pub leaves : left.now.bytes.ghost_name ≡ given.now.bytes.ghost_name → bytes_in left.now ≡ c
 
--- `write` can be called with a seal of each item that fits in the archive
+-- `write` can be called with a seal of each item that fits in the archive. It may rely on
+-- a valid item there, if the cursor is over a valid table
 abbrev pub MaySealNext : {F T : Type 0} → (F → MutBor (Seal T) → Type 0) → ElementSpec
     → RawIterSeal T → F
     → Type 0
 MaySealNext {F} {T} pre s before write = (x : MutBor (Seal T)) → bytes_in x.now ≡ before.archive.now
-    → LiesIn s x.now → pre write x
+    → LiesIn s x.now → IsItemOfTable s before (seal_pos x.now) → pre write x
 
 -- `write` can be called with a seal of each valid value of the bytes
 abbrev pub MaySealIn : {F T : Type 0} → (F → MutBor (Seal T) → Type 0) → ElementSpec → F → List ℕ

@@ -1,15 +1,24 @@
-//! Laws of probe sequences, walks and searches, and of written control bytes.
+//! Laws of capacity errors, probe sequences, walks and searches, and of written control bytes.
 ghost use Rattle.std.specs.Iterator.{YieldsFirst, item_count};
 ghost use Rattle.std.specs.Prelude.{List, ℕ, ◌≡◌, ◌↔◌};
 ghost use Rattle.rkyv_table.specs.{BucketsAreProbed, FirstEmptyIsNextHome, FoundOnWritten};
 ghost use Rattle.rkyv_table.specs.{HomesAreFirstEmpty, HomesAreOneList, HomesExist};
 ghost use Rattle.rkyv_table.specs.{MarkedAreWalked, SearchIsBounded, StridesCover, StridesReadARow};
 ghost use Rattle.rkyv_table.specs.{SameSteps, WalkedAreFull, WrittenAreOneList, WrittenAreValid};
+ghost use Rattle.rkyv_table.specs.{capacity_write_error};
 
 use crate::controls::find::Strides;
+use crate::controls::numbers::CapacityError;
 use crate::controls::probe::Probe;
 use crate::controls::walk::Walk;
+use rkyv_base::WriteError;
 use rkyv_scan::GroupKind;
+
+/// States that `?` converts a `CapacityError` into the `WriteError` of the same name and fields.
+pub fn capacity_errors_are_converted<F>()
+    ensures { (a : _) (e : _) → ⟦<WriteError<F> as From<CapacityError>>⟧.from_gives a e
+        ↔ (e ≡ capacity_write_error a) }
+{}
 
 /// States that the strides of a hash begin at all indices of one residue class modulo 16.
 ///

@@ -149,8 +149,7 @@ impl<'a, T: Element> RawIterSeal<'a, T> {
     {
         let next = self.next_pos();
         if let Some(pos) = next {
-            let bytes = &mut *self.archive;
-            write(bytes, pos);
+            self.write_with(pos, write);
         }
         next
     }

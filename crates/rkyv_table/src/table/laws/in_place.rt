@@ -1,11 +1,12 @@
 //! Laws of writes in place.
 
-ghost use Rattle.std.specs.Prelude.{List, length, ℕ, ◌-◌};
+ghost use Rattle.std.specs.Prelude.{List, length, ℕ, ◌-◌, ◌≡◌};
 ghost use Rattle.rkyv_base.specs.{IsValidArchive, Viewable, entry_spec};
 ghost use Rattle.rkyv_table.specs.{IsWalked, ItemsWrittenRepresent, KeepsArchive, KeepsTable};
 ghost use Rattle.rkyv_table.specs.{KeptByValueWrites, KeptByWrites, SameLookups, WritesAmongParts};
 ghost use Rattle.rkyv_table.specs.{table_spec};
 
+use crate::table::ArchivedHashTable;
 use rkyv_base::{Element, Represents, Width};
 
 /// States that if a write changes one item alone and keeps it valid, the table stays valid.
@@ -50,3 +51,20 @@ pub fn writes_keep_archives<T: Element, W: Width>()
         → WritesAmongParts T.spec b c (length b - T.spec.size)
         → KeepsArchive W.LIMIT T.spec b c }
 {}
+
+/// States that a cursor over a table changes no byte by its steps, nor when it is dropped.
+///
+/// It takes `steps` steps, and further ones after the last item.
+///
+/// # Requires
+///
+/// - The archive has a valid table at `pos`.
+pub fn cursors_keep_bytes<T: Element, W: Width>(archive: &mut [u8], pos: u64, steps: usize)
+    requires { Viewable (table_spec W.word T.spec) archive.old pos }
+    ensures { archive.new ≡ archive.old }
+{
+    let mut rest = ArchivedHashTable::<T, W>::raw_iter_over(archive, pos);
+    for _ in 0..steps {
+        rest.next_pos();
+    }
+}
