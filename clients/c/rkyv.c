@@ -1201,7 +1201,8 @@ typedef struct layout {
     size_t texts;
 } layout;
 
-/* RKYV_OK if each of the items has texts that are not null and may be there. */
+/* RKYV_OK if each of the items has texts that are not null and may be there. The first item with an
+ * error decides: RKYV_NULL if one of its texts is null, else RKYV_TOO_LONG. */
 static rkyv_status check_texts(const void *items, size_t count, layout of) {
     rkyv_status status = RKYV_OK;
     if (of.texts == 0) {
@@ -1209,10 +1210,14 @@ static rkyv_status check_texts(const void *items, size_t count, layout of) {
     }
     for (size_t i = 0; status == RKYV_OK && i < count; i++) {
         const uint8_t *at = (const uint8_t *)items + i * of.size + of.position;
-        for (size_t k = 0; status == RKYV_OK && k < of.texts; k++) {
+        for (size_t k = 0; k < of.texts; k++) {
             text one;
             memcpy(&one, at + k * sizeof one, sizeof one);
-            status = one.text != NULL ? check_bytes(one.text, one.length) : RKYV_NULL;
+            if (one.text == NULL) {
+                status = RKYV_NULL;
+            } else if (status == RKYV_OK) {
+                status = check_bytes(one.text, one.length);
+            }
         }
     }
     return status;

@@ -2972,6 +2972,7 @@ static void orders_of_building(void) {
     const rkyv_text_item too_large[] = {{1ull << 32, "a", 1}, {2, "\xff", 1}};
     const rkyv_text_item too_long[] = {{2, "", SIZE_MAX}, {2, NULL, 0}};
     const rkyv_text_text_item null_value[] = {{NULL, 0, "\xff", 1}, {"", SIZE_MAX, "", 0}};
+    const rkyv_text_text_item null_key[] = {{"", SIZE_MAX, "", 0}, {"", SIZE_MAX, NULL, 0}};
     uint8_t *bytes = NULL;
     size_t length = 9;
     rkyv_builder *builder = NULL;
@@ -3018,6 +3019,12 @@ static void orders_of_building(void) {
             RKYV_VALUE_TOO_LARGE);
     returns("null, no text, too long",
             rkyv_build_text_texts(null_value, 2, RKYV_TEXT_TO_TEXT, 32, &bytes, &length), RKYV_NULL);
+    returns("too long, null",
+            rkyv_build_text_texts(null_key, 2, RKYV_TEXT_TO_TEXT, 32, &bytes, &length),
+            RKYV_TOO_LONG);
+    returns("null, too long",
+            rkyv_build_text_texts(null_key + 1, 1, RKYV_TEXT_TO_TEXT, 32, &bytes, &length),
+            RKYV_NULL);
     returns("width 8, null", rkyv_build_text_set(NULL, 1, 8, &bytes, &length), RKYV_UNKNOWN_WIDTH);
     returns("null, too many", rkyv_build_number_set(NULL, SIZE_MAX, 32, &bytes, &length),
             RKYV_NULL);
