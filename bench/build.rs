@@ -1,10 +1,10 @@
 //! Links the static library of `bench_library`.
 //!
-//! `RKYV_BENCH_LIB` is the path of `libbench_library.a`. If it isn't set, the library is the one in the
+//! `RKYV_BENCH_LIB` is the library's path. If it isn't set, the library is `libbench_library.a` in the
 //! crate, which `rt lib` builds.
 
 use std::env;
-use std::path::PathBuf;
+use std::path::{Path, PathBuf};
 
 fn main() {
     println!("cargo::rerun-if-env-changed=RKYV_BENCH_LIB");
@@ -21,6 +21,10 @@ fn main() {
         )
     });
     let folder = library.parent().unwrap();
+    let name = library.file_name().unwrap();
     println!("cargo::rustc-link-search=native={}", folder.display());
-    println!("cargo::rustc-link-lib=static=bench_library");
+    println!(
+        "cargo::rustc-link-lib=static:+verbatim={}",
+        Path::new(name).display()
+    );
 }
