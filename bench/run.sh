@@ -2,7 +2,8 @@
 # Proves and builds the static libraries, measures them, and writes RESULTS.md and the plots.
 #
 #   bench/run.sh            measures the library and the Rust crate, in about twenty minutes
-#   bench/run.sh --print    prints the table of the library alone, and writes nothing
+#   bench/run.sh --print    prints the table of the library alone, and writes nothing; the library may
+#                           be another one, at the absolute path in RKYV_BENCH_LIB
 set -euo pipefail
 if [ "$#" -gt 0 ] && [ "$1" != --print ]; then
     echo "bench/run.sh [--print]" >&2
@@ -10,7 +11,13 @@ if [ "$#" -gt 0 ] && [ "$1" != --print ]; then
 fi
 cd "$(dirname "$0")"
 # With these, cargo would compile to another folder, or with other flags than those of .cargo.
-unset CARGO_TARGET_DIR CARGO_BUILD_TARGET_DIR CARGO_BUILD_TARGET RUSTFLAGS CARGO_BUILD_RUSTFLAGS CARGO_ENCODED_RUSTFLAGS
+unset CARGO_TARGET_DIR CARGO_BUILD_TARGET_DIR CARGO_BUILD_TARGET
+unset RUSTFLAGS CARGO_BUILD_RUSTFLAGS CARGO_ENCODED_RUSTFLAGS CARGO_TARGET_X86_64_UNKNOWN_LINUX_GNU_RUSTFLAGS
+# RESULTS.md names this commit, so its libraries are those that are built here.
+unset RKYV_C_LIBRARY
+if [ "${1:-}" != --print ]; then
+    unset RKYV_BENCH_LIB
+fi
 
 (cd ../crates/bench_library && rt lib) >&2
 cargo build --release --offline
