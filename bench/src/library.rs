@@ -68,7 +68,6 @@ unsafe extern "C" {
         out: *mut u8,
         room: usize,
     ) -> usize;
-    #[cfg_attr(feature = "older", link_name = "rkyv_bench_access_u32")]
     fn rkyv_bench_read_std_u32(archive: *const u8, len: usize) -> usize;
     fn rkyv_bench_walk_text(archive: *const u8, len: usize) -> u64;
 

@@ -3,9 +3,6 @@
 //! With the argument `--keep-memory`, the program keeps freed memory. With `--sizes` it takes fewer
 //! measures, of maps of 100 to 10,000,000 entries.
 
-// With the feature `older`, the measures that an older library lacks are left out.
-#![cfg_attr(feature = "older", allow(dead_code, unused_imports))]
-
 mod clock;
 mod common;
 mod fx;
@@ -373,7 +370,6 @@ fn load() -> String {
 }
 
 // Index maps, and std's maps written and read back.
-#[cfg(not(feature = "older"))]
 fn run_other_maps(numbers: [Numbers; 3], lists: &[Vec<u32>; 3], values: &[u32], rounds: usize) {
     let of_index_maps = numbers.map(Ordered);
     run(
@@ -439,7 +435,6 @@ fn main() {
             &workload(&text_keys, &text_lists, &values),
             rounds,
         );
-        #[cfg(not(feature = "older"))]
         if !by_size {
             run_other_maps(number_keys, &lists, &values, rounds);
         }
