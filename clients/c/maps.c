@@ -5,11 +5,12 @@
  *
  * KIND is the number of a `rkyv_kind`. The width of a container may be 0, for either width. KIND and
  * WIDTH are decimal numbers of 32 bits. A command is a line `get KEY`, `set KEY VALUE`, `count` or
- * `list`, and for an index map `at INDEX`. Each but `list` prints its status and, if that is RKYV_OK,
- * its result on a line. `list` prints a line for each pair. An unknown command prints RKYV_NOT_FOUND.
- * A key of 32 bits is taken modulo 4294967296. `set` writes numbers, and doesn't change the file. A
- * line has at most 65,535 bytes, and none is zero. A longer line prints RKYV_TOO_LONG, and no further
- * line is read.
+ * `list`, and for an index map `at INDEX`. `get` and `set` take no empty key and none with a space,
+ * which `list` may print. Each command but `list` prints its status and, if that is RKYV_OK, its
+ * result on a line. `list` prints a line for each pair. An unknown command prints RKYV_NOT_FOUND. A
+ * key of 32 bits is taken modulo 4294967296. `set` writes numbers, and doesn't change the file. A line
+ * has at most 65,535 bytes, and none is zero. A longer line prints RKYV_TOO_LONG, and no further line
+ * is read.
  *
  * The program exits with 1 if the file or the lines can't be read or standard output can't be
  * written, with 2 if the arguments are wrong, and else with 0. */
