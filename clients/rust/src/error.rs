@@ -66,7 +66,7 @@ impl Error {
     /// | `WrongLength`, `WrongChecksum` | the number in the header, that of the archive |
     ///
     /// A number that does not fit in 64 bits is replaced by the nearest one that does. The errors of
-    /// building have no numbers.
+    /// building and of [`update_container`](crate::update_container) have no numbers.
     ///
     /// ```
     /// use rkyv_maps::{Map, Width};
@@ -211,7 +211,10 @@ pub enum ErrorKind {
 impl fmt::Display for ErrorKind {
     fn fmt(&self, f: &mut fmt::Formatter<'_>) -> fmt::Result {
         f.write_str(match self {
-            ErrorKind::OutOfRange => "the map or a part of it is outside the bytes that it may use",
+            ErrorKind::OutOfRange => {
+                "the map or a part of it is outside the bytes that it may use, \
+                 or the archive exceeds the limit of its width"
+            }
             ErrorKind::Unaligned => "the map or a part of it is not at a multiple of its alignment",
             ErrorKind::InvalidLength => {
                 "the number of pairs is not less than the number of buckets"
