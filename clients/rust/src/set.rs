@@ -160,6 +160,10 @@ impl<'a, K: Key + ?Sized> Iterator for Members<'a, K> {
     fn size_hint(&self) -> (usize, Option<usize>) {
         self.keys.size_hint()
     }
+
+    fn fold<B, F: FnMut(B, K::Ref<'a>) -> B>(self, init: B, f: F) -> B {
+        self.keys.fold(init, f)
+    }
 }
 
 impl<K: Key + ?Sized> ExactSizeIterator for Members<'_, K> {}

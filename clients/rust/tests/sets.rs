@@ -81,6 +81,24 @@ fn items_survive_in_both_widths() {
 }
 
 #[test]
+fn a_fold_visits_the_items_that_remain() {
+    let builder: SetBuilder<u32> = (0..40).collect();
+    let archive = builder.build(Width::Narrow).unwrap();
+    let set = archive.open();
+    for taken in [0, 1, 15, 16, 17, 39, 40] {
+        let mut iter = set.iter();
+        let before: Vec<_> = iter.by_ref().take(taken).collect();
+        let folded = iter.fold(before, |mut items, item| {
+            items.push(item);
+            items
+        });
+        assert_eq!(folded.len(), 40);
+        assert!(set.iter().eq(folded));
+    }
+    assert_eq!(set.iter().sum::<u32>(), 780);
+}
+
+#[test]
 fn builders_take_owned_and_borrowed_items() {
     let mut builder = SetBuilder::<str>::with_capacity(3);
     assert!(builder.capacity() >= 3 && builder.is_empty());
