@@ -173,9 +173,9 @@ impl<'a, K: KeyElement, V: Element, H: KeyHasher, W: Width> ArchivedHashMap<'a, 
 
 /// Writes the value of a key in the map at `root` of an archive, and returns `true`.
 ///
-/// In a map that represents a list of pairs, it is the value of the first pair with an equal key.
-/// All other bytes are unchanged. If no key is found, the result is `false`,
-/// and nothing is written.
+/// In a map that represents a list of pairs with keys of type `A`, it is the value of the first
+/// pair with an equal key. All other bytes are unchanged. If no key is found, the result is
+/// `false`, and nothing is written.
 ///
 /// In an untrusted archive, the lookup may read all control bytes.
 ///

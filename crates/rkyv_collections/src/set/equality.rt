@@ -15,7 +15,7 @@ impl<'a, K: KeyElement, H: KeyHasher, W: Width> ArchivedHashSet<'a, K, H, W> {
     ///
     /// They have the same keys if a lookup finds each key of this set in `other`.
     /// A set with misplaced keys may differ from itself. A set with repeated keys may equal one
-    /// with other keys, which then differs from it.
+    /// that has a key which it lacks, and which then differs from it.
     ///
     /// Each key costs a lookup in `other`. In an untrusted set, keys that share a hash make
     /// the cost quadratic in their number.

@@ -44,7 +44,7 @@ impl<'a, K: Element, V: Element, H, W: Width> ArchivedHashMap<'a, K, V, H, W> {
     /// The pairs are inserted in bucket order. Of pairs with equal keys,
     /// the key of the first and the value of the last are kept.
     ///
-    /// Memory for as many pairs as the archived map has is allocated first.
+    /// By its code alone, memory for as many pairs as the archived map has is allocated first.
     ///
     /// # Errors
     ///

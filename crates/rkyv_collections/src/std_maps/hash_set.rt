@@ -129,7 +129,7 @@ impl<'a, K: Element, H, W: Width> ArchivedHashSet<'a, K, H, W> {
     ///
     /// The keys are inserted in bucket order. Of equal keys, the first is kept.
     ///
-    /// Memory for as many keys as the archived set has is allocated first.
+    /// By its code alone, memory for as many keys as the archived set has is allocated first.
     ///
     /// # Errors
     ///

@@ -25,7 +25,7 @@ impl<'a, K: Element, H, W: IndexWidth> ArchivedIndexSet<'a, K, H, W> {
 
     /// Deserializes the keys into a list, in order.
     ///
-    /// Memory for the list is allocated first.
+    /// By its code alone, memory for the list is allocated first.
     ///
     /// # Errors
     ///

@@ -60,7 +60,7 @@ struct NextItem {
 ///
 /// While only items are written and stay valid, `next_pos`, `next_with` and `next_seal_with`
 /// return each item once. They return as many items as `len` says, and then `None`. The cursor
-/// is unspecified after `next_seal` has returned a seal, and after `bytes_mut`.
+/// is unspecified after `next_seal` and after `bytes_mut`. It writes nothing when it is dropped.
 ///
 /// If control bytes are overwritten, the cursor may find no further full bucket. Its calls then
 /// return `None`, and `len` stays above 0.
@@ -139,7 +139,8 @@ impl<'a, T: Element> RawIterSeal<'a, T> {
     ///
     /// # Requires
     ///
-    /// - `write` can be called with the archive and each position at which an item fits.
+    /// - `write` can be called with the archive and each position at which an item fits. It may
+    ///   rely on a valid item there if the cursor is over a valid table.
     #[inline]
     pub fn next_with<F: FnOnce(&mut [u8], u64)>(&mut self, write: F) -> Option<u64>
         requires { MayWriteNext F.pre T.spec self.old write }
@@ -172,7 +173,8 @@ impl<'a, T: Element> RawIterSeal<'a, T> {
     ///
     /// # Requires
     ///
-    /// - `write` can be called with a seal of each item that fits in the archive.
+    /// - `write` can be called with a seal of each item that fits in the archive. It may rely on
+    ///   a valid item there if the cursor is over a valid table.
     #[inline]
     pub fn next_seal_with<F: FnOnce(&mut Seal<'_, T>)>(&mut self, write: F) -> Option<u64>
         requires { MaySealNext F.pre T.spec self.old write }

@@ -62,8 +62,12 @@ fn behind<K: Element, V: Element>(bytes: &[u8], pos: u64) -> u64
 
 /// A cursor over the pairs of a map, in bucket order, for writing their values in place.
 ///
-/// `iter_seal` and `iter_over` return it. While the archive has a valid map,
-/// `next_pos` and `next_with` return each pair once, and then `None`.
+/// `iter_seal` and `iter_over` return it. While only values are written and stay valid, `next_pos`
+/// and `next_with` return each pair once. They return as many pairs as `len` says, and then `None`.
+/// The cursor is unspecified after `next_seal`.
+///
+/// If control bytes are overwritten, the cursor may find no further pair. Its calls then return
+/// `None`, and `len` stays above 0.
 #[derive(Drop)]
 #[must_use]
 pub struct IterMut<'a, K, V, H = FxHasher64, W = Narrow> {
@@ -103,7 +107,8 @@ impl<'a, K: Element, V: Element, H, W> IterMut<'a, K, V, H, W> {
     ///
     /// # Requires
     ///
-    /// - `write` can be called with the archive and each position at which a pair fits.
+    /// - `write` can be called with the archive and each position at which a pair fits. It may rely
+    ///   on a valid key and a valid value there if the cursor is over a valid map.
     #[inline]
     pub fn next_with<F: FnOnce(&mut [u8], u64)>(&mut self, write: F) -> Option<u64>
         requires { MayWritePair K.spec V.spec F.pre (entries_in self.old) write }
@@ -175,8 +180,12 @@ impl<'a, K: Element, N: Scalar, H, W> IterMut<'a, K, N, H, W> {
 
 /// A cursor over the values of a map, in bucket order, for writing them in place.
 ///
-/// `values_seal` and `values_over` return it. While the archive has a valid map,
-/// `next_pos` and `next_with` return each value once, and then `None`.
+/// `values_seal` and `values_over` return it. While only values are written and stay valid,
+/// `next_pos` and `next_with` return each value once. They return as many values as `len` says, and
+/// then `None`. The cursor is unspecified after `next_seal`.
+///
+/// If control bytes are overwritten, the cursor may find no further value. Its calls then return
+/// `None`, and `len` stays above 0.
 #[derive(Drop)]
 #[must_use]
 pub struct ValuesMut<'a, K, V, H = FxHasher64, W = Narrow> {
@@ -212,7 +221,8 @@ impl<'a, K: Element, V: Element, H, W> ValuesMut<'a, K, V, H, W> {
     ///
     /// # Requires
     ///
-    /// - `write` can be called with the archive and each position at which a value fits.
+    /// - `write` can be called with the archive and each position at which a value fits. It may
+    ///   rely on a valid value there if the cursor is over a valid map.
     #[inline]
     pub fn next_with<F: FnOnce(&mut [u8], u64)>(&mut self, write: F) -> Option<u64>
         requires { MayWriteValue K.spec V.spec F.pre (entries_of self.old) write }

@@ -15,7 +15,7 @@ use rkyv_scan::KeyHasher;
 
 /// Writes each letter from a to z of the text of a key in upper case, if the text is inline.
 ///
-/// The map is at `root` of the archive. If it represents a list of pairs,
+/// The map is at `root` of the archive. If it represents a list of pairs of an `A` and a `&str`,
 /// the text is that of the first pair with an equal key.
 ///
 /// - `Some(true)`: the text is inline, and is written. All other bytes are unchanged.

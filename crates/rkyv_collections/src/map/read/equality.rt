@@ -32,7 +32,7 @@ impl<'a, K: KeyElement, V: ElementEq, H: KeyHasher, W: Width> ArchivedHashMap<'a
     ///
     /// They have the same pairs if a lookup of each key of this map finds the same value
     /// in `other`. A map with misplaced keys may differ from itself. A map with repeated keys
-    /// may equal one with other pairs, which then differs from it.
+    /// may equal one that has a pair which it lacks, and which then differs from it.
     ///
     /// Each pair costs a lookup in `other`. In an untrusted map, keys that share a hash make
     /// the cost quadratic in their number.

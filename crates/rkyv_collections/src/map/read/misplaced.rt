@@ -66,7 +66,8 @@ impl<'a, K: KeyElement, V: Element, H: KeyHasher, W: Width> ArchivedHashMap<'a, 
     ///
     /// By its code alone, it reads at most `limit` strides and those of one more lookup, so its
     /// cost on an untrusted map is bounded. The contract of `misplaced_up_to_by` of tables also
-    /// says so. A written map without repeated hashes takes about one stride for each key.
+    /// says so. A written map takes about one stride for each key if the hashes of its keys are
+    /// spread evenly.
     ///
     /// # Examples
     ///

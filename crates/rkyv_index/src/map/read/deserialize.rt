@@ -26,7 +26,7 @@ impl<'a, K: Element, V: Element, H, W: IndexWidth> ArchivedIndexMap<'a, K, V, H,
 
     /// Deserializes the pairs into a list, in order.
     ///
-    /// Memory for the list is allocated first.
+    /// By its code alone, memory for the list is allocated first.
     ///
     /// # Errors
     ///

@@ -72,6 +72,7 @@ impl<'a, K: KeyElement, V: Element, H: KeyHasher, W: IndexWidth> ArchivedIndexMa
     ///
     /// The result is `None` or a pair of the map, whatever the comparison returns.
     /// The comparison is called with keys of the map alone, and may be called twice with one.
+    /// In an untrusted map, it may be called twice with one for each bucket with its index.
     ///
     /// If the comparison depends only on the index of a key, the control bytes decide which pair
     /// it is. In a written map, it is the first accepted pair in insertion order

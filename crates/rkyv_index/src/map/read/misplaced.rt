@@ -81,7 +81,8 @@ impl<'a, K: KeyElement, V: Element, H: KeyHasher, W: IndexWidth> ArchivedIndexMa
     ///
     /// By its code alone, it reads at most `limit` strides and those of one more lookup, so its
     /// cost on an untrusted map is bounded. The contract of `misplaced_up_to_counted` also says so.
-    /// A written map without repeated hashes takes about one stride for each key.
+    /// A written map takes about one stride for each key if the hashes of its keys are spread
+    /// evenly.
     ///
     /// # Examples
     ///
