@@ -7,11 +7,11 @@ use rkyv_base::{
     WriteError, Writer, access_in,
 };
 use rkyv_end_to_end::{
-    ListError, LookError, TableReport, look_over, lookups_find_listed, write_and_look_over,
-    write_list, written_items_are_replaced, written_lists_represent,
+    ListError, LookError, TableReport, errors_are_converted, look_over, lookups_find_listed,
+    write_and_look_over, write_list, written_items_are_replaced, written_lists_represent,
 };
 use rkyv_table::{ArchivedHashTable, TableOf};
-use std::alloc::Global;
+use std::alloc::{AllocError, Global};
 use std::test::Fail;
 
 // Returns `true` if the walk, the result and the strides of a lookup are these.
@@ -257,4 +257,23 @@ fn errors_are_displayed(rt: HostRuntime) -> Result<(), Fail> {
         ]
     );
     Ok(())
+}
+
+#[test]
+fn errors_are_converted_into_those_of_their_names(rt: HostRuntime) {
+    errors_are_converted();
+    let fault = VerifyError::UnwrappedControlByte { index: 3 };
+    let looked = [LookError::from(fault), LookError::from(AllocError)];
+    assert_eq!(rt; looked, [LookError::Verify(fault), LookError::Memory]);
+    let listed = [
+        ListError::from(WriteError::CapacityTooLarge { len: 7 }),
+        ListError::from(LookError::Memory),
+    ];
+    assert_eq!(rt;
+        listed,
+        [
+            ListError::Write(WriteError::CapacityTooLarge { len: 7 }),
+            ListError::Look(LookError::Memory)
+        ]
+    );
 }

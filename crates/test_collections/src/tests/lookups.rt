@@ -1,6 +1,7 @@
 //! Tests of several lookups in one map.
 
 use rkyv_base::{Narrow, Scalar, VerifyError, Wide, Width, access_in};
+use rkyv_collections::map::laws::both_hashers_look_up_alike;
 use rkyv_collections::{ArchivedHashMap, HashMapOf};
 use rkyv_keys::{KeyElement, Query};
 use rkyv_scan::{FxHasher64, KeyHasher};
@@ -52,6 +53,7 @@ pub(crate) fn small_found(bytes: &[u8], key: i8) -> Option<(Option<i8>, Option<(
 
 #[test]
 fn pairs_are_found_with_their_positions(rt: HostRuntime) {
+    both_hashers_look_up_alike::<i8, i8, i8, Narrow>();
     let four = four_pairs();
     let found = [
         small_found(&four, 1),

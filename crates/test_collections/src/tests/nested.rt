@@ -1,10 +1,18 @@
 //! Tests of a map whose values are maps: writing, reading, and values that share bytes.
 
+ghost use Rattle.rkyv_base.specs.{Viewable};
+ghost use Rattle.rkyv_table.specs.{WritesAmongParts};
+ghost use Rattle.rkyv_collections.specs.{map_spec};
+
 use crate::tests::archives::is_map_archive;
 use rkyv_base::access::access;
-use rkyv_base::{Entry, Narrow, VecWriter, VerifyError, WriteError, write_root};
+use rkyv_base::{
+    Element, Entry, Narrow, Represents, Scalar, VecWriter, VerifyError, Width, WriteError,
+    write_root,
+};
+use rkyv_collections::map::in_place::set_value_of;
 use rkyv_collections::map::laws::nested::value_writes_are_nested;
-use rkyv_collections::{ArchivedHashMap, HashMapOf, MapPairs};
+use rkyv_collections::{ArchivedHashMap, FxHasher64, HashMapOf, KeyElement, MapPairs, NativeKey};
 use std::alloc::Global;
 use test_support::archives::{one_pair, two_maps};
 
@@ -90,4 +98,45 @@ fn maps_share_no_bytes(rt: HostRuntime) {
             Err(VerifyError::OutOfRange { pos: 0, size: 39 })
         )
     );
+}
+
+// Writes the value of a key in the first map of a map of maps, in bucket order.
+// Returns the position of that map.
+fn set_in_first<K: Element, A: NativeKey<L>, L: KeyElement + Represents<A>, N: Scalar, W: Width>(
+    bytes: &mut [u8],
+    root: u64,
+    key: &A,
+    value: N,
+) -> Option<u64>
+    requires map { Viewable (map_spec W.word K.spec (map_spec W.word L.spec N.spec)) bytes.old
+        root }
+    requires query { A.can_read key.now }
+{
+    let mut maps = ArchivedHashMap::<K, HashMapOf<L, N, FxHasher64, W>, FxHasher64, W>::values_over(
+        bytes, root,
+    );
+    maps.next_with(
+        |archive: &mut [u8], pos: u64|
+            requires map { Viewable (map_spec W.word L.spec N.spec) archive.old pos }
+            requires query { A.can_read key.now }
+            ensures { WritesAmongParts (map_spec W.word L.spec N.spec) archive.old archive.new pos }
+        {
+            let _found = set_value_of::<A, L, N, FxHasher64, W>(archive, pos, key, value);
+        },
+    )
+}
+
+// Writes the number of 1337 in the first map. Returns the position of that map.
+fn change_first(bytes: &mut [u8; 172], number: u16) -> Result<Option<u64>, VerifyError> {
+    let root = access::<Outer>(bytes)?.pos();
+    Ok(set_in_first::<Entry<u8, u8>, u16, u16, u16, Narrow>(bytes, root, &1337, number))
+}
+
+#[test]
+fn a_closure_of_a_step_writes_in_an_inner_map(rt: HostRuntime) {
+    let mut bytes = two_maps();
+    let pos = change_first(&mut bytes, 43).ok();
+    let mut expected = two_maps();
+    expected[2] = 43;
+    expect_eq!(rt; (pos, bytes == expected), (Some(Some(116)), true));
 }

@@ -10,6 +10,17 @@ use rkyv_collections::{ArchivedHashMap, ArchivedHashSet, HashMapOf, HashSetOf};
 use rkyv_scan::{FxHasher64, FxHasher64Wide};
 use test_support::archives::{no_items, one_unit, set_in_a_map, three_keys, two_units};
 
+// Returns the number of buckets of a set.
+fn capacity(bytes: &[u8]) -> Option<usize> {
+    Some(key_set(bytes).ok()?.capacity())
+}
+
+#[test]
+fn a_set_has_a_capacity(rt: HostRuntime) {
+    let capacities = [capacity(&three_keys()), capacity(&no_items())];
+    expect_eq!(rt; capacities, [Some(4), Some(0)]);
+}
+
 #[test]
 fn a_set_is_read(rt: HostRuntime) {
     laws::members_found_are_listed::<u8, u8, u8, FxHasher64, Narrow>();

@@ -34,6 +34,7 @@ fn run_errors_have_messages(rt: HostRuntime) {
 
 #[test]
 fn a_failed_allocation_is_an_error_of_memory(rt: HostRuntime) {
+    laws::errors_are_converted();
     let error = RunError::from(AllocError);
     assert!(rt; prints_as(rt.alloc(), error, "Memory", "no memory"));
 }

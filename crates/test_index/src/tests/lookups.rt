@@ -9,8 +9,8 @@ use rkyv_index::map::laws::list_archives::{
     scalars_found_are_listed, texts_found_are_listed, values_found_are_listed,
 };
 use rkyv_index::map::laws::{
-    clones_are_the_same, index_maps_are_laid_out, items_are_yielded, pairs_at_are_listed,
-    walks_by_for_are_iterations, walks_visit_in_order,
+    both_hashers_look_up_alike, clones_are_the_same, index_maps_are_laid_out, items_are_yielded,
+    lookups_find_listed, pairs_at_are_listed, walks_by_for_are_iterations, walks_visit_in_order,
 };
 use rkyv_index::{
     ArchivedIndexMap, IndexMapOf, IndexSetOf, Iter, Keys, OrderedItems, OrderedPairs, Values,
@@ -28,6 +28,8 @@ fn a_key_is_found_with_its_index(rt: HostRuntime) -> Result<(), Fail> {
     items_are_yielded::<i8, i8>();
     pairs_at_are_listed::<i8, i8, i8, i8, FxHasher64, Narrow>();
     walks_visit_in_order::<i8, i8, i8, i8, FxHasher64, Narrow>();
+    both_hashers_look_up_alike::<i8, i8, i8, Narrow>();
+    lookups_find_listed::<i8, i8, i8, i8, FxHasher64, Narrow>();
     values_found_are_listed::<i8, i8, i8, i8, i8, FxHasher64, Narrow>();
     scalars_found_are_listed::<i8, i8, i8, i8, FxHasher64, Narrow>();
     texts_found_are_listed::<i8, i8, i8, FxHasher64, Narrow>();

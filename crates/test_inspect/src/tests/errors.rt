@@ -4,7 +4,8 @@ use crate::tests::archives::ONE_NUMBER;
 use crate::tests::support::{narrow, numbers};
 use rkyv_base::VerifyError;
 use rkyv_container::{ItemType, Kind};
-use rkyv_inspect::{InspectError, inspect};
+use rkyv_inspect::{InspectError, inspect, laws};
+use std::alloc::AllocError;
 use std::test::Fail;
 
 #[test]
@@ -42,4 +43,16 @@ fn unsupported_types(rt: HostRuntime) -> Result<(), Fail> {
     let set = inspect(rt.alloc(), &ONE_NUMBER, contents, 1000);
     assert!(rt; matches!(&set, Err(InspectError::Unsupported(ItemType::U32))));
     Ok(())
+}
+
+#[test]
+fn errors_are_converted_into_those_of_their_names(rt: HostRuntime) {
+    laws::errors_are_converted();
+    let invalid = InspectError::from(VerifyError::InvalidLength { len: 2, cap: 2 });
+    let is_fault = matches!(
+        &invalid,
+        InspectError::Invalid(VerifyError::InvalidLength { len: 2, cap: 2 })
+    );
+    let memory = InspectError::from(AllocError);
+    assert!(rt; is_fault && matches!(&memory, InspectError::Memory));
 }

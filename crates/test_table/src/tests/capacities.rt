@@ -1,5 +1,7 @@
 //! The errors of capacities, by their texts.
 
+use rkyv_base::{NoMemory, WriteError};
+use rkyv_table::controls::laws;
 use rkyv_table::controls::numbers::{CapacityError, capacity};
 use std::alloc::Global;
 
@@ -63,4 +65,22 @@ fn errors_of_capacities_are_displayed_as_write_errors(rt: HostRuntime) {
         ),
     ];
     assert_eq!(rt; shown, [true; 2]);
+}
+
+#[test]
+fn errors_of_capacities_become_write_errors(rt: HostRuntime) {
+    laws::capacity_errors_are_converted::<NoMemory>();
+    let fraction = WriteError::from(CapacityError::InvalidLoadFactor {
+        numerator: 8,
+        denominator: 7,
+    });
+    let size = WriteError::from(CapacityError::CapacityTooLarge { len: 9 });
+    let expected: [WriteError<NoMemory>; 2] = [
+        WriteError::InvalidLoadFactor {
+            numerator: 8,
+            denominator: 7,
+        },
+        WriteError::CapacityTooLarge { len: 9 },
+    ];
+    expect_eq!(rt; [fraction, size], expected);
 }

@@ -54,6 +54,13 @@ fn set_twice(bytes: &mut [u8; 48]) -> Result<([u8; 48], [u8; 48]), VerifyError> 
     Ok((first, *bytes))
 }
 
+// Steps over the items of an archived table, and returns the bytes.
+fn stepped(bytes: &mut [u8; 48], steps: usize) -> Result<[u8; 48], VerifyError> {
+    let pos = access::<TableOf<u8>>(bytes)?.pos();
+    laws::in_place::cursors_keep_bytes::<u8, Narrow>(bytes, pos, steps);
+    Ok(*bytes)
+}
+
 #[test]
 fn each_item_is_set(rt: HostRuntime) {
     laws::in_place::items_written_represent::<u32, u32, Narrow>();
@@ -68,6 +75,18 @@ fn each_item_is_set(rt: HostRuntime) {
     nines[0] = 9;
     nines[2] = 9;
     expect_eq!(rt; written, Some((sevens, nines)));
+}
+
+#[test]
+fn a_cursor_changes_nothing_by_itself(rt: HostRuntime) {
+    let mut bytes = two_archived();
+    let left = [
+        stepped(&mut bytes, 0).ok(),
+        stepped(&mut bytes, 1).ok(),
+        stepped(&mut bytes, 3).ok(),
+    ];
+    let same = Some(two_archived());
+    expect_eq!(rt; left, [same, same, same]);
 }
 
 // Writes a number over the item that is found under a hash, and returns the number that is read
