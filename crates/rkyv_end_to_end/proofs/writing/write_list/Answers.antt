@@ -1,4 +1,4 @@
-use Rattle.std.proofs.Common.{◌∙◌, ℕ, inr, subst, sym}
+use Rattle.std.proofs.Common.{◌∙◌, ◌≤◌, ℕ, inr, refl, subst, sym}
 use Rattle.std.specs.Int.{byte_len}
 use Rattle.std.proofs.lemmas.Result.{err_from_is_err_and}
 use Rattle.rkyv_table.specs.{HeaderOverflows}
@@ -6,6 +6,19 @@ use Rattle.rkyv_end_to_end.specs.{encoding, list_format, list_of, pairs_of}
 use Rattle.rkyv_end_to_end.proofs.ListSteps.{distance_fails, header_fails, list_fails, zeros_fail}
 use Rattle.rkyv_end_to_end.proofs.Listing.{element_members, header_small, image_of, list_wrote, room_of, width_members}
 use Rattle.rkyv_end_to_end.proofs.writing.write_list.Goals as goal
+
+pub slice_bounds-scratch-end : goal.slice_bounds-scratch-end
+slice_bounds-scratch-end g c =
+    let layout = g.met.W.Width.layout in
+    subst (λ (n : ℕ). n ≤ 24) (sym c.TABLE_SIZE.ensures) (header_small g.W.Word.word layout.kind g.W.Width.TABLE_SIZE g.W.Width.ALIGN layout.align_is layout.table_is)
+
+pub slice_bounds-out-end : goal.slice_bounds-out-end
+slice_bounds-out-end g c = sym (room_of c.TABLE_SIZE.result c.TABLE_SIZE.result _ refl (slice_bounds-scratch-end g c.before))
+
+pub resolve_from_len-requires-clause-same : goal.resolve_from_len-requires-clause-same
+resolve_from_len-requires-clause-same g c =
+    let h = c.in_ok-resolver.ensures in
+    (sym (h.3.2.len ∙ h.2.1), sym h.3.2.factor)
 
 pub returns-in_err-resolver : goal.returns-in_err-resolver
 returns-in_err-resolver g c =
