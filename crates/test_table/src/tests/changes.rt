@@ -1,19 +1,14 @@
 //! Archives with one byte changed to each other value.
 
 use crate::tests::archives::hash_of_u32;
-use crate::tests::reading::{count_walked, value_of, walks_over};
-use rkyv_base::access::access;
+use crate::tests::reading::{count_walked, failure, value_of, walks_over};
 use rkyv_base::{Entry, Narrow, VerifyError};
-use rkyv_table::TableOf;
 use test_support::archives::one_number;
 use test_support::changes::{OutcomeCounts, outcomes_of_changes};
 
 // Returns `true` if a lookup of a number reads one stride.
 fn is_one_stride(bytes: &[u8], key: u32) -> bool {
-    match value_of::<Narrow>(bytes, hash_of_u32(key), key) {
-        Ok((_, strides)) => strides == 1,
-        Err(_) => false,
-    }
+    matches!(value_of::<Narrow>(bytes, hash_of_u32(key), key), Ok((_, 1)))
 }
 
 // Returns `true` if a walk over a valid archive returns one item, and a lookup of each number
@@ -50,11 +45,9 @@ fn changes_of_one_byte_have_known_outcomes(rt: HostRuntime) {
 fn rejects_a_distance_to_an_unaligned_position(rt: HostRuntime) {
     let mut bytes = one_number();
     bytes[48] = 0xe1;
-    assert!(rt;
-        matches!(
-            access::<TableOf<Entry<u32, u32>>>(&bytes),
-            Err(VerifyError::Unaligned { pos: 1, align: 4 })
-        )
+    expect_eq!(rt;
+        failure::<Entry<u32, u32>, Narrow>(&bytes),
+        Some(VerifyError::Unaligned { pos: 1, align: 4 })
     );
 }
 
@@ -63,10 +56,10 @@ fn a_changed_key_is_walked_and_not_found(rt: HostRuntime) {
     let mut bytes = one_number();
     bytes[0] = 5;
     let pair = [5, 0, 0, 0, 2, 0, 0, 0];
-    let walked = walks_over::<Entry<u32, u32>, Narrow>(&bytes, &pair).ok();
     let found = [
-        value_of::<Narrow>(&bytes, hash_of_u32(1), 1).ok(),
-        value_of::<Narrow>(&bytes, hash_of_u32(5), 5).ok(),
+        value_of::<Narrow>(&bytes, hash_of_u32(1), 1),
+        value_of::<Narrow>(&bytes, hash_of_u32(5), 5),
     ];
-    expect_eq!(rt; (walked, found), (Some(true), [Some((None, 1)); 2]));
+    expect_eq!(rt; walks_over::<Entry<u32, u32>, Narrow>(&bytes, &pair), Ok(true));
+    expect_eq!(rt; found, [Ok((None, 1)); 2]);
 }

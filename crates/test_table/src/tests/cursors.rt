@@ -22,11 +22,9 @@ fn positions_over(bytes: &mut [u8]) -> Result<([Option<u64>; 3], [usize; 3]), Ve
 #[test]
 fn a_cursor_over_bare_bytes_yields_each_position(rt: HostRuntime) {
     let mut bytes = two_archived();
-    let walked = positions_over(&mut bytes).ok();
-    expect_eq!(rt;
-        (walked, bytes),
-        (Some(([Some(2), Some(0), None], [2, 1, 0])), two_archived())
-    );
+    let walked = positions_over(&mut bytes);
+    expect_eq!(rt; walked, Ok(([Some(2), Some(0), None], [2, 1, 0])));
+    expect_eq!(rt; bytes, two_archived());
 }
 
 // Writes the numbers 3 and 4 over the key 1 and the value 2 of 32 bits, by a cursor.
@@ -49,11 +47,11 @@ fn write_pair(bytes: &mut [u8]) -> Result<Option<(u64, bool)>, VerifyError> {
 #[test]
 fn a_scalar_is_written_at_an_offset_of_an_item(rt: HostRuntime) {
     let mut bytes = one_number();
-    let written = write_pair(&mut bytes).ok();
+    expect_eq!(rt; write_pair(&mut bytes), Ok(Some((0, true))));
     let mut expected = one_number();
     expected[0] = 3;
     expected[4] = 4;
-    expect_eq!(rt; (written, bytes), (Some(Some((0, true))), expected));
+    expect_eq!(rt; bytes, expected);
 }
 
 // Writes a byte over the first item of the table of 10 and 20, in the bytes of the cursor.
@@ -77,8 +75,8 @@ fn write_in_bytes(bytes: &mut [u8], byte: u8) -> Result<(usize, Option<u64>), Ve
 #[test]
 fn the_bytes_of_a_cursor_are_the_archive(rt: HostRuntime) {
     let mut bytes = two_archived();
-    let written = write_in_bytes(&mut bytes, 30).ok();
+    expect_eq!(rt; write_in_bytes(&mut bytes, 30), Ok((48, Some(0))));
     let mut expected = two_archived();
     expected[2] = 30;
-    expect_eq!(rt; (written, bytes), (Some((48, Some(0))), expected));
+    expect_eq!(rt; bytes, expected);
 }

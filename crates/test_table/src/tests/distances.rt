@@ -26,7 +26,10 @@ const BEFORE: [u8; 24] = [
 // Writes the header of a narrow table at this position, by the table and by its resolver.
 // Returns for each whether the distance fits, and the bytes of the header.
 fn narrow_headers(alloc: Global, pos: u32) -> Option<[(bool, [u8; 12]); 2]> {
-    let (first, second) = (seven::<Narrow>(alloc).ok()?, seven::<Narrow>(alloc).ok()?);
+    let (first, second) = match (seven::<Narrow>(alloc), seven::<Narrow>(alloc)) {
+        (Ok(first), Ok(second)) => (first, second),
+        _ => return None,
+    };
     let (len, load_factor) = (first.len(), first.load_factor());
     let mut by_table = [0; 12];
     by_table.copy_from_slice(&BEFORE[..12]);
@@ -64,7 +67,10 @@ fn narrow_header_is_unchanged_if_too_distant(rt: HostRuntime) {
 fn wide_headers(alloc: Global, pos: u64) -> Option<[(bool, [u8; 24]); 2]>
     requires { pos + 24 < 2 ^ 64 }
 {
-    let (first, second) = (seven::<Wide>(alloc).ok()?, seven::<Wide>(alloc).ok()?);
+    let (first, second) = match (seven::<Wide>(alloc), seven::<Wide>(alloc)) {
+        (Ok(first), Ok(second)) => (first, second),
+        _ => return None,
+    };
     let (len, load_factor) = (first.len(), first.load_factor());
     let mut by_table = BEFORE;
     let mut by_resolver = BEFORE;

@@ -16,66 +16,123 @@ use std::alloc::Global;
 use std::cell::Cell;
 use test_support::archives::{four_pairs, no_items, one_key_twice, one_number, one_unit};
 
-// Returns `true` if the number is the accepted one, or if each number is accepted.
-fn is_accepted(number: u8, accepted: Option<u8>) -> bool {
+/// The numbers that a lookup accepts.
+#[derive(Clone, Copy)]
+pub(crate) enum Accepted<'a> {
+    /// Each number.
+    Each,
+    /// One number.
+    Only(u8),
+    /// The number of the second call and of each later one.
+    AfterFirst(&'a Cell<bool>),
+    /// No number. Each call is recorded.
+    Nothing(&'a CallRecord),
+}
+
+/// Returns `true` if a lookup accepts the number.
+pub(crate) fn is_accepted(number: u8, accepted: Accepted<'_>) -> bool {
     match accepted {
-        Some(accepted) => number == accepted,
-        None => true,
+        Accepted::Each => true,
+        Accepted::Only(expected) => number == expected,
+        Accepted::AfterFirst(called) => called.replace(true),
+        Accepted::Nothing(calls) => calls.accepts(number),
     }
 }
 
-// Returns the number that is found under a hash, and the number of strides that are read.
-// Each number is accepted if `accepted` is `None`.
-fn try_counted(
+/// Returns the number that is found under a hash, and the number of strides that are read.
+pub(crate) fn counted(
     bytes: &[u8],
     hash: u64,
-    accepted: Option<u8>,
+    accepted: Accepted<'_>,
 ) -> Result<(Option<u8>, u64), VerifyError> {
-    let table = ArchivedHashTable::of(access::<TableOf<u8>>(bytes)?);
-    let mut strides = Strides::new();
-    let found = table.get_counted(
-        hash,
-        |item| is_accepted(item.to_native(), accepted),
-        &mut strides,
-    );
-    match found {
-        Some(item) => Ok((Some(item.to_native()), strides.count())),
-        None => Ok((None, strides.count())),
+    match access::<TableOf<u8>>(bytes) {
+        Ok(view) => {
+            let mut strides = Strides::new();
+            let found = ArchivedHashTable::of(view).get_counted(
+                hash,
+                |item| is_accepted(item.to_native(), accepted),
+                &mut strides,
+            );
+            let number = match found {
+                Some(item) => Some(item.to_native()),
+                None => None,
+            };
+            Ok((number, strides.count()))
+        }
+        Err(error) => Err(error),
     }
 }
 
-fn counted(bytes: &[u8], hash: u64, accepted: Option<u8>) -> Option<(Option<u8>, u64)> {
-    try_counted(bytes, hash, accepted).ok()
+/// Returns the number that is found under a hash.
+pub(crate) fn viewed(
+    bytes: &[u8],
+    hash: u64,
+    accepted: Accepted<'_>,
+) -> Result<Option<u8>, VerifyError> {
+    match access::<TableOf<u8>>(bytes) {
+        Ok(view) => {
+            let table = ArchivedHashTable::of(view);
+            match table.get_with(hash, |item| is_accepted(item.to_native(), accepted)) {
+                Some(item) => Ok(Some(item.to_native())),
+                None => Ok(None),
+            }
+        }
+        Err(error) => Err(error),
+    }
 }
 
-// Returns the same number, by groups of the kind `G`.
+/// Returns the position of the number that is found under a hash.
+pub(crate) fn placed(
+    bytes: &[u8],
+    hash: u64,
+    accepted: Accepted<'_>,
+) -> Result<Option<u64>, VerifyError> {
+    match access::<TableOf<u8>>(bytes) {
+        Ok(view) => {
+            let table = ArchivedHashTable::of(view);
+            Ok(table.get_pos_with(hash, |item| is_accepted(item.to_native(), accepted)))
+        }
+        Err(error) => Err(error),
+    }
+}
+
+// Returns the number that is found under a hash, by groups of the kind `G`.
 fn found_by<G: GroupKind>(
     bytes: &[u8],
     hash: u64,
-    accepted: Option<u8>,
+    accepted: Accepted<'_>,
 ) -> Result<Option<u8>, VerifyError> {
-    let table = ArchivedHashTable::of(access::<TableOf<u8>>(bytes)?);
-    match table.get_by::<G, _>(hash, |item| is_accepted(item.to_native(), accepted)) {
-        Some(item) => Ok(Some(item.to_native())),
-        None => Ok(None),
+    match access::<TableOf<u8>>(bytes) {
+        Ok(view) => {
+            let table = ArchivedHashTable::of(view);
+            match table.get_by::<G, _>(hash, |item| is_accepted(item.to_native(), accepted)) {
+                Some(item) => Ok(Some(item.to_native())),
+                None => Ok(None),
+            }
+        }
+        Err(error) => Err(error),
     }
 }
 
 // Returns the same number, by groups of each kind.
-fn found(bytes: &[u8], hash: u64, accepted: Option<u8>) -> [Option<Option<u8>>; 4] {
+fn found(bytes: &[u8], hash: u64, accepted: Accepted<'_>) -> [Result<Option<u8>, VerifyError>; 4] {
     [
-        found_by::<bytewise::Group>(bytes, hash, accepted).ok(),
-        found_by::<generic::Group>(bytes, hash, accepted).ok(),
-        found_by::<lanes::Group>(bytes, hash, accepted).ok(),
-        found_by::<paired::Group>(bytes, hash, accepted).ok(),
+        found_by::<bytewise::Group>(bytes, hash, accepted),
+        found_by::<generic::Group>(bytes, hash, accepted),
+        found_by::<lanes::Group>(bytes, hash, accepted),
+        found_by::<paired::Group>(bytes, hash, accepted),
     ]
 }
 
 // Returns `true` if a copy of a table is empty.
 fn is_empty_copied<T: Element>(bytes: &[u8]) -> Option<bool> {
-    let table = ArchivedHashTable::of(access::<TableOf<T>>(bytes).ok()?);
-    let same = table.clone().ok()?;
-    Some(same.is_empty())
+    match access::<TableOf<T>>(bytes) {
+        Ok(view) => match ArchivedHashTable::of(view).clone() {
+            Ok(same) => Some(same.is_empty()),
+            Err(_) => None,
+        },
+        Err(_) => None,
+    }
 }
 
 #[test]
@@ -83,26 +140,19 @@ fn a_pair_is_found_in_one_stride(rt: HostRuntime) {
     laws::clones_are_the_same::<Entry<u32, u32>, Narrow>();
     let archive = one_number();
     let bytes: &[u8] = &archive;
-    let empty = is_empty_copied::<Entry<u32, u32>>(bytes);
-    let counts = counts::<Entry<u32, u32>, Narrow>(bytes).ok();
     let found = [
-        value_of::<Narrow>(bytes, hash_of_u32(1), 1).ok(),
-        value_of::<Narrow>(bytes, hash_of_u32(2), 2).ok(),
+        value_of::<Narrow>(bytes, hash_of_u32(1), 1),
+        value_of::<Narrow>(bytes, hash_of_u32(2), 2),
     ];
-    expect_eq!(rt;
-        (empty, counts, found),
-        (
-            Some(false),
-            Some((1, 2)),
-            [Some((Some(2), 1)), Some((None, 1))]
-        )
-    );
+    expect_eq!(rt; is_empty_copied::<Entry<u32, u32>>(bytes), Some(false));
+    expect_eq!(rt; counts::<Entry<u32, u32>, Narrow>(bytes), Ok((1, 2)));
+    expect_eq!(rt; found, [Ok((Some(2), 1)), Ok((None, 1))]);
 }
 
 // Returns `true` if a lookup of each key finds its value, or `None`, in one stride.
 fn leads(bytes: &[u8], pairs: &[(i8, Option<i8>)]) -> bool {
     for (key, value) in pairs {
-        if value_of_small(bytes, hash_of_i8(*key), *key).ok() != Some((*value, 1)) {
+        if value_of_small(bytes, hash_of_i8(*key), *key) != Ok((*value, 1)) {
             return false;
         }
     }
@@ -113,9 +163,10 @@ fn leads(bytes: &[u8], pairs: &[(i8, Option<i8>)]) -> bool {
 fn a_pair_is_found_in_another_bucket_than_its_start(rt: HostRuntime) {
     let archive = four_pairs();
     let bytes: &[u8] = &archive;
-    let counts = counts::<Entry<i8, i8>, Narrow>(bytes).ok();
+    expect_eq!(rt; counts::<Entry<i8, i8>, Narrow>(bytes), Ok((4, 5)));
     // bucket 0 is the last one before the control bytes, which begin at 10
-    let pos = first_pos::<Entry<i8, i8>, Narrow>(bytes, hash_of_i8(5)).ok();
+    let pos = first_pos::<Entry<i8, i8>, Narrow>(bytes, hash_of_i8(5));
+    expect_eq!(rt; (start(hash_of_i8(5), 5), pos), (4, Ok(Some(8))));
     let pairs = [
         (0, None),
         (1, Some(2)),
@@ -127,10 +178,7 @@ fn a_pair_is_found_in_another_bucket_than_its_start(rt: HostRuntime) {
         (7, Some(8)),
         (8, None),
     ];
-    expect_eq!(rt;
-        (counts, start(hash_of_i8(5), 5), pos, leads(bytes, &pairs)),
-        (Some((4, 5)), 4, Some(Some(8)), true)
-    );
+    assert!(rt; leads(bytes, &pairs));
 }
 
 // Returns the position of the first item under a hash, in a table whose header was decoded before.
@@ -146,20 +194,25 @@ fn first_pos_by_header<T: Element, W: Width>(
 
 #[test]
 fn a_decoded_header_leads_to_the_same_item(rt: HostRuntime) {
-    let pos = first_pos_by_header::<Entry<i8, i8>, Narrow>(&four_pairs(), hash_of_i8(5)).ok();
-    expect_eq!(rt; pos, Some(Some(8)));
+    let pos = first_pos_by_header::<Entry<i8, i8>, Narrow>(&four_pairs(), hash_of_i8(5));
+    expect_eq!(rt; pos, Ok(Some(8)));
 }
 
 // Returns the length, the capacity and the position of the first control byte, from the decoded
 // header of a table.
 fn decoded(bytes: &[u8]) -> Result<(usize, usize, usize), VerifyError> {
-    let header = ArchivedHashTable::of(access::<TableOf<Entry<i8, i8>>>(bytes)?).header();
-    Ok((header.len(), header.capacity(), header.controls_pos()))
+    match access::<TableOf<Entry<i8, i8>>>(bytes) {
+        Ok(view) => {
+            let header = ArchivedHashTable::of(view).header();
+            Ok((header.len(), header.capacity(), header.controls_pos()))
+        }
+        Err(error) => Err(error),
+    }
 }
 
 #[test]
 fn a_decoded_header_has_the_numbers_of_the_table(rt: HostRuntime) {
-    expect_eq!(rt; decoded(&four_pairs()).ok(), Some((4, 5, 10)));
+    expect_eq!(rt; decoded(&four_pairs()), Ok((4, 5, 10)));
 }
 
 #[test]
@@ -167,22 +220,20 @@ fn the_first_of_two_under_one_hash_is_found(rt: HostRuntime) {
     let archive = two_archived();
     let bytes: &[u8] = &archive;
     let counted = [
-        counted(bytes, 2, None),
-        counted(bytes, 2, Some(10)),
-        counted(bytes, 2, Some(20)),
-        counted(bytes, 2, Some(30)),
+        counted(bytes, 2, Accepted::Each),
+        counted(bytes, 2, Accepted::Only(10)),
+        counted(bytes, 2, Accepted::Only(20)),
+        counted(bytes, 2, Accepted::Only(30)),
     ];
+    expect_eq!(rt; found(bytes, 2, Accepted::Each), [Ok(Some(10)); 4]);
     expect_eq!(rt;
-        (found(bytes, 2, None), counted),
-        (
-            [Some(Some(10)); 4],
-            [
-                Some((Some(10), 1)),
-                Some((Some(10), 1)),
-                Some((Some(20), 1)),
-                Some((None, 1))
-            ]
-        )
+        counted,
+        [
+            Ok((Some(10), 1)),
+            Ok((Some(10), 1)),
+            Ok((Some(20), 1)),
+            Ok((None, 1))
+        ]
     );
 }
 
@@ -206,11 +257,8 @@ fn the_first_of_a_repeated_key_is_found(rt: HostRuntime) {
     let archive = one_key_twice();
     let (bytes, hash): (&[u8], u64) = (&archive, hash_of_i8(1));
     // in a small table each control byte is there twice, and so each item is compared twice
-    let calls = count_calls::<Entry<i8, i8>>(bytes, hash).ok();
-    expect_eq!(rt;
-        (value_of_small(bytes, hash, 1).ok(), calls),
-        (Some((Some(2), 1)), Some(4))
-    );
+    expect_eq!(rt; count_calls::<Entry<i8, i8>>(bytes, hash), Ok(4));
+    expect_eq!(rt; value_of_small(bytes, hash, 1), Ok((Some(2), 1)));
 }
 
 #[test]
@@ -218,30 +266,35 @@ fn an_item_of_no_bytes_is_found(rt: HostRuntime) {
     let archive = one_unit();
     let bytes: &[u8] = &archive;
     let found = [
-        first_pos::<(), Narrow>(bytes, 0).ok(),
-        first_pos::<(), Narrow>(bytes, 1 << 57).ok(),
+        first_pos::<(), Narrow>(bytes, 0),
+        first_pos::<(), Narrow>(bytes, 1 << 57),
     ];
-    expect_eq!(rt; found, [Some(Some(0)), Some(None)]);
+    expect_eq!(rt; found, [Ok(Some(0)), Ok(None)]);
 }
 
 // Returns the number of starts, of sixteen, with which a lookup returns `None` after one stride.
 fn starts_of_one_stride(bytes: &[u8]) -> usize {
     let mut count = 0usize;
     for start in 0..16 {
-        if counted(bytes, start, Some(0)) == Some((None, 1)) {
+        if counted(bytes, start, Accepted::Only(0)) == Ok((None, 1)) {
             count = count.wrapping_add(1);
         }
     }
     count
 }
 
+// Returns `true` if `Debug` formats a counter as this text.
+fn is_debugged(alloc: Global, strides: &Strides, text: &str) -> bool {
+    match format!(in alloc; "{strides:?}") {
+        Ok(shown) => shown.as_str() == text,
+        Err(_) => false,
+    }
+}
+
 #[test]
 fn the_usual_counter_counts_from_0(rt: HostRuntime) {
     let strides = Strides::default();
-    let printed = matches!(
-        format!(in rt.alloc(); "{strides:?}"),
-        Ok(text) if text.as_str() == "Strides { count: 0 }"
-    );
+    let printed = is_debugged(rt.alloc(), &strides, "Strides { count: 0 }");
     expect_eq!(rt; (strides.count(), printed), (0, true));
 }
 
@@ -255,17 +308,12 @@ fn the_second_stride_is_read_where_the_first_is_full(rt: HostRuntime) {
     let archive = sixteen_archived();
     let bytes: &[u8] = &archive;
     let counted = [
-        counted(bytes, 16, Some(1)),
-        counted(bytes, 16, Some(16)),
-        counted(bytes, 16, Some(17)),
+        counted(bytes, 16, Accepted::Only(1)),
+        counted(bytes, 16, Accepted::Only(16)),
+        counted(bytes, 16, Accepted::Only(17)),
     ];
-    expect_eq!(rt;
-        (counted, found(bytes, 16, Some(9))),
-        (
-            [Some((Some(1), 1)), Some((Some(16), 1)), Some((None, 2))],
-            [Some(Some(9)); 4]
-        )
-    );
+    expect_eq!(rt; counted, [Ok((Some(1), 1)), Ok((Some(16), 1)), Ok((None, 2))]);
+    expect_eq!(rt; found(bytes, 16, Accepted::Only(9)), [Ok(Some(9)); 4]);
 }
 
 /// The calls of a comparison that accepts no item, in the table of sixteen items under one hash.
@@ -305,70 +353,40 @@ impl CallRecord {
     }
 }
 
-// Looks up in the table of sixteen items under one hash, and accepts no item. Returns whether
-// each lookup finds nothing and compares each item that it is to compare, and the number
-// of strides. The lookups are by a view, by a position, and with counted strides.
-fn compares_all_plain(bytes: &[u8]) -> Result<([bool; 6], u64), VerifyError> {
-    let table = ArchivedHashTable::of(access::<TableOf<u8>>(bytes)?);
-    let (by_view, by_pos, by_count) = (CallRecord::new(), CallRecord::new(), CallRecord::new());
-    let view = table.get_with(16, |item| by_view.accepts(item.to_native()));
-    let pos = table.get_pos_with(16, |item| by_pos.accepts(item.to_native()));
-    let mut strides = Strides::new();
-    let counted = table.get_counted(16, |item| by_count.accepts(item.to_native()), &mut strides);
-    let none = [
-        view.is_none(),
-        by_view.are_all(),
-        pos.is_none(),
-        by_pos.are_all(),
-        counted.is_none(),
-        by_count.are_all(),
-    ];
-    Ok((none, strides.count()))
-}
-
-// Looks up in the same way, by groups of the kind `G`.
-fn compares_all_by<G: GroupKind>(bytes: &[u8]) -> Result<[bool; 2], VerifyError> {
-    let table = ArchivedHashTable::of(access::<TableOf<u8>>(bytes)?);
+// Looks up in the table of sixteen items under one hash, and accepts no item. Returns the number
+// that is found by groups of the kind `G`, and whether each item is compared that is to be.
+fn compared_by<G: GroupKind>(bytes: &[u8]) -> (Result<Option<u8>, VerifyError>, bool) {
     let calls = CallRecord::new();
-    let found = table.get_by::<G, _>(16, |item| calls.accepts(item.to_native()));
-    Ok([found.is_none(), calls.are_all()])
+    let found = found_by::<G>(bytes, 16, Accepted::Nothing(&calls));
+    (found, calls.are_all())
 }
 
 #[test]
 fn unsuccessful_lookup_compares_each_item(rt: HostRuntime) {
     let archive = sixteen_archived();
     let bytes: &[u8] = &archive;
+    let (by_view, by_pos, by_count) = (CallRecord::new(), CallRecord::new(), CallRecord::new());
+    expect_eq!(rt; viewed(bytes, 16, Accepted::Nothing(&by_view)), Ok(None));
+    expect_eq!(rt; placed(bytes, 16, Accepted::Nothing(&by_pos)), Ok(None));
+    expect_eq!(rt; counted(bytes, 16, Accepted::Nothing(&by_count)), Ok((None, 2)));
+    expect_eq!(rt; [by_view.are_all(), by_pos.are_all(), by_count.are_all()], [true; 3]);
     let by_kind = [
-        compares_all_by::<bytewise::Group>(bytes).ok(),
-        compares_all_by::<generic::Group>(bytes).ok(),
-        compares_all_by::<lanes::Group>(bytes).ok(),
+        compared_by::<bytewise::Group>(bytes),
+        compared_by::<generic::Group>(bytes),
+        compared_by::<lanes::Group>(bytes),
     ];
-    expect_eq!(rt;
-        (compares_all_plain(bytes).ok(), by_kind),
-        (Some(([true; 6], 2)), [Some([true; 2]); 3])
-    );
+    expect_eq!(rt; by_kind, [(Ok(None), true); 3]);
 }
 
 #[test]
 fn an_empty_table_is_not_read(rt: HostRuntime) {
     let archive = no_items();
     let bytes: &[u8] = &archive;
-    let results = (
-        is_empty_copied::<u8>(bytes),
-        counts_and_lookup::<u8>(bytes, 2).ok(),
-    );
-    let found = (
-        first_pos::<u8, Narrow>(bytes, 2).ok(),
-        counted(bytes, 2, None),
-        found(bytes, 2, None),
-    );
-    expect_eq!(rt;
-        (results, found),
-        (
-            (Some(true), Some((true, 0, 0, true))),
-            (Some(None), Some((None, 0)), [Some(None); 4])
-        )
-    );
+    expect_eq!(rt; is_empty_copied::<u8>(bytes), Some(true));
+    expect_eq!(rt; counts_and_lookup::<u8>(bytes, 2), Ok((true, 0, 0, true)));
+    expect_eq!(rt; first_pos::<u8, Narrow>(bytes, 2), Ok(None));
+    expect_eq!(rt; counted(bytes, 2, Accepted::Each), Ok((None, 0)));
+    expect_eq!(rt; found(bytes, 2, Accepted::Each), [Ok(None); 4]);
 }
 
 // A group of one word marks a tag that differs in the lowest bit right above an equal one.
@@ -376,36 +394,20 @@ fn an_empty_table_is_not_read(rt: HostRuntime) {
 fn items_of_another_hash_may_be_compared(rt: HostRuntime) {
     let archive = tags_archived();
     let bytes: &[u8] = &archive;
-    let (first, second) = (
-        found(bytes, EVEN_TAG, None),
-        found(bytes, EVEN_TAG, Some(20)),
-    );
+    let second = Accepted::Only(20);
+    expect_eq!(rt; found(bytes, EVEN_TAG, Accepted::Each), [Ok(Some(10)); 4]);
     expect_eq!(rt;
-        (first, second, counted(bytes, EVEN_TAG, Some(20))),
-        (
-            [Some(Some(10)); 4],
-            [Some(None), Some(Some(20)), Some(None), Some(Some(20))],
-            Some((Some(20), 1))
-        )
+        found(bytes, EVEN_TAG, second),
+        [Ok(None), Ok(Some(20)), Ok(None), Ok(Some(20))]
     );
-}
-
-// Returns the number that is found if the second call and each later one are
-// accepted, and the number of strides that are read.
-fn second_counted(bytes: &[u8], hash: u64) -> Result<(Option<u8>, u64), VerifyError> {
-    let table = ArchivedHashTable::of(access::<TableOf<u8>>(bytes)?);
-    let called = Cell::new(false);
-    let mut strides = Strides::new();
-    match table.get_counted(hash, |_| called.replace(true), &mut strides) {
-        Some(item) => Ok((Some(item.to_native()), strides.count())),
-        None => Ok((None, strides.count())),
-    }
+    expect_eq!(rt; counted(bytes, EVEN_TAG, second), Ok((Some(20), 1)));
 }
 
 #[test]
 fn comparison_may_change_its_result(rt: HostRuntime) {
-    let found = second_counted(&two_archived(), 2).ok();
-    expect_eq!(rt; found, Some((Some(20), 1)));
+    let called = Cell::new(false);
+    let found = counted(&two_archived(), 2, Accepted::AfterFirst(&called));
+    expect_eq!(rt; found, Ok((Some(20), 1)));
 }
 
 // Returns whether a number is found under a hash, and the number of strides that are read.
@@ -422,15 +424,16 @@ fn are_found(
     numbers: [u64; 2],
     hashes: [u64; 2],
     expected: [(u64, u64); 3],
-) -> Option<[Option<(bool, u64)>; 3]> {
-    let bytes = archived(alloc, &numbers, &hashes, (7, 8)).ok()?;
-    let bytes = bytes.as_slice();
+) -> Option<[Result<(bool, u64), VerifyError>; 3]> {
     let [(one, first), (two, second), (three, third)] = expected;
-    Some([
-        is_found(bytes, one, first).ok(),
-        is_found(bytes, two, second).ok(),
-        is_found(bytes, three, third).ok(),
-    ])
+    match archived(alloc, &numbers, &hashes, (7, 8)) {
+        Ok(bytes) => Some([
+            is_found(bytes.as_slice(), one, first),
+            is_found(bytes.as_slice(), two, second),
+            is_found(bytes.as_slice(), three, third),
+        ]),
+        Err(_) => None,
+    }
 }
 
 #[test]
@@ -448,7 +451,7 @@ fn lookup_with_another_hasher(rt: HostRuntime) {
     let expected = [(one, 1), (other, large), (hashes[1], large)];
     expect_eq!(rt;
         are_found(rt.alloc(), numbers, hashes, expected),
-        Some([Some((true, 1)), Some((false, 1)), Some((true, 1))])
+        Some([Ok((true, 1)), Ok((false, 1)), Ok((true, 1))])
     );
 }
 
@@ -465,12 +468,14 @@ fn has_number(bytes: &[u8], hash: u64, number: u32) -> Result<bool, VerifyError>
 // Looks up 7 and 9 in a table that has 7 under 16, and in too few bytes.
 fn has_numbers(alloc: Global) -> Option<[Option<bool>; 3]> {
     // the tags of the hashes differ in more than their lowest bit
-    let bytes = archived(alloc, &[7u32, 9], &[16, 1 << 58], (7, 8)).ok()?;
-    Some([
-        has_number(bytes.as_slice(), 16, 7).ok(),
-        has_number(bytes.as_slice(), 16, 9).ok(),
-        has_number(&[0; 11], 16, 7).ok(),
-    ])
+    match archived(alloc, &[7u32, 9], &[16, 1 << 58], (7, 8)) {
+        Ok(bytes) => Some([
+            has_number(bytes.as_slice(), 16, 7).ok(),
+            has_number(bytes.as_slice(), 16, 9).ok(),
+            has_number(&[0; 11], 16, 7).ok(),
+        ]),
+        Err(_) => None,
+    }
 }
 
 #[test]

@@ -32,29 +32,34 @@ fn texts_are_written_by_ascending_bucket(rt: HostRuntime) {
 
 // Returns `true` if a text is found under a hash.
 fn has_text(bytes: &[u8], hash: u64, expected: &str) -> Result<bool, VerifyError> {
-    let table = ArchivedHashTable::of(access::<TableOf<Text>>(bytes)?);
-    match table.get_with(hash, |text| text.as_str() == expected) {
-        Some(text) => Ok(text.as_str() == expected),
-        None => Ok(false),
+    match access::<TableOf<Text>>(bytes) {
+        Ok(view) => {
+            let table = ArchivedHashTable::of(view);
+            match table.get_with(hash, |text| text.as_str() == expected) {
+                Some(text) => Ok(text.as_str() == expected),
+                None => Ok(false),
+            }
+        }
+        Err(error) => Err(error),
     }
 }
 
 // Looks up three texts in a table of two.
-fn found_texts(alloc: Global) -> Option<[Option<bool>; 3]> {
-    let texts = ["wonderful one", "two"];
-    let bytes = archived(alloc, &texts, &[2, 2], (1, 1)).ok()?;
-    let bytes = bytes.as_slice();
-    Some([
-        has_text(bytes, 2, "wonderful one").ok(),
-        has_text(bytes, 2, "two").ok(),
-        has_text(bytes, 2, "three").ok(),
-    ])
+fn found_texts(alloc: Global) -> Option<[Result<bool, VerifyError>; 3]> {
+    match archived(alloc, &["wonderful one", "two"], &[2, 2], (1, 1)) {
+        Ok(bytes) => Some([
+            has_text(bytes.as_slice(), 2, "wonderful one"),
+            has_text(bytes.as_slice(), 2, "two"),
+            has_text(bytes.as_slice(), 2, "three"),
+        ]),
+        Err(_) => None,
+    }
 }
 
 #[test]
 fn texts_are_found(rt: HostRuntime) {
     let found = found_texts(rt.alloc());
-    expect_eq!(rt; found, Some([Some(true), Some(true), Some(false)]));
+    expect_eq!(rt; found, Some([Ok(true), Ok(true), Ok(false)]));
 }
 
 // Returns `true` if a table of texts is invalid, since one of them begins before the end
@@ -92,23 +97,26 @@ fn value_len<K: Element, T: Element, W: Width>(entry: View<'_, Entry<K, TableOf<
 
 // Returns the number of pairs of the table that is found under a key.
 fn inner_len(bytes: &[u8], hash: u64, key: i8) -> Result<Option<usize>, VerifyError> {
-    let outer = ArchivedHashTable::of(access::<Outer>(bytes)?);
-    match outer.get_with(hash, |entry| entry.key().to_native() == key) {
-        Some(entry) => Ok(Some(value_len(entry))),
-        None => Ok(None),
+    match access::<Outer>(bytes) {
+        Ok(view) => {
+            let outer = ArchivedHashTable::of(view);
+            match outer.get_with(hash, |entry| entry.key().to_native() == key) {
+                Some(entry) => Ok(Some(value_len(entry))),
+                None => Ok(None),
+            }
+        }
+        Err(error) => Err(error),
     }
 }
 
 #[test]
 fn a_table_in_a_table_is_read(rt: HostRuntime) {
     let found = [
-        inner_len(&nested(), hash_of_i8(1), 1).ok(),
-        inner_len(&nested(), hash_of_i8(2), 2).ok(),
+        inner_len(&nested(), hash_of_i8(1), 1),
+        inner_len(&nested(), hash_of_i8(2), 2),
     ];
-    expect_eq!(rt;
-        (<Outer as Element>::size(), found),
-        (12, [Some(Some(1)), Some(None)])
-    );
+    expect_eq!(rt; <Outer as Element>::size(), 12);
+    expect_eq!(rt; found, [Ok(Some(1)), Ok(None)]);
 }
 
 #[test]

@@ -6,8 +6,21 @@ use rkyv_table::{ArchivedHashTable, Strides, TableOf};
 
 /// Returns the number of items of a table, and the number of its buckets.
 pub(crate) fn counts<T: Element, W: Width>(bytes: &[u8]) -> Result<(usize, usize), VerifyError> {
-    let table = ArchivedHashTable::of(access_in::<W, TableOf<T, W>>(bytes)?);
-    Ok((table.len(), table.capacity()))
+    match access_in::<W, TableOf<T, W>>(bytes) {
+        Ok(view) => {
+            let table = ArchivedHashTable::of(view);
+            Ok((table.len(), table.capacity()))
+        }
+        Err(error) => Err(error),
+    }
+}
+
+/// Returns the error of an invalid table, or `None` if the table is valid.
+pub(crate) fn failure<T: Element, W: Width>(bytes: &[u8]) -> Option<VerifyError> {
+    match access_in::<W, TableOf<T, W>>(bytes) {
+        Ok(_) => None,
+        Err(error) => Some(error),
+    }
 }
 
 /// Returns the value of a pair of numbers of eight bits, and the number of strides that are read.
@@ -21,10 +34,11 @@ pub(crate) fn value_of_small(
     let table = ArchivedHashTable::of(access::<TableOf<Entry<i8, i8>>>(bytes)?);
     let mut strides = Strides::new();
     let found = table.get_counted(hash, |pair| pair.key().to_native() == key, &mut strides);
-    match found {
-        Some(pair) => Ok((Some(pair.value().to_native()), strides.count())),
-        None => Ok((None, strides.count())),
-    }
+    let value = match found {
+        Some(pair) => Some(pair.value().to_native()),
+        None => None,
+    };
+    Ok((value, strides.count()))
 }
 
 /// Returns the same for numbers of 32 bits.
@@ -36,10 +50,11 @@ pub(crate) fn value_of<W: Width>(
     let table = ArchivedHashTable::of(access_in::<W, TableOf<Entry<u32, u32>, W>>(bytes)?);
     let mut strides = Strides::new();
     let found = table.get_counted(hash, |pair| pair.key().to_native() == key, &mut strides);
-    match found {
-        Some(pair) => Ok((Some(pair.value().to_native()), strides.count())),
-        None => Ok((None, strides.count())),
-    }
+    let value = match found {
+        Some(pair) => Some(pair.value().to_native()),
+        None => None,
+    };
+    Ok((value, strides.count()))
 }
 
 /// Returns the position of the item that is found under a hash if all items are accepted.
@@ -47,8 +62,10 @@ pub(crate) fn first_pos<T: Element, W: Width>(
     bytes: &[u8],
     hash: u64,
 ) -> Result<Option<u64>, VerifyError> {
-    let table = ArchivedHashTable::of(access_in::<W, TableOf<T, W>>(bytes)?);
-    Ok(table.get_pos_with(hash, |_| true))
+    match access_in::<W, TableOf<T, W>>(bytes) {
+        Ok(view) => Ok(ArchivedHashTable::of(view).get_pos_with(hash, |_| true)),
+        Err(error) => Err(error),
+    }
 }
 
 /// Returns whether a table is empty, its length, its capacity, and whether a lookup finds nothing.
@@ -58,26 +75,42 @@ pub(crate) fn counts_and_lookup<T: Element>(
     bytes: &[u8],
     hash: u64,
 ) -> Result<(bool, usize, usize, bool), VerifyError> {
-    let table = ArchivedHashTable::of(access::<TableOf<T>>(bytes)?);
-    let none = table.get_with(hash, |_| true).is_none();
-    Ok((table.is_empty(), table.len(), table.capacity(), none))
+    match access::<TableOf<T>>(bytes) {
+        Ok(view) => {
+            let table = ArchivedHashTable::of(view);
+            let none = table.get_with(hash, |_| true).is_none();
+            Ok((table.is_empty(), table.len(), table.capacity(), none))
+        }
+        Err(error) => Err(error),
+    }
 }
 
 /// Returns the number of items of a walk.
 pub(crate) fn count_walked<T: Element, W: Width>(bytes: &[u8]) -> Result<usize, VerifyError> {
-    let table = ArchivedHashTable::of(access_in::<W, TableOf<T, W>>(bytes)?);
-    let mut count = 0usize;
-    for _ in table.raw_iter() {
-        count = count.wrapping_add(1);
+    match access_in::<W, TableOf<T, W>>(bytes) {
+        Ok(view) => {
+            let mut count = 0usize;
+            for _ in ArchivedHashTable::of(view).raw_iter() {
+                count = count.wrapping_add(1);
+            }
+            Ok(count)
+        }
+        Err(error) => Err(error),
     }
-    Ok(count)
 }
 
-// Returns `true` if the bytes at a position are `item`.
-fn has_at(bytes: &[u8], pos: u64, item: &[u8]) -> bool {
-    match bytes.get(pos as usize..) {
-        Some(tail) => tail.starts_with(item),
-        None => false,
+// Returns what follows an item in `items`, or `None` if `items` doesn't begin with it. The item
+// is the `size` bytes at a position.
+fn after_item<'a>(bytes: &[u8], pos: u64, size: usize, items: &'a [u8]) -> Option<&'a [u8]> {
+    match (items.split_at_checked(size), bytes.get(pos as usize..)) {
+        (Some((item, others)), Some(tail)) => {
+            if tail.starts_with(item) {
+                Some(others)
+            } else {
+                None
+            }
+        }
+        _ => None,
     }
 }
 
@@ -89,14 +122,10 @@ pub(crate) fn walks_over<T: Element, W: Width>(
     let table = ArchivedHashTable::of(access_in::<W, TableOf<T, W>>(bytes)?);
     let mut left = items;
     for pos in table.raw_iter() {
-        let (item, others) = match left.split_at_checked(T::size()) {
-            Some(halves) => halves,
+        match after_item(bytes, pos, T::size(), left) {
+            Some(others) => left = others,
             None => return Ok(false),
-        };
-        if !has_at(bytes, pos, item) {
-            return Ok(false);
         }
-        left = others;
     }
     Ok(left.is_empty())
 }

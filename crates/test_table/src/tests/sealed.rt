@@ -1,29 +1,20 @@
 //! Items written in place.
 
 use crate::tests::archives::{sixteen_archived, two_archived};
-use crate::tests::lookups::CallRecord;
+use crate::tests::lookups::{Accepted, CallRecord, is_accepted};
 use rkyv_base::access::access;
 use rkyv_base::{VerifyError, access_mut};
-use rkyv_table::{ArchivedHashTable, TableOf};
+use rkyv_table::{ArchivedHashTable, RawIterSeal, TableOf};
 use test_support::archives::no_items;
 
-// Returns `true` if a sealed lookup compares each item that it is to compare. It is in the table
-// of sixteen items under one hash, and accepts none.
-fn compares_all_sealed(bytes: &mut [u8]) -> Result<bool, VerifyError> {
+// Returns the number of the seal that is found under a hash.
+fn sealed(bytes: &mut [u8], hash: u64, accepted: Accepted<'_>) -> Result<Option<u8>, VerifyError> {
     let whole = access_mut::<TableOf<u8>>(bytes)?;
-    let calls = CallRecord::new();
-    let none = ArchivedHashTable::get_seal_with(
+    match ArchivedHashTable::get_seal_with(
         whole,
-        16,
-        |item| calls.accepts(item.to_native()),
-    ).is_none();
-    Ok(none && calls.are_all())
-}
-
-// Returns the number of the seal that is found under a hash if all are accepted.
-fn first_sealed(bytes: &mut [u8], hash: u64) -> Result<Option<u8>, VerifyError> {
-    let whole = access_mut::<TableOf<u8>>(bytes)?;
-    match ArchivedHashTable::get_seal_with(whole, hash, |_| true) {
+        hash,
+        |item| is_accepted(item.to_native(), accepted),
+    ) {
         Some(seal) => Ok(Some(seal.to_native())),
         None => Ok(None),
     }
@@ -55,101 +46,114 @@ enum By {
     Position,
 }
 
+// Writes a number over the next item of a cursor. Returns `false` if there is none.
+fn write_next(rest: &mut RawIterSeal<'_, u8>, number: u8, by: By) -> bool {
+    match by {
+        By::Seal => match rest.next_seal() {
+            Some(mut seal) => {
+                seal.set(number);
+                true
+            }
+            None => false,
+        },
+        By::Position => match rest.next_pos() {
+            Some(pos) => {
+                rest.set_at(pos, number);
+                true
+            }
+            None => false,
+        },
+    }
+}
+
+// Returns `true` if a cursor has no item left.
+fn has_ended(rest: &mut RawIterSeal<'_, u8>, by: By) -> bool {
+    match by {
+        By::Seal => rest.next_seal().is_none(),
+        By::Position => rest.next_pos().is_none(),
+    }
+}
+
 // Writes the numbers over the items of a cursor in order. Returns `true` if there are as many
 // items, the cursor has the right length at each step, and it returns `None` after the last.
-fn write_each(bytes: &mut [u8], numbers: &[u8], by: By) -> Result<bool, VerifyError> {
-    let whole = access_mut::<TableOf<u8>>(bytes)?;
-    let mut rest = ArchivedHashTable::raw_iter_seal(whole);
+fn writes_all(mut rest: RawIterSeal<'_, u8>, numbers: &[u8], by: By) -> bool {
     let mut right = true;
     let mut left = numbers.len();
     for number in numbers {
-        right = right && rest.len() == left;
+        right = right && rest.len() == left && write_next(&mut rest, *number, by);
         left = left.saturating_sub(1);
-        match by {
-            By::Seal => match rest.next_seal() {
-                Some(mut seal) => seal.set(*number),
-                None => return Ok(false),
-            },
-            By::Position => match rest.next_pos() {
-                Some(pos) => rest.set_at(pos, *number),
-                None => return Ok(false),
-            },
-        }
     }
     right = right && rest.len() == 0;
-    let ended = match by {
-        By::Seal => rest.next_seal().is_none() && rest.next_seal().is_none(),
-        By::Position => rest.next_pos().is_none() && rest.next_pos().is_none(),
-    };
-    Ok(right && ended && rest.len() == 0)
+    right && has_ended(&mut rest, by) && has_ended(&mut rest, by) && rest.len() == 0
+}
+
+// Returns the same of the cursor over the table at the end of an archive.
+fn write_each(bytes: &mut [u8], numbers: &[u8], by: By) -> Result<bool, VerifyError> {
+    match access_mut::<TableOf<u8>>(bytes) {
+        Ok(whole) => Ok(writes_all(ArchivedHashTable::raw_iter_seal(whole), numbers, by)),
+        Err(error) => Err(error),
+    }
 }
 
 #[test]
 fn unsuccessful_sealed_lookup_compares_each_item(rt: HostRuntime) {
     let mut bytes = sixteen_archived();
-    let calls = compares_all_sealed(&mut bytes).ok();
-    expect_eq!(rt; (calls, bytes), (Some(true), sixteen_archived()));
+    let calls = CallRecord::new();
+    expect_eq!(rt; sealed(&mut bytes, 16, Accepted::Nothing(&calls)), Ok(None));
+    expect_eq!(rt; (calls.are_all(), bytes), (true, sixteen_archived()));
 }
 
 #[test]
 fn a_found_item_is_written_in_place(rt: HostRuntime) {
     let mut bytes = two_archived();
-    let replaced = replace(&mut bytes, 2, 20, 30).ok();
-    let found = [
-        pos_of_number(&bytes, 2, 30).ok(),
-        pos_of_number(&bytes, 2, 20).ok(),
-    ];
+    expect_eq!(rt; replace(&mut bytes, 2, 20, 30), Ok(Some((20, 30))));
+    expect_eq!(rt; pos_of_number(&bytes, 2, 30), Ok(Some(2)));
+    expect_eq!(rt; pos_of_number(&bytes, 2, 20), Ok(None));
     let mut expected = two_archived();
     expected[2] = 30;
-    expect_eq!(rt;
-        (replaced, found, bytes),
-        (Some(Some((20, 30))), [Some(Some(2)), Some(None)], expected)
-    );
+    expect_eq!(rt; bytes, expected);
 }
 
 #[test]
 fn sealed_lookup_finds_the_first_inserted_item(rt: HostRuntime) {
     let mut bytes = two_archived();
-    expect_eq!(rt; first_sealed(&mut bytes, 2).ok(), Some(Some(10)));
+    expect_eq!(rt; sealed(&mut bytes, 2, Accepted::Each), Ok(Some(10)));
 }
 
 #[test]
 fn lookup_of_a_missing_item_changes_nothing(rt: HostRuntime) {
     let mut bytes = two_archived();
-    let replaced = replace(&mut bytes, 2, 30, 40).ok();
-    expect_eq!(rt; (replaced, bytes), (Some(None), two_archived()));
+    expect_eq!(rt; replace(&mut bytes, 2, 30, 40), Ok(None));
+    expect_eq!(rt; bytes, two_archived());
 }
 
 #[test]
 fn items_are_yielded_by_ascending_bucket(rt: HostRuntime) {
     let mut bytes = two_archived();
-    let written = write_each(&mut bytes, &[40, 30], By::Seal).ok();
+    expect_eq!(rt; write_each(&mut bytes, &[40, 30], By::Seal), Ok(true));
     let mut expected = two_archived();
     expected[0] = 30;
     expected[2] = 40;
-    expect_eq!(rt; (written, bytes), (Some(true), expected));
+    expect_eq!(rt; bytes, expected);
 }
 
 #[test]
 fn items_are_written_by_position(rt: HostRuntime) {
     let mut bytes = sixteen_archived();
-    let written = write_each(&mut bytes, &[7; 16], By::Position).ok();
+    expect_eq!(rt; write_each(&mut bytes, &[7; 16], By::Position), Ok(true));
     let mut expected = sixteen_archived();
     expected[0] = 7;
     expected[2..17].copy_from_slice(&[7; 15]);
-    expect_eq!(rt; (written, bytes), (Some(true), expected));
+    expect_eq!(rt; bytes, expected);
 }
 
 #[test]
 fn an_empty_table_has_no_sealed_item(rt: HostRuntime) {
     let mut bytes = no_items();
-    let lent = first_sealed(&mut bytes, 2).ok();
-    let walked = write_each(&mut bytes, &[], By::Seal).ok();
-    let placed = write_each(&mut bytes, &[], By::Position).ok();
-    expect_eq!(rt;
-        (lent, walked, placed, bytes),
-        (Some(None), Some(true), Some(true), no_items())
-    );
+    expect_eq!(rt; sealed(&mut bytes, 2, Accepted::Each), Ok(None));
+    expect_eq!(rt; write_each(&mut bytes, &[], By::Seal), Ok(true));
+    expect_eq!(rt; write_each(&mut bytes, &[], By::Position), Ok(true));
+    expect_eq!(rt; bytes, no_items());
 }
 
 #[test]
@@ -159,8 +163,5 @@ fn invalid_table_is_unchanged(rt: HostRuntime) {
         access_mut::<TableOf<u8>>(&mut bytes),
         Err(VerifyError::InvalidLength { len: 2, cap: 2 })
     );
-    expect_eq!(rt;
-        (failed, bytes),
-        (true, [1, 0, 0, 0, 2, 0, 0, 0, 2, 0, 0, 0])
-    );
+    expect_eq!(rt; (failed, bytes), (true, [1, 0, 0, 0, 2, 0, 0, 0, 2, 0, 0, 0]));
 }

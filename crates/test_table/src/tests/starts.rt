@@ -2,7 +2,8 @@
 //! from a start.
 
 use crate::tests::archives::{SIXTEEN, archived};
-use rkyv_base::{Narrow, VerifyError, Wide, Width, access_in};
+use crate::tests::lookups::{Accepted, counted, placed, viewed};
+use rkyv_base::{VerifyError, Wide, access_in};
 use rkyv_scan::simd::generic;
 use rkyv_table::controls::place::place_from;
 use rkyv_table::controls::reciprocal::Reciprocal;
@@ -25,13 +26,10 @@ const WIDE_SEVEN: [u8; 64] = [
     0x01, 0x00, 0x00, 0x00, 0x00, 0x00, 0x00, 0x00, 0x02, 0x00, 0x00, 0x00, 0x00, 0x00, 0x00, 0x00,
 ];
 
-// Returns the number that a lookup of `expected` finds, and the number of strides that it reads.
-fn counted<W: Width>(
-    bytes: &[u8],
-    hash: u64,
-    expected: u8,
-) -> Result<(Option<u8>, u64), VerifyError> {
-    let table = ArchivedHashTable::of(access_in::<W, TableOf<u8, W>>(bytes)?);
+// Returns the number that a lookup of `expected` finds in a wide archive, and the number of strides
+// that it reads.
+fn wide_counted(bytes: &[u8], hash: u64, expected: u8) -> Result<(Option<u8>, u64), VerifyError> {
+    let table = ArchivedHashTable::of(access_in::<Wide, TableOf<u8, Wide>>(bytes)?);
     let mut strides = Strides::new();
     match table.get_counted(hash, |item| item.to_native() == expected, &mut strides) {
         Some(item) => Ok((Some(item.to_native()), strides.count())),
@@ -39,18 +37,16 @@ fn counted<W: Width>(
     }
 }
 
+// The number that a lookup finds, and its position.
+type Found = (
+    Result<Option<u8>, VerifyError>,
+    Result<Option<u64>, VerifyError>,
+);
+
 // Returns the number that a lookup of `expected` finds, and its position.
-fn viewed_and_placed(
-    bytes: &[u8],
-    hash: u64,
-    expected: u8,
-) -> Result<(Option<u8>, Option<u64>), VerifyError> {
-    let table = ArchivedHashTable::of(access_in::<Narrow, TableOf<u8>>(bytes)?);
-    let pos = table.get_pos_with(hash, |item| item.to_native() == expected);
-    match table.get_with(hash, |item| item.to_native() == expected) {
-        Some(item) => Ok((Some(item.to_native()), pos)),
-        None => Ok((None, pos)),
-    }
+fn viewed_and_placed(bytes: &[u8], hash: u64, expected: u8) -> Found {
+    let accepted = Accepted::Only(expected);
+    (viewed(bytes, hash, accepted), placed(bytes, hash, accepted))
 }
 
 #[test]
@@ -105,33 +101,34 @@ fn items_under_one_hash_are_found(rt: HostRuntime) -> Result<(), Fail> {
     let bytes = archived(rt.alloc(), &SIXTEEN, &[16; 16], (1, 1))?;
     let bytes = bytes.as_slice();
     let counted = [
-        counted::<Narrow>(bytes, 16, 1).ok(),
-        counted::<Narrow>(bytes, 16, 16).ok(),
-        counted::<Narrow>(bytes, 16, 17).ok(),
-        counted::<Narrow>(bytes, 0, 1).ok(),
-        counted::<Narrow>(bytes, 33, 1).ok(),
-    ];
-    let placed = [
-        viewed_and_placed(bytes, 16, 1).ok(),
-        viewed_and_placed(bytes, 16, 2).ok(),
-        viewed_and_placed(bytes, 16, 17).ok(),
+        counted(bytes, 16, Accepted::Only(1)),
+        counted(bytes, 16, Accepted::Only(16)),
+        counted(bytes, 16, Accepted::Only(17)),
+        counted(bytes, 0, Accepted::Only(1)),
+        counted(bytes, 33, Accepted::Only(1)),
     ];
     expect_eq!(rt;
-        (counted, placed),
-        (
-            [
-                Some((Some(1), 1)),
-                Some((Some(16), 1)),
-                Some((None, 2)),
-                Some((None, 1)),
-                Some((Some(1), 1))
-            ],
-            [
-                Some((Some(1), Some(0))),
-                Some((Some(2), Some(16))),
-                Some((None, None))
-            ]
-        )
+        counted,
+        [
+            Ok((Some(1), 1)),
+            Ok((Some(16), 1)),
+            Ok((None, 2)),
+            Ok((None, 1)),
+            Ok((Some(1), 1))
+        ]
+    );
+    let placed = [
+        viewed_and_placed(bytes, 16, 1),
+        viewed_and_placed(bytes, 16, 2),
+        viewed_and_placed(bytes, 16, 17),
+    ];
+    expect_eq!(rt;
+        placed,
+        [
+            (Ok(Some(1)), Ok(Some(0))),
+            (Ok(Some(2)), Ok(Some(16))),
+            (Ok(None), Ok(None))
+        ]
     );
     Ok(())
 }
@@ -141,25 +138,21 @@ fn a_lookup_without_items_reads_nothing(rt: HostRuntime) -> Result<(), Fail> {
     let bytes = archived::<u8>(rt.alloc(), &[], &[], (7, 8))?;
     let bytes = bytes.as_slice();
     let counted = [
-        counted::<Narrow>(bytes, 3, 0).ok(),
-        counted::<Narrow>(&ONE_BUCKET, 3, 0).ok(),
+        counted(bytes, 3, Accepted::Only(0)),
+        counted(&ONE_BUCKET, 3, Accepted::Only(0)),
     ];
-    expect_eq!(rt;
-        (counted, viewed_and_placed(bytes, 3, 0).ok()),
-        ([Some((None, 0)); 2], Some((None, None)))
-    );
+    expect_eq!(rt; counted, [Ok((None, 0)); 2]);
+    expect_eq!(rt; viewed_and_placed(bytes, 3, 0), (Ok(None), Ok(None)));
     Ok(())
 }
 
 #[test]
 fn a_wide_table_is_looked_up(rt: HostRuntime) {
+    let bytes: &[u8] = &WIDE_SEVEN;
     let counted = [
-        counted::<Wide>(&WIDE_SEVEN, 1, 7).ok(),
-        counted::<Wide>(&WIDE_SEVEN, 0, 7).ok(),
-        counted::<Wide>(&WIDE_SEVEN, 1, 8).ok(),
+        wide_counted(bytes, 1, 7),
+        wide_counted(bytes, 0, 7),
+        wide_counted(bytes, 1, 8),
     ];
-    expect_eq!(rt;
-        counted,
-        [Some((Some(7), 1)), Some((Some(7), 1)), Some((None, 1))]
-    );
+    expect_eq!(rt; counted, [Ok((Some(7), 1)), Ok((Some(7), 1)), Ok((None, 1))]);
 }

@@ -1,10 +1,10 @@
 //! Tables in wide archives.
 
 use crate::tests::archives::hash_of_u32;
-use crate::tests::reading::{counts, first_pos, value_of, walks_over};
+use crate::tests::reading::{counts, failure, first_pos, value_of, walks_over};
 use rkyv_base::{
-    Element, Entry, NoMemory, PartRange, VecWriter, VerifyError, Wide, WriteError, access_in,
-    align_for_in, append_in,
+    Element, Entry, NoMemory, PartRange, VecWriter, VerifyError, Wide, WriteError, align_for_in,
+    append_in,
 };
 use rkyv_scan::simd::lanes;
 use rkyv_table::{ArchivedHashTable, TableOf};
@@ -60,8 +60,8 @@ fn no_wide_items_write_a_header_alone(rt: HostRuntime) {
         1, 0, 0, 0, 0, 0, 0, 0, 0, 0, 0, 0, 0, 0, 0, 0, 0, 0, 0, 0, 0, 0, 0, 0,
     ];
     let written = is_archive(rt.alloc(), &[], &header);
-    let counts = counts::<Entry<u32, u32>, Wide>(&header).ok();
-    expect_eq!(rt; (written, counts), (true, Some((0, 0))));
+    let counts = counts::<Entry<u32, u32>, Wide>(&header);
+    expect_eq!(rt; (written, counts), (true, Ok((0, 0))));
 }
 
 #[test]
@@ -72,23 +72,16 @@ fn a_wide_pair_is_read(rt: HostRuntime) {
         <TableOf<u8, Wide> as Element>::size(),
         <TableOf<u8, Wide> as Element>::align(),
     );
-    let counts = counts::<Entry<u32, u32>, Wide>(bytes).ok();
     let found = [
-        value_of::<Wide>(bytes, hash_of_u32(1), 1).ok(),
-        value_of::<Wide>(bytes, hash_of_u32(2), 2).ok(),
+        value_of::<Wide>(bytes, hash_of_u32(1), 1),
+        value_of::<Wide>(bytes, hash_of_u32(2), 2),
     ];
-    let pos = first_pos::<Entry<u32, u32>, Wide>(bytes, hash_of_u32(1)).ok();
-    let walked = walks_over::<Entry<u32, u32>, Wide>(bytes, &[1, 0, 0, 0, 2, 0, 0, 0]).ok();
-    expect_eq!(rt;
-        (layout, counts, found, pos, walked),
-        (
-            (24, 8),
-            Some((1, 2)),
-            [Some((Some(2), 1)), Some((None, 1))],
-            Some(Some(0)),
-            Some(true)
-        )
-    );
+    let pos = first_pos::<Entry<u32, u32>, Wide>(bytes, hash_of_u32(1));
+    let walked = walks_over::<Entry<u32, u32>, Wide>(bytes, &[1, 0, 0, 0, 2, 0, 0, 0]);
+    expect_eq!(rt; layout, (24, 8));
+    expect_eq!(rt; counts::<Entry<u32, u32>, Wide>(bytes), Ok((1, 2)));
+    expect_eq!(rt; found, [Ok((Some(2), 1)), Ok((None, 1))]);
+    expect_eq!(rt; (pos, walked), (Ok(Some(0)), Ok(true)));
 }
 
 #[test]
@@ -108,14 +101,12 @@ fn rejects_a_wide_capacity_beyond_the_archive(rt: HostRuntime) {
         0, 0, 0, 0, 0, 0, 0, 0, 1, 0, 0, 0, 0, 0, 0, 0, 0xff, 0xff, 0xff, 0xff, 0xff, 0xff, 0xff,
         0xff,
     ];
-    assert!(rt;
-        matches!(
-            access_in::<Wide, TableOf<Entry<u32, u32>, Wide>>(&bytes),
-            Err(VerifyError::OutOfRange {
-                pos: -147_573_952_589_676_412_920,
-                size: 166_020_696_663_385_964_551,
-            })
-        )
+    expect_eq!(rt;
+        failure::<Entry<u32, u32>, Wide>(&bytes),
+        Some(VerifyError::OutOfRange {
+            pos: -147_573_952_589_676_412_920,
+            size: 166_020_696_663_385_964_551,
+        })
     );
 }
 

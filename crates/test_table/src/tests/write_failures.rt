@@ -1,4 +1,5 @@
 //! Tables for which writing fails before the first byte.
+ghost use Rattle.std.specs.Prelude.{◌≤◌};
 
 use rkyv_base::{Narrow, NoMemory, VecWriter, WriteError, append};
 use rkyv_scan::simd::lanes;
@@ -33,17 +34,20 @@ fn behind_a_nine(alloc: Global) -> Option<VecWriter> {
     }
 }
 
-// Returns `true` if writing a table of the numbers fails with this text, and nothing is written.
-// Each number is under the next hash.
-fn write_fails(alloc: Global, items: &[u8], hashes: &[u64], claim: Claim, text: &str) -> bool {
+// Returns `true` if writing a table fails with this text, and nothing is written. Its items are
+// the first `items` of 7, 8, 9 and 10, and its hashes the first `hashes` of 0, 1, 2 and 3.
+fn write_fails(alloc: Global, items: usize, hashes: usize, claim: Claim, text: &str) -> bool
+    requires items { items ≤ 4 }
+    requires hashes { hashes ≤ 4 }
+{
     let mut writer = match behind_a_nine(alloc) {
         Some(writer) => writer,
         None => return false,
     };
     let outcome = ArchivedHashTable::<u8, Narrow>::serialize_from_iter::<VecWriter, u8, &u8, _, _>(
         alloc,
-        items.iter(),
-        hashes.iter().copied(),
+        [7, 8, 9, 10][..items].iter(),
+        [0, 1, 2, 3][..hashes].iter().copied(),
         claim.0,
         claim.1,
         &mut writer,
@@ -51,8 +55,10 @@ fn write_fails(alloc: Global, items: &[u8], hashes: &[u64], claim: Claim, text: 
     is_failure(alloc, outcome, &writer, text)
 }
 
-// Returns the same for pairs of hash and number.
-fn write_of_pairs_fails(alloc: Global, pairs: &[(u64, u8)], claim: Claim, text: &str) -> bool {
+// Returns the same for the first `pairs` pairs of these hashes and items.
+fn write_of_pairs_fails(alloc: Global, pairs: usize, claim: Claim, text: &str) -> bool
+    requires { pairs ≤ 4 }
+{
     let mut writer = match behind_a_nine(alloc) {
         Some(writer) => writer,
         None => return false,
@@ -63,7 +69,13 @@ fn write_of_pairs_fails(alloc: Global, pairs: &[(u64, u8)], claim: Claim, text: 
         u8,
         u8,
         _,
-    >(alloc, pairs.iter().copied(), claim.0, claim.1, &mut writer);
+    >(
+        alloc,
+        [(0, 7), (1, 8), (2, 9), (3, 10)][..pairs].iter().copied(),
+        claim.0,
+        claim.1,
+        &mut writer,
+    );
     is_failure(alloc, outcome, &writer, text)
 }
 
@@ -74,14 +86,14 @@ fn rejects_invalid_load_factors(rt: HostRuntime) {
     let zero = "invalid load factor 0 / 1, load factor must be a fraction in the range (0, 1]";
     let undivided = "invalid load factor 1 / 0, load factor must be a fraction in the range (0, 1]";
     let failed = [
-        write_fails(alloc, &[7], &[0], (1, (8, 7)), above),
-        write_fails(alloc, &[7], &[0], (1, (0, 1)), zero),
-        write_fails(alloc, &[7], &[0], (1, (1, 0)), undivided),
+        write_fails(alloc, 1, 1, (1, (8, 7)), above),
+        write_fails(alloc, 1, 1, (1, (0, 1)), zero),
+        write_fails(alloc, 1, 1, (1, (1, 0)), undivided),
         // also for no items, and before they are counted
-        write_fails(alloc, &[], &[], (0, (8, 7)), above),
-        write_fails(alloc, &[7], &[], (0, (0, 1)), zero),
-        write_of_pairs_fails(alloc, &[(0, 7)], (1, (8, 7)), above),
-        write_of_pairs_fails(alloc, &[], (0, (1, 0)), undivided),
+        write_fails(alloc, 0, 0, (0, (8, 7)), above),
+        write_fails(alloc, 1, 0, (0, (0, 1)), zero),
+        write_of_pairs_fails(alloc, 1, (1, (8, 7)), above),
+        write_of_pairs_fails(alloc, 0, (0, (1, 0)), undivided),
     ];
     expect_eq!(rt; failed, [true; 7]);
 }
@@ -93,10 +105,10 @@ fn rejects_large_capacities(rt: HostRuntime) {
     let full = "capacity too large for length 4294967295";
     let all = "capacity too large for length 18446744073709551615";
     let failed = [
-        write_fails(alloc, &[7], &[0], (1, (1, 4_294_967_296)), one),
-        write_fails(alloc, &[], &[], (4_294_967_295, (1, 1)), full),
-        write_fails(alloc, &[], &[], (usize::MAX, (1, usize::MAX)), all),
-        write_of_pairs_fails(alloc, &[], (4_294_967_295, (1, 1)), full),
+        write_fails(alloc, 1, 1, (1, (1, 4_294_967_296)), one),
+        write_fails(alloc, 0, 0, (4_294_967_295, (1, 1)), full),
+        write_fails(alloc, 0, 0, (usize::MAX, (1, usize::MAX)), all),
+        write_of_pairs_fails(alloc, 0, (4_294_967_295, (1, 1)), full),
     ];
     expect_eq!(rt; failed, [true; 4]);
 }
@@ -110,21 +122,20 @@ fn rejects_other_numbers_of_items(rt: HostRuntime) {
     let one = "iterator claimed that it contained 2 elements, but yielded 1 items during iteration";
     let more =
         "iterator claimed that it contained 2 elements, but yielded 3 items during iteration";
-    let four = [(0, 7), (1, 8), (2, 9), (3, 10)];
     let failed = [
-        write_fails(alloc, &[7, 8], &[0, 1, 2], (3, (7, 8)), two),
-        write_fails(alloc, &[7], &[], (0, (7, 8)), none),
-        write_fails(alloc, &[7, 8, 9], &[], (0, (7, 8)), none),
-        write_fails(alloc, &[], &[0, 1, 2], (0, (7, 8)), none),
-        write_fails(alloc, &[7, 8], &[0], (2, (7, 8)), one),
-        write_fails(alloc, &[7, 8], &[0, 1, 2, 3], (2, (7, 8)), more),
-        write_fails(alloc, &[7, 8, 9, 10], &[0, 1], (2, (7, 8)), more),
+        write_fails(alloc, 2, 3, (3, (7, 8)), two),
+        write_fails(alloc, 1, 0, (0, (7, 8)), none),
+        write_fails(alloc, 3, 0, (0, (7, 8)), none),
+        write_fails(alloc, 0, 3, (0, (7, 8)), none),
+        write_fails(alloc, 2, 1, (2, (7, 8)), one),
+        write_fails(alloc, 2, 4, (2, (7, 8)), more),
+        write_fails(alloc, 4, 2, (2, (7, 8)), more),
         // the items are counted before the hashes
-        write_fails(alloc, &[7], &[0, 1, 2], (2, (7, 8)), one),
-        write_fails(alloc, &[7, 8, 9], &[0], (2, (7, 8)), more),
-        write_of_pairs_fails(alloc, &[(0, 7), (1, 8)], (3, (7, 8)), two),
-        write_of_pairs_fails(alloc, &[(0, 7)], (0, (7, 8)), none),
-        write_of_pairs_fails(alloc, &four, (2, (7, 8)), more),
+        write_fails(alloc, 1, 3, (2, (7, 8)), one),
+        write_fails(alloc, 3, 1, (2, (7, 8)), more),
+        write_of_pairs_fails(alloc, 2, (3, (7, 8)), two),
+        write_of_pairs_fails(alloc, 1, (0, (7, 8)), none),
+        write_of_pairs_fails(alloc, 4, (2, (7, 8)), more),
     ];
     expect_eq!(rt; failed, [true; 12]);
 }

@@ -53,13 +53,14 @@ fn nothing_is_written_after_a_fault(rt: HostRuntime) {
 // that it is full unless these are all.
 fn keeps_a_prefix(alloc: Global, limit: u64) -> bool {
     let mut writer = LimitWriter::new(VecWriter::new(alloc), limit);
-    let (written, full) = match write_one_pair(alloc, &mut writer) {
-        Ok(()) => (true, false),
-        Err(WriteError::Writer(LimitFault::Full)) => (false, true),
-        Err(_) => (false, false),
+    let full = limit < 60;
+    let expected = if full {
+        Err(WriteError::Writer(LimitFault::Full))
+    } else {
+        Ok(())
     };
+    let as_expected = write_one_pair(alloc, &mut writer) == expected;
     let counted = writer.pos() == limit && writer.failures() == u64::from(full);
-    let as_expected = if limit < 60 { full } else { written };
     as_expected
         && counted
         && one_number().get(..limit as usize) == Some(writer.into_inner().bytes())
