@@ -28,18 +28,12 @@ fn has_message<E: Error>(alloc: Global, error: E, text: &str) -> bool {
 
 // Returns `true` if an error of writing has this text of `Debug` and this message.
 fn is_write_error(alloc: Global, error: WriteError<NoMemory>, debug: &str, message: &str) -> bool {
-    match format!(in alloc; "{error:?}") {
-        Ok(shown) => shown.as_str() == debug && has_message(alloc, error, message),
-        Err(_) => false,
-    }
+    is_debugged(alloc, error, debug) && has_message(alloc, error, message)
 }
 
 // Returns `true` if an error of validation has this text of `Debug` and this message.
 fn is_verify_error(alloc: Global, error: VerifyError, debug: &str, message: &str) -> bool {
-    match format!(in alloc; "{error:?}") {
-        Ok(shown) => shown.as_str() == debug && has_message(alloc, error, message),
-        Err(_) => false,
-    }
+    is_debugged(alloc, error, debug) && has_message(alloc, error, message)
 }
 
 fn mismatch(expected: usize, actual: usize) -> IteratorLengthMismatch {

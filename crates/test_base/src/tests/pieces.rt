@@ -1,8 +1,8 @@
 //! Tests of the pieces in which archives are written.
 
 use rkyv_base::{
-    LimitFault, LimitWriter, Narrow, Serialize, Wide, Writer, align_for, append, append_in,
-    write_root, write_root_in,
+    Element, LimitFault, LimitWriter, Narrow, Serialize, Wide, Writer, align_for, append,
+    append_in, write_root, write_root_in,
 };
 use std::alloc::Global;
 use test_support::writers::PieceWriter;
@@ -29,6 +29,21 @@ fn is_written_wide_in<V: Serialize<PieceWriter, Wide>>(
     written && writer.lengths() == lengths
 }
 
+// The same of a narrow archive of one text.
+fn is_text_in(alloc: Global, text: &str, lengths: &[usize]) -> bool {
+    is_written_in::<&str>(alloc, &text, lengths)
+}
+
+// The same of a narrow archive of two texts.
+fn are_texts_in(alloc: Global, first: &str, second: &str, lengths: &[usize]) -> bool {
+    is_written_in::<(&str, &str)>(alloc, &(first, second), lengths)
+}
+
+// The same of a wide archive of one text.
+fn is_wide_text_in(alloc: Global, text: &str, lengths: &[usize]) -> bool {
+    is_written_wide_in::<&str>(alloc, &text, lengths)
+}
+
 #[test]
 fn a_root_is_zeros_and_one_piece(rt: HostRuntime) {
     let alloc = rt.alloc();
@@ -46,14 +61,14 @@ fn a_root_is_zeros_and_one_piece(rt: HostRuntime) {
 fn each_text_is_one_piece(rt: HostRuntime) {
     let alloc = rt.alloc();
     let written = [
-        is_written_in(alloc, &"wonderful", &[9, 3, 8]),
-        is_written_in(alloc, &("wonderful", "marvellous"), &[9, 10, 1, 16]),
+        is_text_in(alloc, "wonderful", &[9, 3, 8]),
+        are_texts_in(alloc, "wonderful", "marvellous", &[9, 10, 1, 16]),
         is_written_in(
             alloc,
             &("wonderful", ("hello", "magnificent")),
             &[9, 11, 0, 24],
         ),
-        is_written_wide_in(alloc, &"wonderful wonders", &[17, 7, 16]),
+        is_wide_text_in(alloc, "wonderful wonders", &[17, 7, 16]),
     ];
     expect_eq!(rt; written, [true; 4]);
 }
@@ -62,37 +77,33 @@ fn each_text_is_one_piece(rt: HostRuntime) {
 fn an_inline_text_has_no_piece_of_its_own(rt: HostRuntime) {
     let alloc = rt.alloc();
     let written = [
-        is_written_in(alloc, &"hello", &[0, 8]),
-        is_written_in(alloc, &"", &[0, 8]),
-        is_written_in(alloc, &("hello", "wonderful"), &[9, 3, 16]),
-        is_written_wide_in(alloc, &"wonderful", &[0, 16]),
+        is_text_in(alloc, "hello", &[0, 8]),
+        is_text_in(alloc, "", &[0, 8]),
+        are_texts_in(alloc, "hello", "wonderful", &[9, 3, 16]),
+        is_wide_text_in(alloc, "wonderful", &[0, 16]),
     ];
     expect_eq!(rt; written, [true; 4]);
 }
 
-// Appends two bytes, and aligns for numbers of 2, 4 and 8 bytes, with a byte after each.
-fn align_thrice(writer: &mut PieceWriter) -> Option<[u64; 3]> {
-    append(writer, &[1, 2]).ok()?;
-    let second = align_for::<u16, PieceWriter>(writer).ok()?;
-    append(writer, &[3]).ok()?;
-    let fourth = align_for::<u32, PieceWriter>(writer).ok()?;
-    append(writer, &[4]).ok()?;
-    let eighth = align_for::<u64, PieceWriter>(writer).ok()?;
-    Some([second, fourth, eighth])
+// Appends bytes and aligns for a `T`. Returns the position.
+fn aligned_behind<T: Element>(writer: &mut PieceWriter, bytes: &[u8]) -> Option<u64> {
+    match append(writer, bytes) {
+        Ok(()) => align_for::<T, PieceWriter>(writer).ok(),
+        Err(_) => None,
+    }
 }
 
 #[test]
 fn zeros_are_one_piece(rt: HostRuntime) {
     let mut writer = PieceWriter::new(rt.alloc());
-    let aligned = align_thrice(&mut writer);
-    expect_eq!(rt;
-        (aligned, writer.lengths(), writer.bytes()),
-        (
-            Some([2, 4, 8]),
-            [2, 0, 1, 1, 1, 3].as_slice(),
-            [1, 2, 3, 0, 4, 0, 0, 0].as_slice()
-        )
-    );
+    let aligned = [
+        aligned_behind::<u16>(&mut writer, &[1, 2]),
+        aligned_behind::<u32>(&mut writer, &[3]),
+        aligned_behind::<u64>(&mut writer, &[4]),
+    ];
+    expect_eq!(rt; aligned, [Some(2), Some(4), Some(8)]);
+    expect_eq!(rt; writer.lengths(), [2, 0, 1, 1, 1, 3].as_slice());
+    expect_eq!(rt; writer.bytes(), [1, 2, 3, 0, 4, 0, 0, 0].as_slice());
 }
 
 #[test]

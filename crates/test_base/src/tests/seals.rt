@@ -26,7 +26,6 @@ fn sets_over(bytes: &mut [u8], pos: usize, value: i64)
 
 // Reads the key and writes the value by `split_at_value`. The contract states all bytes after the
 // write.
-#[tactic(auto, using(rkyv_base::proofs::Sealing::joined, rkyv_base::proofs::Sealing::key_in_front))]
 fn sets_behind_key(archive: &mut [u8], entry_pos: u64, value: u32) -> u32
     requires inside { entry_pos + 8 ≤ length archive.old }
     requires entry { Viewable (entry_spec (scalar_spec (unsigned w32))
@@ -69,23 +68,24 @@ fn numbers_are_written_over_bytes(rt: HostRuntime) {
 // Writes a `bool` over the root of an archive. Returns its position, the value of a view,
 // the old value, and the new value.
 fn root_replaced(bytes: &mut [u8], value: bool) -> Result<(u64, bool, bool, bool), VerifyError> {
-    let whole = access_mut::<bool>(bytes)?;
-    let (root, viewable) = (whole.pos(), whole.as_view().to_native());
-    let mut seal = whole.seal_at::<bool>(root);
-    let before = seal.to_native();
-    seal.set(value);
-    Ok((root, viewable, before, seal.to_native()))
+    match access_mut::<bool>(bytes) {
+        Ok(whole) => {
+            let (root, viewable) = (whole.pos(), whole.as_view().to_native());
+            let mut seal = whole.seal_at::<bool>(root);
+            let before = seal.to_native();
+            seal.set(value);
+            Ok((root, viewable, before, seal.to_native()))
+        }
+        Err(error) => Err(error),
+    }
 }
 
 #[test]
 fn roots_are_written_in_place(rt: HostRuntime) {
     let mut bytes = [1];
-    let replaced = root_replaced(&mut bytes, false).ok();
+    expect_eq!(rt; root_replaced(&mut bytes, false), Ok((0, true, true, false)));
     let written = is_archived_as(rt.alloc(), &true, &[1]);
-    expect_eq!(rt;
-        (replaced, bytes, written),
-        (Some((0, true, true, false)), [0], true)
-    );
+    expect_eq!(rt; (bytes, written), ([0], true));
 }
 
 // Writes a character over the root of a wide archive. Returns the old value and the new value.
@@ -116,35 +116,39 @@ fn value_replaced(bytes: &mut [u8], value: u32) -> Result<(u8, u32), VerifyError
 
 // Returns the value of an entry.
 fn value_of(bytes: &[u8]) -> Result<u32, VerifyError> {
-    Ok(access::<Entry<u8, u32>>(bytes)?.value().to_native())
+    match access::<Entry<u8, u32>>(bytes) {
+        Ok(entry) => Ok(entry.value().to_native()),
+        Err(error) => Err(error),
+    }
 }
 
 #[test]
 fn values_of_entries_are_written_in_place(rt: HostRuntime) {
     let mut bytes = [1, 0, 0, 0, 2, 0, 0, 0];
-    let before = value_replaced(&mut bytes, 16_909_060).ok();
-    let after = value_of(&bytes).ok();
+    expect_eq!(rt; value_replaced(&mut bytes, 16_909_060), Ok((1, 2)));
+    expect_eq!(rt; value_of(&bytes), Ok(16_909_060));
     set_value::<u8, u32>(&mut bytes, 0, 7);
-    expect_eq!(rt;
-        (before, after, bytes),
-        (Some((1, 2)), Some(16_909_060), [1, 0, 0, 0, 7, 0, 0, 0])
-    );
+    expect_eq!(rt; bytes, [1, 0, 0, 0, 7, 0, 0, 0]);
 }
 
 // Writes the value of the entry at position 0 by a seal of the value. Returns the old value.
 fn value_sealed(bytes: &mut [u8], value: u32) -> Result<u32, VerifyError> {
-    let whole = access_mut::<Entry<u8, u32>>(bytes)?;
-    let mut seal = whole.value_seal::<u8, u32>(0);
-    let before = seal.to_native();
-    seal.set(value);
-    Ok(before)
+    match access_mut::<Entry<u8, u32>>(bytes) {
+        Ok(whole) => {
+            let mut seal = whole.value_seal::<u8, u32>(0);
+            let before = seal.to_native();
+            seal.set(value);
+            Ok(before)
+        }
+        Err(error) => Err(error),
+    }
 }
 
 #[test]
 fn the_value_of_an_entry_is_sealed(rt: HostRuntime) {
     let mut bytes = [1, 0, 0, 0, 2, 0, 0, 0];
-    let before = value_sealed(&mut bytes, 16_909_060).ok();
-    expect_eq!(rt; (before, bytes), (Some(2), [1, 0, 0, 0, 4, 3, 2, 1]));
+    let before = value_sealed(&mut bytes, 16_909_060);
+    expect_eq!(rt; (before, bytes), (Ok(2), [1, 0, 0, 0, 4, 3, 2, 1]));
 }
 
 // The wide text is at position 8, behind a key of one byte and its padding.
@@ -210,19 +214,20 @@ fn access_mut_rejects_invalid_roots(rt: HostRuntime) {
 
 // Returns `true` if a seal of the text at the root has this text.
 fn shows_in_place<W: Width>(bytes: &mut [u8], text: &str) -> Result<bool, VerifyError> {
-    let whole = access_mut_in::<W, Text<W>>(bytes)?;
-    let root = whole.pos();
-    let seal = whole.seal_at::<Text<W>>(root);
-    Ok(seal.as_str() == Some(text))
+    match access_mut_in::<W, Text<W>>(bytes) {
+        Ok(whole) => {
+            let root = whole.pos();
+            let seal = whole.seal_at::<Text<W>>(root);
+            Ok(seal.as_str() == Some(text))
+        }
+        Err(error) => Err(error),
+    }
 }
 
 #[test]
 fn inline_text_is_read_in_place(rt: HostRuntime) {
     let mut bytes = *b"hello\xff\xff\xff";
-    expect_eq!(rt;
-        shows_in_place::<Narrow>(&mut bytes, "hello").ok(),
-        Some(true)
-    );
+    expect_eq!(rt; shows_in_place::<Narrow>(&mut bytes, "hello"), Ok(true));
 }
 
 #[test]
@@ -273,31 +278,30 @@ fn text_is_uppercased_at_a_position(rt: HostRuntime) {
 
 // Returns two flags: a seal of the text at the root has no text, and it converts the text.
 fn uppercases_elsewhere<W: Width>(bytes: &mut [u8]) -> Result<(bool, bool), VerifyError> {
-    let whole = access_mut_in::<W, Text<W>>(bytes)?;
-    let root = whole.pos();
-    let mut seal = whole.seal_at::<Text<W>>(root);
-    Ok((seal.as_str().is_none(), seal.make_ascii_uppercase()))
+    match access_mut_in::<W, Text<W>>(bytes) {
+        Ok(whole) => {
+            let root = whole.pos();
+            let mut seal = whole.seal_at::<Text<W>>(root);
+            Ok((seal.as_str().is_none(), seal.make_ascii_uppercase()))
+        }
+        Err(error) => Err(error),
+    }
 }
 
 #[test]
 fn text_out_of_line_stays(rt: HostRuntime) {
     let wonderful = *b"wonderful\0\0\0\x89\0\0\0\xf4\xff\xff\xff";
     let mut bytes = wonderful;
-    let uppercased = uppercases_elsewhere::<Narrow>(&mut bytes).ok();
+    let uppercased = uppercases_elsewhere::<Narrow>(&mut bytes);
     let same = is_archived_as(rt.alloc(), &"wonderful", &bytes);
-    expect_eq!(rt;
-        (uppercased, bytes, same),
-        (Some((true, false)), wonderful, true)
-    );
+    expect_eq!(rt; uppercased, Ok((true, false)));
+    expect_eq!(rt; (bytes, same), (wonderful, true));
 }
 
 #[test]
 fn wide_text_is_read_in_place(rt: HostRuntime) {
     let mut bytes = *b"wonderful\xff\xff\xff\xff\xff\xff\xff";
-    expect_eq!(rt;
-        shows_in_place::<Wide>(&mut bytes, "wonderful").ok(),
-        Some(true)
-    );
+    expect_eq!(rt; shows_in_place::<Wide>(&mut bytes, "wonderful"), Ok(true));
 }
 
 #[test]
@@ -319,8 +323,5 @@ fn wide_text_out_of_line_stays(rt: HostRuntime) {
     // The text, five zeros, its length, and the distance back to its start.
     let mut bytes =
         *b"most wonderful text\0\0\0\0\0\x93\0\0\0\0\0\0\0\xe8\xff\xff\xff\xff\xff\xff\xff";
-    expect_eq!(rt;
-        uppercases_elsewhere::<Wide>(&mut bytes).ok(),
-        Some((true, false))
-    );
+    expect_eq!(rt; uppercases_elsewhere::<Wide>(&mut bytes), Ok((true, false)));
 }

@@ -7,19 +7,6 @@ use rkyv_base::{
 use std::alloc::{AllocError, Global};
 use test_support::written::is_archived_as;
 
-/// Returns the text at the root of an archive.
-#[tactic(auto, using(rkyv_base::specs::Lemmas::Access::root_viewable))]
-fn text_of<W: Width>(bytes: &[u8]) -> Result<&str, VerifyError> {
-    Ok(access_in::<W, Text<W>>(bytes)?.as_str())
-}
-
-/// Returns the two texts at the root of an archive.
-#[tactic(auto, using(rkyv_base::specs::Lemmas::Access::root_viewable))]
-fn texts_of<W: Width>(bytes: &[u8]) -> Result<(&str, &str), VerifyError> {
-    let root = access_in::<W, Entry<Text<W>, Text<W>>>(bytes)?;
-    Ok((root.key().as_str(), root.value().as_str()))
-}
-
 /// Returns `len` letters a.
 fn letters(alloc: Global, len: usize) -> Result<String, AllocError> {
     let mut text = String::new(alloc);
@@ -30,9 +17,10 @@ fn letters(alloc: Global, len: usize) -> Result<String, AllocError> {
 }
 
 // Returns `true` if this text is the root of an archive.
+#[tactic(auto, using(rkyv_base::specs::Lemmas::Access::root_viewable))]
 fn is_root<W: Width>(bytes: &[u8], text: &str) -> bool {
-    match text_of::<W>(bytes) {
-        Ok(found) => found == text,
+    match access_in::<W, Text<W>>(bytes) {
+        Ok(root) => root.as_str() == text,
         Err(_) => false,
     }
 }
@@ -71,8 +59,8 @@ fn long_text_is_before_its_fixed_bytes(rt: HostRuntime) {
 
 // Returns `true` if these two texts are the root of an archive.
 fn are_root(bytes: &[u8], texts: (&str, &str)) -> bool {
-    match texts_of::<Narrow>(bytes) {
-        Ok(found) => found == texts,
+    match access_in::<Narrow, Entry<Text, Text>>(bytes) {
+        Ok(root) => (root.key().as_str(), root.value().as_str()) == texts,
         Err(_) => false,
     }
 }
