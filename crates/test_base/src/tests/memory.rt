@@ -5,10 +5,8 @@ use std::alloc::Global;
 
 // Returns the capacity of the archive of `()`.
 fn capacity_of_unit(alloc: Global) -> Option<usize> {
-    match to_bytes(alloc, &()) {
-        Ok(bytes) => Some(bytes.capacity()),
-        Err(_) => None,
-    }
+    let bytes = to_bytes(alloc, &()).ok()?;
+    Some(bytes.capacity())
 }
 
 #[test]
@@ -28,19 +26,15 @@ fn a_new_writer_has_no_memory(rt: HostRuntime) {
 }
 
 // Returns whether a vector's memory for 64 bytes is the same after 8 bytes were written into it.
-fn is_memory_kept(alloc: Global) -> bool {
-    match Vec::with_capacity(alloc, 64) {
-        Ok(bytes) => {
-            let capacity = bytes.capacity();
-            let mut writer = VecWriter::from(bytes);
-            let written = writer.write(&[0; 8]).is_ok();
-            written && capacity >= 64 && writer.into_vec().capacity() == capacity
-        }
-        Err(_) => false,
-    }
+fn is_memory_kept(alloc: Global) -> Option<bool> {
+    let bytes = Vec::with_capacity(alloc, 64).ok()?;
+    let capacity = bytes.capacity();
+    let mut writer = VecWriter::from(bytes);
+    writer.write(&[0; 8]).ok()?;
+    Some(capacity >= 64 && writer.into_vec().capacity() == capacity)
 }
 
 #[test]
 fn the_writer_of_a_vector_uses_its_memory(rt: HostRuntime) {
-    assert!(rt; is_memory_kept(rt.alloc()));
+    expect_eq!(rt; is_memory_kept(rt.alloc()), Some(true));
 }

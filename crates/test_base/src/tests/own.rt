@@ -115,10 +115,8 @@ impl<S: Writer, W: Width> Serialize<S, W> for Huge {
 
 // Returns the value of an entry of a `bool` and such a scalar.
 fn grams_of(bytes: &[u8]) -> Result<Grams, VerifyError> {
-    match access::<Entry<bool, Grams>>(bytes) {
-        Ok(entry) => Ok(entry.value().to_native()),
-        Err(error) => Err(error),
-    }
+    let entry = access::<Entry<bool, Grams>>(bytes)?;
+    Ok(entry.value().to_native())
 }
 
 #[test]

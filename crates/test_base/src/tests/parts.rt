@@ -60,13 +60,9 @@ fn entries_are_resolved(rt: HostRuntime) {
 
 // Returns the position and the number of a clone of the view of a number at the end.
 fn cloned_number(bytes: &[u8]) -> Option<(u64, u32)> {
-    match access_in::<Narrow, u32>(bytes) {
-        Ok(view) => match view.clone() {
-            Ok(same) => Some((same.pos(), same.to_native())),
-            Err(_) => None,
-        },
-        Err(_) => None,
-    }
+    let view = access_in::<Narrow, u32>(bytes).ok()?;
+    let same = view.clone().ok()?;
+    Some((same.pos(), same.to_native()))
 }
 
 #[test]

@@ -3,9 +3,7 @@ ghost use Rattle.std.specs.Prelude.{IfOk, ◌≡◌};
 
 use crate::tests::access_failures::access_failure;
 use rkyv_base::access::access;
-use rkyv_base::{
-    Entry, Narrow, NoMemory, Serialize, VecWriter, VerifyError, WriteError, laws, to_bytes,
-};
+use rkyv_base::{Entry, Narrow, NoMemory, VerifyError, WriteError, laws, to_bytes};
 use std::alloc::Global;
 use test_support::written::is_archived_as;
 
@@ -22,49 +20,6 @@ fn pairs_are_padded(rt: HostRuntime) {
     expect_eq!(rt; padded, [true; 3]);
 }
 
-// Two, four and eight numbers.
-type Two<N> = (N, N);
-
-type Four<N> = (Two<N>, Two<N>);
-
-type Eight<N> = (Four<N>, Four<N>);
-
-// Returns whether the narrow archive of a pair has these bytes.
-fn is_pair<A, B>(alloc: Global, pair: &(A, B), bytes: &[u8]) -> bool
-where
-    A: Serialize<VecWriter, Narrow>,
-    B: Serialize<VecWriter, Narrow>,
-{
-    is_archived_as::<(A, B)>(alloc, pair, bytes)
-}
-
-// The same of two numbers and another value.
-fn is_two_and_more<A, B>(alloc: Global, values: &(Two<A>, B), bytes: &[u8]) -> bool
-where
-    A: Serialize<VecWriter, Narrow>,
-    B: Serialize<VecWriter, Narrow>,
-{
-    is_pair::<Two<A>, B>(alloc, values, bytes)
-}
-
-// The same of four numbers and another value.
-fn is_four_and_more<A, B>(alloc: Global, values: &(Four<A>, B), bytes: &[u8]) -> bool
-where
-    A: Serialize<VecWriter, Narrow>,
-    B: Serialize<VecWriter, Narrow>,
-{
-    is_two_and_more::<Two<A>, B>(alloc, values, bytes)
-}
-
-// The same of eight numbers and another value.
-fn is_eight_and_more<A, B>(alloc: Global, values: &(Eight<A>, B), bytes: &[u8]) -> bool
-where
-    A: Serialize<VecWriter, Narrow>,
-    B: Serialize<VecWriter, Narrow>,
-{
-    is_four_and_more::<Two<A>, B>(alloc, values, bytes)
-}
-
 // The buffer for up to 64 fixed bytes needs no memory; that for more is allocated.
 #[test]
 fn roots_of_64_and_of_72_bytes(rt: HostRuntime) {
@@ -79,8 +34,8 @@ fn roots_of_64_and_of_72_bytes(rt: HostRuntime) {
     both[..64].copy_from_slice(&first);
     both[64] = 9;
     let written = [
-        is_four_and_more::<u64, Four<u64>>(alloc, &eight, &first),
-        is_eight_and_more::<u64, u64>(alloc, &(eight, 9u64), &both),
+        is_archived_as(alloc, &eight, &first),
+        is_archived_as(alloc, &(eight, 9u64), &both),
     ];
     expect_eq!(rt; written, [true; 2]);
 }

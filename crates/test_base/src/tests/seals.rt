@@ -68,16 +68,12 @@ fn numbers_are_written_over_bytes(rt: HostRuntime) {
 // Writes a `bool` over the root of an archive. Returns its position, the value of a view,
 // the old value, and the new value.
 fn root_replaced(bytes: &mut [u8], value: bool) -> Result<(u64, bool, bool, bool), VerifyError> {
-    match access_mut::<bool>(bytes) {
-        Ok(whole) => {
-            let (root, viewable) = (whole.pos(), whole.as_view().to_native());
-            let mut seal = whole.seal_at::<bool>(root);
-            let before = seal.to_native();
-            seal.set(value);
-            Ok((root, viewable, before, seal.to_native()))
-        }
-        Err(error) => Err(error),
-    }
+    let whole = access_mut::<bool>(bytes)?;
+    let (root, viewable) = (whole.pos(), whole.as_view().to_native());
+    let mut seal = whole.seal_at::<bool>(root);
+    let before = seal.to_native();
+    seal.set(value);
+    Ok((root, viewable, before, seal.to_native()))
 }
 
 #[test]
@@ -116,10 +112,8 @@ fn value_replaced(bytes: &mut [u8], value: u32) -> Result<(u8, u32), VerifyError
 
 // Returns the value of an entry.
 fn value_of(bytes: &[u8]) -> Result<u32, VerifyError> {
-    match access::<Entry<u8, u32>>(bytes) {
-        Ok(entry) => Ok(entry.value().to_native()),
-        Err(error) => Err(error),
-    }
+    let entry = access::<Entry<u8, u32>>(bytes)?;
+    Ok(entry.value().to_native())
 }
 
 #[test]
@@ -133,15 +127,11 @@ fn values_of_entries_are_written_in_place(rt: HostRuntime) {
 
 // Writes the value of the entry at position 0 by a seal of the value. Returns the old value.
 fn value_sealed(bytes: &mut [u8], value: u32) -> Result<u32, VerifyError> {
-    match access_mut::<Entry<u8, u32>>(bytes) {
-        Ok(whole) => {
-            let mut seal = whole.value_seal::<u8, u32>(0);
-            let before = seal.to_native();
-            seal.set(value);
-            Ok(before)
-        }
-        Err(error) => Err(error),
-    }
+    let whole = access_mut::<Entry<u8, u32>>(bytes)?;
+    let mut seal = whole.value_seal::<u8, u32>(0);
+    let before = seal.to_native();
+    seal.set(value);
+    Ok(before)
 }
 
 #[test]
@@ -214,14 +204,10 @@ fn access_mut_rejects_invalid_roots(rt: HostRuntime) {
 
 // Returns `true` if a seal of the text at the root has this text.
 fn shows_in_place<W: Width>(bytes: &mut [u8], text: &str) -> Result<bool, VerifyError> {
-    match access_mut_in::<W, Text<W>>(bytes) {
-        Ok(whole) => {
-            let root = whole.pos();
-            let seal = whole.seal_at::<Text<W>>(root);
-            Ok(seal.as_str() == Some(text))
-        }
-        Err(error) => Err(error),
-    }
+    let whole = access_mut_in::<W, Text<W>>(bytes)?;
+    let root = whole.pos();
+    let seal = whole.seal_at::<Text<W>>(root);
+    Ok(seal.as_str() == Some(text))
 }
 
 #[test]
@@ -278,14 +264,10 @@ fn text_is_uppercased_at_a_position(rt: HostRuntime) {
 
 // Returns two flags: a seal of the text at the root has no text, and it converts the text.
 fn uppercases_elsewhere<W: Width>(bytes: &mut [u8]) -> Result<(bool, bool), VerifyError> {
-    match access_mut_in::<W, Text<W>>(bytes) {
-        Ok(whole) => {
-            let root = whole.pos();
-            let mut seal = whole.seal_at::<Text<W>>(root);
-            Ok((seal.as_str().is_none(), seal.make_ascii_uppercase()))
-        }
-        Err(error) => Err(error),
-    }
+    let whole = access_mut_in::<W, Text<W>>(bytes)?;
+    let root = whole.pos();
+    let mut seal = whole.seal_at::<Text<W>>(root);
+    Ok((seal.as_str().is_none(), seal.make_ascii_uppercase()))
 }
 
 #[test]

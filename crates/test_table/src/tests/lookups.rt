@@ -45,22 +45,18 @@ pub(crate) fn counted(
     hash: u64,
     accepted: Accepted<'_>,
 ) -> Result<(Option<u8>, u64), VerifyError> {
-    match access::<TableOf<u8>>(bytes) {
-        Ok(view) => {
-            let mut strides = Strides::new();
-            let found = ArchivedHashTable::of(view).get_counted(
-                hash,
-                |item| is_accepted(item.to_native(), accepted),
-                &mut strides,
-            );
-            let number = match found {
-                Some(item) => Some(item.to_native()),
-                None => None,
-            };
-            Ok((number, strides.count()))
-        }
-        Err(error) => Err(error),
-    }
+    let view = access::<TableOf<u8>>(bytes)?;
+    let mut strides = Strides::new();
+    let found = ArchivedHashTable::of(view).get_counted(
+        hash,
+        |item| is_accepted(item.to_native(), accepted),
+        &mut strides,
+    );
+    let number = match found {
+        Some(item) => Some(item.to_native()),
+        None => None,
+    };
+    Ok((number, strides.count()))
 }
 
 /// Returns the number that is found under a hash.
@@ -69,15 +65,11 @@ pub(crate) fn viewed(
     hash: u64,
     accepted: Accepted<'_>,
 ) -> Result<Option<u8>, VerifyError> {
-    match access::<TableOf<u8>>(bytes) {
-        Ok(view) => {
-            let table = ArchivedHashTable::of(view);
-            match table.get_with(hash, |item| is_accepted(item.to_native(), accepted)) {
-                Some(item) => Ok(Some(item.to_native())),
-                None => Ok(None),
-            }
-        }
-        Err(error) => Err(error),
+    let view = access::<TableOf<u8>>(bytes)?;
+    let table = ArchivedHashTable::of(view);
+    match table.get_with(hash, |item| is_accepted(item.to_native(), accepted)) {
+        Some(item) => Ok(Some(item.to_native())),
+        None => Ok(None),
     }
 }
 
@@ -87,13 +79,9 @@ pub(crate) fn placed(
     hash: u64,
     accepted: Accepted<'_>,
 ) -> Result<Option<u64>, VerifyError> {
-    match access::<TableOf<u8>>(bytes) {
-        Ok(view) => {
-            let table = ArchivedHashTable::of(view);
-            Ok(table.get_pos_with(hash, |item| is_accepted(item.to_native(), accepted)))
-        }
-        Err(error) => Err(error),
-    }
+    let view = access::<TableOf<u8>>(bytes)?;
+    let table = ArchivedHashTable::of(view);
+    Ok(table.get_pos_with(hash, |item| is_accepted(item.to_native(), accepted)))
 }
 
 // Returns the number that is found under a hash, by groups of the kind `G`.
@@ -102,15 +90,11 @@ fn found_by<G: GroupKind>(
     hash: u64,
     accepted: Accepted<'_>,
 ) -> Result<Option<u8>, VerifyError> {
-    match access::<TableOf<u8>>(bytes) {
-        Ok(view) => {
-            let table = ArchivedHashTable::of(view);
-            match table.get_by::<G, _>(hash, |item| is_accepted(item.to_native(), accepted)) {
-                Some(item) => Ok(Some(item.to_native())),
-                None => Ok(None),
-            }
-        }
-        Err(error) => Err(error),
+    let view = access::<TableOf<u8>>(bytes)?;
+    let table = ArchivedHashTable::of(view);
+    match table.get_by::<G, _>(hash, |item| is_accepted(item.to_native(), accepted)) {
+        Some(item) => Ok(Some(item.to_native())),
+        None => Ok(None),
     }
 }
 
@@ -126,13 +110,9 @@ fn found(bytes: &[u8], hash: u64, accepted: Accepted<'_>) -> [Result<Option<u8>,
 
 // Returns `true` if a copy of a table is empty.
 fn is_empty_copied<T: Element>(bytes: &[u8]) -> Option<bool> {
-    match access::<TableOf<T>>(bytes) {
-        Ok(view) => match ArchivedHashTable::of(view).clone() {
-            Ok(same) => Some(same.is_empty()),
-            Err(_) => None,
-        },
-        Err(_) => None,
-    }
+    let table = ArchivedHashTable::of(access::<TableOf<T>>(bytes).ok()?);
+    let same = table.clone().ok()?;
+    Some(same.is_empty())
 }
 
 #[test]
@@ -201,13 +181,9 @@ fn a_decoded_header_leads_to_the_same_item(rt: HostRuntime) {
 // Returns the length, the capacity and the position of the first control byte, from the decoded
 // header of a table.
 fn decoded(bytes: &[u8]) -> Result<(usize, usize, usize), VerifyError> {
-    match access::<TableOf<Entry<i8, i8>>>(bytes) {
-        Ok(view) => {
-            let header = ArchivedHashTable::of(view).header();
-            Ok((header.len(), header.capacity(), header.controls_pos()))
-        }
-        Err(error) => Err(error),
-    }
+    let view = access::<TableOf<Entry<i8, i8>>>(bytes)?;
+    let header = ArchivedHashTable::of(view).header();
+    Ok((header.len(), header.capacity(), header.controls_pos()))
 }
 
 #[test]

@@ -19,13 +19,11 @@ fn misplaced_small(bytes: &[u8]) -> Result<usize, VerifyError> {
 }
 
 fn misplaced(bytes: &[u8]) -> Result<usize, VerifyError> {
-    match access::<TableOf<Entry<u32, u32>>>(bytes) {
-        Ok(view) => Ok(ArchivedHashTable::of(view).misplaced_by(
-            |pair| hash_of_u32(pair.key().to_native()),
-            |own, other| own.key().to_native() == other.key().to_native(),
-        )),
-        Err(error) => Err(error),
-    }
+    let table = ArchivedHashTable::of(access::<TableOf<Entry<u32, u32>>>(bytes)?);
+    Ok(table.misplaced_by(
+        |pair| hash_of_u32(pair.key().to_native()),
+        |own, other| own.key().to_native() == other.key().to_native(),
+    ))
 }
 
 #[test]
@@ -61,10 +59,8 @@ fn a_repeated_key_is_misplaced(rt: HostRuntime) {
 
 // Returns the number of misplaced units of a table. All units are the same.
 fn misplaced_units(bytes: &[u8]) -> Result<usize, VerifyError> {
-    match access::<TableOf<()>>(bytes) {
-        Ok(view) => Ok(ArchivedHashTable::of(view).misplaced_by(|_| 0, |_, _| true)),
-        Err(error) => Err(error),
-    }
+    let view = access::<TableOf<()>>(bytes)?;
+    Ok(ArchivedHashTable::of(view).misplaced_by(|_| 0, |_, _| true))
 }
 
 #[test]
@@ -83,13 +79,11 @@ fn a_changed_key_is_misplaced(rt: HostRuntime) {
 // Returns the number of misplaced numbers under the hash 2. An item is the same as each other one
 // that it doesn't compare to as `order`.
 fn misplaced_by_order(bytes: &[u8], order: Ordering) -> Result<usize, VerifyError> {
-    match access::<TableOf<u8>>(bytes) {
-        Ok(view) => Ok(ArchivedHashTable::of(view).misplaced_by(
-            |_| 2,
-            |own, other| own.to_native().cmp(&other.to_native()) != order,
-        )),
-        Err(error) => Err(error),
-    }
+    let table = ArchivedHashTable::of(access::<TableOf<u8>>(bytes)?);
+    Ok(table.misplaced_by(
+        |_| 2,
+        |own, other| own.to_native().cmp(&other.to_native()) != order,
+    ))
 }
 
 #[test]

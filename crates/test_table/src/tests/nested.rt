@@ -32,15 +32,11 @@ fn texts_are_written_by_ascending_bucket(rt: HostRuntime) {
 
 // Returns `true` if a text is found under a hash.
 fn has_text(bytes: &[u8], hash: u64, expected: &str) -> Result<bool, VerifyError> {
-    match access::<TableOf<Text>>(bytes) {
-        Ok(view) => {
-            let table = ArchivedHashTable::of(view);
-            match table.get_with(hash, |text| text.as_str() == expected) {
-                Some(text) => Ok(text.as_str() == expected),
-                None => Ok(false),
-            }
-        }
-        Err(error) => Err(error),
+    let view = access::<TableOf<Text>>(bytes)?;
+    let table = ArchivedHashTable::of(view);
+    match table.get_with(hash, |text| text.as_str() == expected) {
+        Some(text) => Ok(text.as_str() == expected),
+        None => Ok(false),
     }
 }
 
@@ -97,15 +93,11 @@ fn value_len<K: Element, T: Element, W: Width>(entry: View<'_, Entry<K, TableOf<
 
 // Returns the number of pairs of the table that is found under a key.
 fn inner_len(bytes: &[u8], hash: u64, key: i8) -> Result<Option<usize>, VerifyError> {
-    match access::<Outer>(bytes) {
-        Ok(view) => {
-            let outer = ArchivedHashTable::of(view);
-            match outer.get_with(hash, |entry| entry.key().to_native() == key) {
-                Some(entry) => Ok(Some(value_len(entry))),
-                None => Ok(None),
-            }
-        }
-        Err(error) => Err(error),
+    let view = access::<Outer>(bytes)?;
+    let outer = ArchivedHashTable::of(view);
+    match outer.get_with(hash, |entry| entry.key().to_native() == key) {
+        Some(entry) => Ok(Some(value_len(entry))),
+        None => Ok(None),
     }
 }
 

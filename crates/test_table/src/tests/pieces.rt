@@ -6,20 +6,6 @@ use rkyv_table::ArchivedHashTable;
 use std::alloc::Global;
 use test_support::writers::PieceWriter;
 
-// Appends the bytes, if there are any. Returns `true` if this succeeds.
-fn begins_with(writer: &mut PieceWriter, bytes: &[u8]) -> bool {
-    bytes.is_empty() || append(writer, bytes).is_ok()
-}
-
-// Returns `true` if the pieces of a writer have these lengths, and it has no other byte.
-fn has_pieces(writer: &PieceWriter, lengths: &[usize]) -> bool {
-    let mut sum = 0usize;
-    for length in lengths {
-        sum = sum.wrapping_add(*length);
-    }
-    writer.lengths() == lengths && writer.bytes().len() == sum
-}
-
 // Returns `true` if the table of these items, behind some bytes, is written in pieces of these
 // lengths, and has no other byte.
 fn is_written_in<W: Width, U: Serialize<PieceWriter, W>>(
@@ -31,9 +17,7 @@ fn is_written_in<W: Width, U: Serialize<PieceWriter, W>>(
     lengths: &[usize],
 ) -> bool {
     let mut writer = PieceWriter::new(alloc);
-    if !begins_with(&mut writer, behind) {
-        return false;
-    }
+    let begun = behind.is_empty() || append(&mut writer, behind).is_ok();
     let written = ArchivedHashTable::<U::Archived, W>::serialize_from_iter::<
         PieceWriter,
         U,
@@ -49,7 +33,11 @@ fn is_written_in<W: Width, U: Serialize<PieceWriter, W>>(
         &mut writer,
     )
     .is_ok();
-    written && has_pieces(&writer, lengths)
+    let mut sum = 0usize;
+    for length in lengths {
+        sum = sum.wrapping_add(*length);
+    }
+    begun && written && writer.lengths() == lengths && writer.bytes().len() == sum
 }
 
 // The same of a narrow table that begins at position 0, under the load factor 7 / 8.
@@ -62,54 +50,13 @@ fn is_narrow_in<U: Serialize<PieceWriter, Narrow>>(
     is_written_in::<Narrow, U>(alloc, items, hashes, (7, 8), &[], lengths)
 }
 
-// Two, four and eight numbers.
-type Two<N> = (N, N);
-
-type Four<N> = (Two<N>, Two<N>);
-
-type Eight<N> = (Four<N>, Four<N>);
-
-// Returns `true` if a narrow table of one pair under the hash 0 is written in pieces of these
-// lengths.
-fn is_pair_in<A, B>(alloc: Global, pair: &[(A, B); 1], lengths: &[usize]) -> bool
-where
-    A: Serialize<PieceWriter, Narrow>,
-    B: Serialize<PieceWriter, Narrow>,
-{
-    is_narrow_in::<(A, B)>(alloc, pair, &[0], lengths)
-}
-
-// The same of two numbers and one.
-fn is_three_in<A, B>(alloc: Global, numbers: &[(Two<A>, B); 1], lengths: &[usize]) -> bool
-where
-    A: Serialize<PieceWriter, Narrow>,
-    B: Serialize<PieceWriter, Narrow>,
-{
-    is_pair_in::<Two<A>, B>(alloc, numbers, lengths)
-}
-
-// The same of four numbers and one.
-fn is_five_in<A, B>(alloc: Global, numbers: &[(Four<A>, B); 1], lengths: &[usize]) -> bool
-where
-    A: Serialize<PieceWriter, Narrow>,
-    B: Serialize<PieceWriter, Narrow>,
-{
-    is_three_in::<Two<A>, B>(alloc, numbers, lengths)
-}
-
-// The same of eight numbers and one.
-fn is_nine_in<A, B>(alloc: Global, numbers: &[(Eight<A>, B); 1], lengths: &[usize]) -> bool
-where
-    A: Serialize<PieceWriter, Narrow>,
-    B: Serialize<PieceWriter, Narrow>,
-{
-    is_five_in::<Two<A>, B>(alloc, numbers, lengths)
-}
-
 #[test]
 fn each_bucket_is_one_piece(rt: HostRuntime) {
     let alloc = rt.alloc();
-    let large: [(Eight<u64>, u64); 1] = [((((1, 2), (3, 4)), ((5, 6), (7, 8))), 9)];
+    let large = (
+        (1u64, 2u64),
+        ((3u64, 4u64), (5u64, (6u64, (7u64, (8u64, 9u64))))),
+    );
     let mut sixteen = [1usize; 19];
     sixteen[0] = 0;
     sixteen[18] = 47;
@@ -119,7 +66,7 @@ fn each_bucket_is_one_piece(rt: HostRuntime) {
         is_written_in::<Narrow, u8>(alloc, &SIXTEEN, &[16; 16], (1, 1), &[], &sixteen),
         is_written_in::<Wide, u16>(alloc, &[7], &[0], (7, 8), &[], &[0, 2, 2, 31]),
         // a bucket of more than 64 bytes
-        is_nine_in::<u64, u64>(alloc, &large, &[0, 72, 72, 31]),
+        is_narrow_in(alloc, &[large], &[0], &[0, 72, 72, 31]),
     ];
     expect_eq!(rt; written, [true; 5]);
 }

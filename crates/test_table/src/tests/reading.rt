@@ -6,13 +6,9 @@ use rkyv_table::{ArchivedHashTable, Strides, TableOf};
 
 /// Returns the number of items of a table, and the number of its buckets.
 pub(crate) fn counts<T: Element, W: Width>(bytes: &[u8]) -> Result<(usize, usize), VerifyError> {
-    match access_in::<W, TableOf<T, W>>(bytes) {
-        Ok(view) => {
-            let table = ArchivedHashTable::of(view);
-            Ok((table.len(), table.capacity()))
-        }
-        Err(error) => Err(error),
-    }
+    let view = access_in::<W, TableOf<T, W>>(bytes)?;
+    let table = ArchivedHashTable::of(view);
+    Ok((table.len(), table.capacity()))
 }
 
 /// Returns the error of an invalid table, or `None` if the table is valid.
@@ -62,10 +58,8 @@ pub(crate) fn first_pos<T: Element, W: Width>(
     bytes: &[u8],
     hash: u64,
 ) -> Result<Option<u64>, VerifyError> {
-    match access_in::<W, TableOf<T, W>>(bytes) {
-        Ok(view) => Ok(ArchivedHashTable::of(view).get_pos_with(hash, |_| true)),
-        Err(error) => Err(error),
-    }
+    let view = access_in::<W, TableOf<T, W>>(bytes)?;
+    Ok(ArchivedHashTable::of(view).get_pos_with(hash, |_| true))
 }
 
 /// Returns whether a table is empty, its length, its capacity, and whether a lookup finds nothing.
@@ -75,28 +69,20 @@ pub(crate) fn counts_and_lookup<T: Element>(
     bytes: &[u8],
     hash: u64,
 ) -> Result<(bool, usize, usize, bool), VerifyError> {
-    match access::<TableOf<T>>(bytes) {
-        Ok(view) => {
-            let table = ArchivedHashTable::of(view);
-            let none = table.get_with(hash, |_| true).is_none();
-            Ok((table.is_empty(), table.len(), table.capacity(), none))
-        }
-        Err(error) => Err(error),
-    }
+    let view = access::<TableOf<T>>(bytes)?;
+    let table = ArchivedHashTable::of(view);
+    let none = table.get_with(hash, |_| true).is_none();
+    Ok((table.is_empty(), table.len(), table.capacity(), none))
 }
 
 /// Returns the number of items of a walk.
 pub(crate) fn count_walked<T: Element, W: Width>(bytes: &[u8]) -> Result<usize, VerifyError> {
-    match access_in::<W, TableOf<T, W>>(bytes) {
-        Ok(view) => {
-            let mut count = 0usize;
-            for _ in ArchivedHashTable::of(view).raw_iter() {
-                count = count.wrapping_add(1);
-            }
-            Ok(count)
-        }
-        Err(error) => Err(error),
+    let view = access_in::<W, TableOf<T, W>>(bytes)?;
+    let mut count = 0usize;
+    for _ in ArchivedHashTable::of(view).raw_iter() {
+        count = count.wrapping_add(1);
     }
+    Ok(count)
 }
 
 // Returns what follows an item in `items`, or `None` if `items` doesn't begin with it. The item

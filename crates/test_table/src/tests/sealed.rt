@@ -89,10 +89,8 @@ fn writes_all(mut rest: RawIterSeal<'_, u8>, numbers: &[u8], by: By) -> bool {
 
 // Returns the same of the cursor over the table at the end of an archive.
 fn write_each(bytes: &mut [u8], numbers: &[u8], by: By) -> Result<bool, VerifyError> {
-    match access_mut::<TableOf<u8>>(bytes) {
-        Ok(whole) => Ok(writes_all(ArchivedHashTable::raw_iter_seal(whole), numbers, by)),
-        Err(error) => Err(error),
-    }
+    let whole = access_mut::<TableOf<u8>>(bytes)?;
+    Ok(writes_all(ArchivedHashTable::raw_iter_seal(whole), numbers, by))
 }
 
 #[test]

@@ -33,10 +33,8 @@ fn yields(mut rest: RawIter<'_, u8>, bytes: &[u8], items: &[u8]) -> bool {
 
 // Returns the same of the walk over the table at the end of an archive.
 fn walks(bytes: &[u8], items: &[u8]) -> Result<bool, VerifyError> {
-    match access::<TableOf<u8>>(bytes) {
-        Ok(view) => Ok(yields(ArchivedHashTable::of(view).raw_iter(), bytes, items)),
-        Err(error) => Err(error),
-    }
+    let view = access::<TableOf<u8>>(bytes)?;
+    Ok(yields(ArchivedHashTable::of(view).raw_iter(), bytes, items))
 }
 
 #[test]
