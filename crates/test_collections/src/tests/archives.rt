@@ -4,6 +4,7 @@ use rkyv_base::{Narrow, NoMemory, Serialize, VecWriter, WriteError, to_bytes};
 use rkyv_collections::MapPairs;
 use rkyv_keys::{KeyElement, NativeKey};
 use std::alloc::Global;
+use std::process::Abort;
 use test_support::archives::four_pairs;
 
 /// Returns the narrow archive of a list of pairs, as a map.
@@ -19,6 +20,14 @@ where
     to_bytes(alloc, &list)
 }
 
+/// Does the same with a list of pairs of texts.
+pub(crate) fn text_archive(
+    alloc: Global,
+    pairs: &[(&str, &str)],
+) -> Result<Vec<u8>, WriteError<NoMemory>> {
+    map_archive(alloc, pairs)
+}
+
 /// Returns whether the narrow archive of a list of pairs, as a map, has these bytes.
 pub fn is_map_archive<A: Serialize<VecWriter, Narrow>, B: Serialize<VecWriter, Narrow>>(
     alloc: Global,
@@ -32,9 +41,9 @@ where
     matches!(map_archive(alloc, pairs), Ok(archive) if archive.as_slice() == bytes)
 }
 
-/// Returns the archive of the four pairs with other buckets.
-pub(crate) fn four_with(buckets: [u8; 10]) -> [u8; 56] {
-    let mut bytes = four_pairs();
-    bytes[..10].copy_from_slice(&buckets);
-    bytes
+/// Compares an archive with that of the four pairs with other buckets.
+pub(crate) fn expect_four_with(rt: &impl Abort, bytes: &[u8; 56], buckets: [u8; 10]) {
+    let mut expected = four_pairs();
+    expected[..10].copy_from_slice(&buckets);
+    expect_eq!(*rt; *bytes, expected);
 }

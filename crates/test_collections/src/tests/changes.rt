@@ -22,7 +22,10 @@ fn count_walked(bytes: &[u8]) -> Result<usize, VerifyError> {
 // Returns the value of a key.
 fn value_of(bytes: &[u8], key: u32) -> Result<Option<u32>, VerifyError> {
     let map = ArchivedHashMap::of(access::<Numbers>(bytes)?);
-    Ok(map.get(&key).map(|value| value.to_native()))
+    match map.get(&key) {
+        Some(value) => Ok(Some(value.to_native())),
+        None => Ok(None),
+    }
 }
 
 // Returns the same by a lookup in the map's table, and the number of strides that it reads.

@@ -1,6 +1,6 @@
 //! Tests of values of maps that a closure or a cursor writes over the plain bytes.
 
-use crate::tests::archives::four_with;
+use crate::tests::archives::expect_four_with;
 use crate::tests::opened::{small_pos, small_seal};
 use rkyv_base::{Element, Narrow, Scalar, VerifyError, View, Width, access_in};
 use rkyv_collections::{ArchivedHashMap, HashMapOf};
@@ -22,16 +22,15 @@ fn change_found(bytes: &mut [u8], key: i8, byte: u8) -> Result<Option<u64>, Veri
 #[test]
 fn a_found_value_is_written_over_the_bare_bytes(rt: HostRuntime) {
     let mut bytes = four_pairs();
-    let key_pos = change_found(&mut bytes, 7, 70).ok();
-    let same = bytes == four_with([3, 4, 1, 2, 0, 0, 7, 70, 5, 6]);
-    expect_eq!(rt; (key_pos, same), (Some(Some(7)), true));
+    expect_eq!(rt; change_found(&mut bytes, 7, 70), Ok(Some(7)));
+    expect_four_with(&rt, &bytes, [3, 4, 1, 2, 0, 0, 7, 70, 5, 6]);
 }
 
 #[test]
 fn lookup_of_a_missing_key_changes_nothing(rt: HostRuntime) {
     let mut bytes = four_pairs();
-    let key_pos = change_found(&mut bytes, 9, 70).ok();
-    expect_eq!(rt; (key_pos, bytes == four_pairs()), (Some(None), true));
+    expect_eq!(rt; change_found(&mut bytes, 9, 70), Ok(None));
+    expect_eq!(rt; bytes, four_pairs());
 }
 
 // Writes a byte over the value of a key, if the comparison accepts it. Returns the position of
@@ -55,16 +54,15 @@ fn change_accepted(
 #[test]
 fn an_accepted_value_is_written_over_the_bare_bytes(rt: HostRuntime) {
     let mut bytes = four_pairs();
-    let pos = change_accepted(&mut bytes, 7, true, 70).ok();
-    let same = bytes == four_with([3, 4, 1, 2, 0, 0, 7, 70, 5, 6]);
-    expect_eq!(rt; (pos, same), (Some(Some(7)), true));
+    expect_eq!(rt; change_accepted(&mut bytes, 7, true, 70), Ok(Some(7)));
+    expect_four_with(&rt, &bytes, [3, 4, 1, 2, 0, 0, 7, 70, 5, 6]);
 }
 
 #[test]
 fn a_value_that_is_not_accepted_is_unchanged(rt: HostRuntime) {
     let mut bytes = four_pairs();
-    let pos = change_accepted(&mut bytes, 7, false, 70).ok();
-    expect_eq!(rt; (pos, bytes == four_pairs()), (Some(None), true));
+    expect_eq!(rt; change_accepted(&mut bytes, 7, false, 70), Ok(None));
+    expect_eq!(rt; bytes, four_pairs());
 }
 
 // Writes a byte behind the key of each pair while the cursor steps. Returns the results of five
@@ -84,12 +82,9 @@ fn change_stepping(bytes: &mut [u8], byte: u8) -> Result<([Option<u64>; 5], usiz
 #[test]
 fn pairs_are_written_while_the_cursor_steps(rt: HostRuntime) {
     let mut bytes = four_pairs();
-    let stepped = change_stepping(&mut bytes, 20).ok();
-    let same = bytes == four_with([3, 20, 1, 20, 0, 0, 7, 20, 5, 20]);
-    expect_eq!(rt;
-        (stepped, same),
-        (Some(([Some(8), Some(6), Some(2), Some(0), None], 0)), true)
-    );
+    let stepped = change_stepping(&mut bytes, 20);
+    expect_eq!(rt; stepped, Ok(([Some(8), Some(6), Some(2), Some(0), None], 0)));
+    expect_four_with(&rt, &bytes, [3, 20, 1, 20, 0, 0, 7, 20, 5, 20]);
 }
 
 // Writes a number over the values of the first two pairs of the map in the plain bytes.
@@ -113,9 +108,8 @@ fn write_behind_keys(
 #[test]
 fn pairs_are_written_over_the_bare_bytes(rt: HostRuntime) {
     let mut bytes = four_pairs();
-    let written = write_behind_keys(&mut bytes, 20).ok();
-    let same = bytes == four_with([3, 4, 1, 2, 0, 0, 7, 20, 5, 20]);
-    expect_eq!(rt; (written, same), (Some(([Some(8), Some(6)], 2)), true));
+    expect_eq!(rt; write_behind_keys(&mut bytes, 20), Ok(([Some(8), Some(6)], 2)));
+    expect_four_with(&rt, &bytes, [3, 4, 1, 2, 0, 0, 7, 20, 5, 20]);
 }
 
 // Writes these numbers over the values of the map in the plain bytes, one after the other.
@@ -137,7 +131,7 @@ fn write_over<K: Element, N: Scalar, H, W: Width>(
 #[test]
 fn values_are_written_over_the_bare_bytes(rt: HostRuntime) {
     let mut bytes = four_pairs();
-    let left = write_over::<i8, i8, FxHasher64, Narrow>(&mut bytes, &[10, 11, 12]).ok();
-    let same = bytes == four_with([3, 4, 1, 12, 0, 0, 7, 11, 5, 10]);
-    expect_eq!(rt; (left, same), (Some(1), true));
+    let left = write_over::<i8, i8, FxHasher64, Narrow>(&mut bytes, &[10, 11, 12]);
+    expect_eq!(rt; left, Ok(1));
+    expect_four_with(&rt, &bytes, [3, 4, 1, 12, 0, 0, 7, 11, 5, 10]);
 }

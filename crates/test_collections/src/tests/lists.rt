@@ -63,13 +63,12 @@ fn archives_without_annotations(alloc: Global) -> Result<[Vec<u8>; 2], WriteErro
 
 #[test]
 fn lists_need_no_annotation(rt: HostRuntime) {
-    let archives = archives_without_annotations(rt.alloc()).ok();
-    let equal = match &archives {
-        Some([map, set]) => [
+    let equal = match archives_without_annotations(rt.alloc()) {
+        Ok([map, set]) => [
             map.as_slice() == &one_pair()[..],
             set.as_slice() == &three_keys()[..],
         ],
-        None => [false; 2],
+        Err(_) => [false; 2],
     };
     expect_eq!(rt; equal, [true; 2]);
 }

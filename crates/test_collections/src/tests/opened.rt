@@ -64,9 +64,8 @@ pub(crate) fn text_seal(bytes: &mut [u8]) -> Result<ArchiveSeal<'_, Texts>, Veri
 
 /// Returns whether the value of a key is `text`.
 pub(crate) fn is_text(bytes: &[u8], key: &str, text: &str) -> Result<Option<bool>, VerifyError> {
-    Ok(
-        text_map(bytes)?
-            .get(&key)
-            .map(|value| value.as_str() == text),
-    )
+    match text_map(bytes)?.get(&key) {
+        Some(value) => Ok(Some(value.as_str() == text)),
+        None => Ok(None),
+    }
 }

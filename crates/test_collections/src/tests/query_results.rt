@@ -5,6 +5,7 @@ use rkyv_collections::{ArchivedHashMap, ArchivedHashSet, HashMapOf, HashSetOf};
 use rkyv_keys::{ElementDebug, ElementEq, KeyElement, Query};
 use rkyv_scan::{FxHasher64, KeyHasher};
 use std::alloc::Global;
+use std::process::Abort;
 
 /// Returns whether a map is empty, its length and its capacity.
 pub(crate) fn counts<K: Element, V: Element, H, W: Width>(
@@ -24,12 +25,23 @@ pub(crate) fn number_of<K: KeyElement, N: Scalar, H: KeyHasher, W: Width, Q: Que
 {
     let root = access_in::<W, HashMapOf<K, N, H, W>>(bytes)?;
     let map = ArchivedHashMap::<K, N, H, W>::of(root);
-    Ok(map.get(key).map(|value| value.to_native()))
+    match map.get(key) {
+        Some(value) => Ok(Some(value.to_native())),
+        None => Ok(None),
+    }
 }
 
-/// Does the same in a map of `i8` to `i8`.
-pub(crate) fn small(bytes: &[u8], key: i8) -> Option<Option<i8>> {
-    number_of::<i8, i8, FxHasher64, Narrow, i8>(bytes, &key).ok()
+/// Looks each key up in a map of `i8` to `i8`, and compares its value.
+pub(crate) fn expect_values(rt: &impl Abort, bytes: &[u8], expected: &[(i8, Option<i8>)]) {
+    for (key, value) in expected {
+        let found = number_of::<i8, i8, FxHasher64, Narrow, i8>(bytes, key);
+        expect_eq!(*rt; found, Ok(*value));
+    }
+}
+
+/// Compares whether a map of `i8` to `i8` is empty, its length and its capacity.
+pub(crate) fn expect_counts(rt: &impl Abort, bytes: &[u8], expected: (bool, usize, usize)) {
+    expect_eq!(*rt; counts::<i8, i8, FxHasher64, Narrow>(bytes), Ok(expected));
 }
 
 /// Returns whether two maps are equal, by `eq_map` and by `ElementEq::same`.

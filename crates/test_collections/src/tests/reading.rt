@@ -3,9 +3,11 @@ ghost use Rattle.std.specs.Int.{w32};
 ghost use Rattle.rkyv_base.specs.{IsValidView, entry_spec, text_spec};
 
 use crate::tests::archives::map_archive;
-use crate::tests::lookups::small_found;
+use crate::tests::lookups::expect_found;
 use crate::tests::opened::{Small, nested_map, small_map};
-use crate::tests::query_results::{counts, equal_maps, map_prints, number_of, small};
+use crate::tests::query_results::{
+    counts, equal_maps, expect_counts, expect_values, map_prints, number_of,
+};
 use rkyv_base::access::access;
 use rkyv_base::{Entry, Narrow, Text, VerifyError, View, Wide, access_in};
 use rkyv_collections::map::laws::list_archives::{
@@ -19,21 +21,16 @@ use rkyv_collections::{ArchivedHashMap, HashMapOf};
 use rkyv_scan::FxHasher64;
 use std::alloc::Global;
 use std::cell::Cell;
+use std::process::Abort;
 use test_support::archives::{
     four_pairs, four_pairs_backwards, nested, no_items, one_key_twice, one_pair, one_symbol,
     one_wide_number,
 };
 
-fn small_counts(bytes: &[u8]) -> Option<(bool, usize, usize)> {
-    counts::<i8, i8, FxHasher64, Narrow>(bytes).ok()
-}
-
-fn small_misplaced(bytes: &[u8]) -> Option<usize> {
-    Some(small_map(bytes).ok()?.misplaced())
-}
-
-fn small_equal(bytes: &[u8], other: &[u8]) -> Option<(bool, bool)> {
-    equal_maps::<i8, i8, FxHasher64, Narrow>(bytes, other).ok()
+// Compares two maps by both calls, whose results are to be `expected`.
+fn expect_equality(rt: &impl Abort, bytes: &[u8], other: &[u8], expected: bool) {
+    let equal = equal_maps::<i8, i8, FxHasher64, Narrow>(bytes, other);
+    expect_eq!(*rt; equal, Ok((expected, expected)));
 }
 
 fn small_prints(alloc: Global, bytes: &[u8], text: &str) -> bool {
@@ -43,17 +40,10 @@ fn small_prints(alloc: Global, bytes: &[u8], text: &str) -> bool {
 #[test]
 fn an_empty_map_is_read(rt: HostRuntime) {
     let bytes = no_items();
-    let (counts, equal) = (small_counts(&bytes), small_equal(&bytes, &bytes));
-    let printed = small_prints(rt.alloc(), &bytes, "{}");
-    expect_eq!(rt;
-        (counts, small_found(&bytes, 1), equal, printed),
-        (
-            Some((true, 0, 0)),
-            Some((None, None, false)),
-            Some((true, true)),
-            true
-        )
-    );
+    expect_counts(&rt, &bytes, (true, 0, 0));
+    expect_found(&rt, &bytes, 1, (None, None, false));
+    expect_equality(&rt, &bytes, &bytes, true);
+    expect_eq!(rt; small_prints(rt.alloc(), &bytes, "{}"), true);
 }
 
 #[test]
@@ -61,19 +51,10 @@ fn one_pair_is_found(rt: HostRuntime) {
     items_are_yielded::<i8, i8, FxHasher64, Narrow>();
     maps_are_laid_out::<Narrow, FxHasher64, i8, i8, i8, i8>();
     let bytes = one_pair();
-    let found = [small_found(&bytes, 1), small_found(&bytes, 2)];
-    let printed = small_prints(rt.alloc(), &bytes, "{1: 2}");
-    expect_eq!(rt;
-        (small_counts(&bytes), found, printed),
-        (
-            Some((false, 1, 2)),
-            [
-                Some((Some(2), Some((0, 1)), true)),
-                Some((None, None, false))
-            ],
-            true
-        )
-    );
+    expect_counts(&rt, &bytes, (false, 1, 2));
+    expect_found(&rt, &bytes, 1, (Some(2), Some((0, 1)), true));
+    expect_found(&rt, &bytes, 2, (None, None, false));
+    expect_eq!(rt; small_prints(rt.alloc(), &bytes, "{1: 2}"), true);
 }
 
 // Counts a call of a comparison, and returns `accepts`.
@@ -103,12 +84,19 @@ fn pair_with(bytes: &[u8], key: i8, accepts: bool) -> Result<(Option<u64>, usize
     }
 }
 
-// Returns the results of both lookups.
-fn small_with(bytes: &[u8], key: i8, accepts: bool) -> [Option<(Option<u64>, usize)>; 2] {
-    [
-        value_with(bytes, key, accepts).ok(),
-        pair_with(bytes, key, accepts).ok(),
-    ]
+// Compares the results of both lookups, which are to be the same.
+fn expect_with(
+    rt: &impl Abort,
+    bytes: &[u8],
+    key: i8,
+    accepts: bool,
+    expected: (Option<u64>, usize),
+) {
+    let found = [
+        value_with(bytes, key, accepts),
+        pair_with(bytes, key, accepts),
+    ];
+    expect_eq!(*rt; found, [Ok(expected); 2]);
 }
 
 // In a small table each control byte is mirrored, so a comparison that fails sees each pair twice.
@@ -116,23 +104,11 @@ fn small_with(bytes: &[u8], key: i8, accepts: bool) -> [Option<(Option<u64>, usi
 fn lookup_takes_a_comparison(rt: HostRuntime) {
     let one = one_pair();
     let twice = one_key_twice();
-    let found = [
-        small_with(&one, 1, true),
-        small_with(&one, 1, false),
-        small_with(&one, 2, true),
-        small_with(&twice, 1, true),
-        small_with(&twice, 1, false),
-    ];
-    expect_eq!(rt;
-        found,
-        [
-            [Some((Some(1), 1)); 2],
-            [Some((None, 2)); 2],
-            [Some((None, 0)); 2],
-            [Some((Some(5), 1)); 2],
-            [Some((None, 4)); 2]
-        ]
-    );
+    expect_with(&rt, &one, 1, true, (Some(1), 1));
+    expect_with(&rt, &one, 1, false, (None, 2));
+    expect_with(&rt, &one, 2, true, (None, 0));
+    expect_with(&rt, &twice, 1, true, (Some(5), 1));
+    expect_with(&rt, &twice, 1, false, (None, 4));
 }
 
 // Returns whether the two texts of a key are those of `query`.
@@ -155,7 +131,10 @@ fn is_text_of_two(
             requires { IsValidView (entry_spec (text_spec w32) (text_spec w32)) key }
         { has_names(query, key) },
     );
-    Ok(found.map(|value| value.as_str() == text))
+    match found {
+        Some(value) => Ok(Some(value.as_str() == text)),
+        None => Ok(None),
+    }
 }
 
 // Returns the result of `is_text_of_two` for a key in an archive of two pairs.
@@ -175,27 +154,15 @@ fn pairs_are_found_and_printed(rt: HostRuntime) {
     values_found_are_listed::<i8, i8, i8, i8, i8, FxHasher64, Narrow>();
     scalars_found_are_listed::<i8, i8, i8, i8, FxHasher64, Narrow>();
     let bytes = four_pairs();
-    let found = [
-        small(&bytes, 1),
-        small(&bytes, 3),
-        small(&bytes, 5),
-        small(&bytes, 7),
-        small(&bytes, 2),
+    let values = [
+        (1, Some(2)),
+        (3, Some(4)),
+        (5, Some(6)),
+        (7, Some(8)),
+        (2, None),
     ];
-    let printed = small_prints(rt.alloc(), &bytes, "{5: 6, 7: 8, 1: 2, 3: 4}");
-    expect_eq!(rt;
-        (found, printed),
-        (
-            [
-                Some(Some(2)),
-                Some(Some(4)),
-                Some(Some(6)),
-                Some(Some(8)),
-                Some(None)
-            ],
-            true
-        )
-    );
+    expect_values(&rt, &bytes, &values);
+    expect_eq!(rt; small_prints(rt.alloc(), &bytes, "{5: 6, 7: 8, 1: 2, 3: 4}"), true);
 }
 
 #[test]
@@ -207,32 +174,29 @@ fn equality_ignores_insertion_order(rt: HostRuntime) {
     maps_are_compared::<i8, i8, FxHasher64, Narrow>();
     let mut changed = four_pairs();
     changed[1] = 5;
-    let equal = [
-        small_equal(&four, &backwards),
-        small_equal(&backwards, &four),
-        small_equal(&four, &one),
-        small_equal(&one, &four),
-        small_equal(&four, &changed),
-    ];
-    let (yes, no) = (Some((true, true)), Some((false, false)));
-    expect_eq!(rt; equal, [yes, yes, no, no, no]);
+    expect_equality(&rt, &four, &backwards, true);
+    expect_equality(&rt, &backwards, &four, true);
+    expect_equality(&rt, &four, &one, false);
+    expect_equality(&rt, &one, &four, false);
+    expect_equality(&rt, &four, &changed, false);
 }
 
 #[test]
 fn first_of_equal_keys_is_found(rt: HostRuntime) {
     let bytes = one_key_twice();
-    let (counts, found) = (small_counts(&bytes), small(&bytes, 1));
-    let equal = small_equal(&bytes, &bytes);
-    let printed = small_prints(rt.alloc(), &bytes, "{1: 2, 1: 9}");
-    expect_eq!(rt;
-        (counts, found, equal, printed),
-        (
-            Some((false, 2, 3)),
-            Some(Some(2)),
-            Some((false, false)),
-            true
-        )
-    );
+    expect_counts(&rt, &bytes, (false, 2, 3));
+    expect_values(&rt, &bytes, &[(1, Some(2))]);
+    expect_equality(&rt, &bytes, &bytes, false);
+    expect_eq!(rt; small_prints(rt.alloc(), &bytes, "{1: 2, 1: 9}"), true);
+}
+
+fn misplaced(bytes: &[u8]) -> Result<usize, VerifyError> {
+    Ok(small_map(bytes)?.misplaced())
+}
+
+// Compares the number of misplaced keys of a map.
+fn expect_misplaced(rt: &impl Abort, bytes: &[u8], expected: usize) {
+    expect_eq!(*rt; misplaced(bytes), Ok(expected));
 }
 
 #[test]
@@ -241,43 +205,33 @@ fn misplaced_keys_are_counted(rt: HostRuntime) {
     matched_keys_are_found::<i8, i8, i8, FxHasher64, Narrow>();
     let mut moved = one_pair();
     moved[0] = 2;
-    let misplaced = [
-        small_misplaced(&four_pairs()),
-        small_misplaced(&one_key_twice()),
-        small_misplaced(&moved),
-    ];
-    expect_eq!(rt;
-        (misplaced, small(&moved, 2)),
-        ([Some(0), Some(1), Some(1)], Some(None))
-    );
+    expect_misplaced(&rt, &four_pairs(), 0);
+    expect_misplaced(&rt, &one_key_twice(), 1);
+    expect_misplaced(&rt, &moved, 1);
+    expect_values(&rt, &moved, &[(2, None)]);
 }
 
-fn small_misplaced_up_to(bytes: &[u8], limit: u64) -> Option<Option<usize>> {
-    Some(small_map(bytes).ok()?.misplaced_up_to(limit))
+// Returns the number of misplaced keys of a map, or `None` if more than `limit` strides are read.
+fn misplaced_up_to(bytes: &[u8], limit: u64) -> Result<Option<usize>, VerifyError> {
+    Ok(small_map(bytes)?.misplaced_up_to(limit))
+}
+
+// Compares this number.
+fn expect_misplaced_up_to(rt: &impl Abort, bytes: &[u8], limit: u64, expected: Option<usize>) {
+    expect_eq!(*rt; misplaced_up_to(bytes, limit), Ok(expected));
 }
 
 // A table of at most sixteen buckets has one stride, so each lookup reads one.
 #[test]
 fn counting_misplaced_keys_ends_at_a_limit(rt: HostRuntime) {
     let four = four_pairs();
-    let of_pairs = [
-        small_misplaced_up_to(&four, 3),
-        small_misplaced_up_to(&four, 4),
-        small_misplaced_up_to(&four, u64::MAX),
-    ];
-    let of_one_key = [
-        small_misplaced_up_to(&one_key_twice(), 1),
-        small_misplaced_up_to(&one_key_twice(), 2),
-    ];
-    let of_nothing = small_misplaced_up_to(&no_items(), 0);
-    expect_eq!(rt;
-        (of_pairs, of_one_key, of_nothing),
-        (
-            [Some(None), Some(Some(0)), Some(Some(0))],
-            [Some(None), Some(Some(1))],
-            Some(Some(0))
-        )
-    );
+    expect_misplaced_up_to(&rt, &four, 3, None);
+    expect_misplaced_up_to(&rt, &four, 4, Some(0));
+    expect_misplaced_up_to(&rt, &four, u64::MAX, Some(0));
+    let twice = one_key_twice();
+    expect_misplaced_up_to(&rt, &twice, 1, None);
+    expect_misplaced_up_to(&rt, &twice, 2, Some(1));
+    expect_misplaced_up_to(&rt, &no_items(), 0, Some(0));
 }
 
 // Returns the address of a symbol, from an untrusted archive.
@@ -289,8 +243,8 @@ fn address(symbols: &[u8], name: &str) -> Result<Option<u64>, VerifyError> {
 #[test]
 fn a_symbol_is_found(rt: HostRuntime) {
     let bytes = one_symbol();
-    let found = [address(&bytes, "main").ok(), address(&bytes, "exit").ok()];
-    expect_eq!(rt; found, [Some(Some(4096)), Some(None)]);
+    expect_eq!(rt; address(&bytes, "main"), Ok(Some(4096)));
+    expect_eq!(rt; address(&bytes, "exit"), Ok(None));
 }
 
 // Returns the number at `inner_key` in the map at `key`.
@@ -308,32 +262,23 @@ fn inner_value(bytes: &[u8], key: i8, inner_key: i8) -> Result<Option<i8>, Verif
 #[test]
 fn a_map_is_the_value_of_a_map(rt: HostRuntime) {
     let bytes = nested();
-    let found = [
-        inner_value(&bytes, 1, 1).ok(),
-        inner_value(&bytes, 1, 2).ok(),
-    ];
-    let equal = equal_maps::<i8, Small, FxHasher64, Narrow>(&bytes, &bytes).ok();
+    expect_eq!(rt; inner_value(&bytes, 1, 1), Ok(Some(2)));
+    expect_eq!(rt; inner_value(&bytes, 1, 2), Ok(None));
+    let equal = equal_maps::<i8, Small, FxHasher64, Narrow>(&bytes, &bytes);
+    expect_eq!(rt; equal, Ok((true, true)));
     let printed = map_prints::<i8, Small, FxHasher64, Narrow>(rt.alloc(), &bytes, "{1: {1: 2}}");
-    expect_eq!(rt;
-        (found, equal, printed),
-        ([Some(Some(2)), Some(None)], Some((true, true)), true)
-    );
+    expect_eq!(rt; printed, true);
 }
 
 #[test]
 fn a_map_inside_is_checked(rt: HostRuntime) {
     let mut bytes = nested();
     bytes[40] = 0xdd;
-    let unwrapped = matches!(
-        nested_map(&bytes),
-        Err(VerifyError::UnwrappedControlByte { index: 30 })
-    );
+    let unwrapped = VerifyError::UnwrappedControlByte { index: 30 };
+    expect_eq!(rt; inner_value(&bytes, 1, 1), Err(unwrapped));
     bytes[40] = 0xde;
-    let outside = matches!(
-        nested_map(&bytes),
-        Err(VerifyError::OutOfRange { pos: 2, size: 35 })
-    );
-    expect_eq!(rt; (unwrapped, outside), (true, true));
+    let outside = VerifyError::OutOfRange { pos: 2, size: 35 };
+    expect_eq!(rt; inner_value(&bytes, 1, 1), Err(outside));
 }
 
 // Each valid prefix of the archive ends with eight zeros, and is an empty map.
@@ -364,17 +309,11 @@ fn indexed(bytes: &[u8], key: u32) -> Result<Option<u32>, VerifyError> {
 #[test]
 fn a_wide_map_is_read(rt: HostRuntime) {
     let bytes = one_wide_number();
-    let counts = counts::<u32, u32, FxHasher64, Wide>(&bytes).ok();
-    let found = number_of::<u32, u32, FxHasher64, Wide, u32>(&bytes, &1).ok();
-    let indexed = [indexed(&bytes, 1).ok(), indexed(&bytes, 2).ok()];
-    expect_eq!(rt;
-        (counts, found, indexed),
-        (
-            Some((false, 1, 2)),
-            Some(Some(2)),
-            [Some(Some(2)), Some(None)]
-        )
-    );
+    expect_eq!(rt; counts::<u32, u32, FxHasher64, Wide>(&bytes), Ok((false, 1, 2)));
+    let found = number_of::<u32, u32, FxHasher64, Wide, u32>(&bytes, &1);
+    expect_eq!(rt; found, Ok(Some(2)));
+    expect_eq!(rt; indexed(&bytes, 1), Ok(Some(2)));
+    expect_eq!(rt; indexed(&bytes, 2), Ok(None));
 }
 
 #[test]
@@ -383,14 +322,12 @@ fn rejects_a_wide_capacity_beyond_the_archive(rt: HostRuntime) {
         0, 0, 0, 0, 0, 0, 0, 0, 1, 0, 0, 0, 0, 0, 0, 0, 0xff, 0xff, 0xff, 0xff, 0xff, 0xff, 0xff,
         0xff,
     ];
-    assert!(rt;
-        matches!(
-            access_in::<Wide, HashMapOf<u32, u32, FxHasher64, Wide>>(&bytes),
-            Err(VerifyError::OutOfRange {
-                pos: -147_573_952_589_676_412_920,
-                size: 166_020_696_663_385_964_551,
-            })
-        )
+    expect_eq!(rt;
+        indexed(&bytes, 1),
+        Err(VerifyError::OutOfRange {
+            pos: -147_573_952_589_676_412_920,
+            size: 166_020_696_663_385_964_551,
+        })
     );
 }
 

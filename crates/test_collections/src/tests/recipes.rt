@@ -151,12 +151,12 @@ fn three_numbers(rooms: &[u8]) -> Result<[Option<u32>; 3], VerifyError> {
 #[test]
 fn a_map_of_maps(rt: HostRuntime) -> Result<(), Fail> {
     let mut archive = write_rooms(rt.alloc())?;
-    let before = three_numbers(archive.as_slice()).ok();
-    expect_eq!(rt; before, Some([Some(4), Some(2), Some(1)]));
-    let found = change_numbers(archive.as_mut_slice()).ok();
-    expect_eq!(rt; found, Some([true, false, false, true, false]));
-    let after = three_numbers(archive.as_slice()).ok();
-    expect_eq!(rt; after, Some([Some(5), Some(2), Some(8)]));
+    let before = three_numbers(archive.as_slice());
+    expect_eq!(rt; before, Ok([Some(4), Some(2), Some(1)]));
+    let found = change_numbers(archive.as_mut_slice());
+    expect_eq!(rt; found, Ok([true, false, false, true, false]));
+    let after = three_numbers(archive.as_slice());
+    expect_eq!(rt; after, Ok([Some(5), Some(2), Some(8)]));
     Ok(())
 }
 
@@ -249,12 +249,12 @@ fn change_all(archive: &mut [u8]) -> Result<[[Option<u32>; 3]; 2], VerifyError> 
 fn prices_in_place(rt: HostRuntime) -> Result<(), Fail> {
     let mut archive = write_prices(rt.alloc())?;
     expect_eq!(rt;
-        change_by_name(archive.as_mut_slice()).ok(),
-        Some(([true, false], Some(5), [Some(2), Some(4), Some(6)]))
+        change_by_name(archive.as_mut_slice()),
+        Ok(([true, false], Some(5), [Some(2), Some(4), Some(6)]))
     );
     expect_eq!(rt;
-        change_all(archive.as_mut_slice()).ok(),
-        Some([
+        change_all(archive.as_mut_slice()),
+        Ok([
             [Some(4), Some(8), Some(12)],
             [Some(4), Some(6), Some(12)]
         ])
@@ -287,7 +287,10 @@ fn move_point(archive: &mut [u8], name: &str, point: (i32, i32)) -> Result<bool,
 // Returns the point of a name.
 fn point_of(archive: &[u8], name: &str) -> Result<Option<(i32, i32)>, VerifyError> {
     let points = ArchivedHashMap::of(access::<Points>(archive)?);
-    Ok(points.get(&name).map(|point| (point.key().to_native(), point.value().to_native())))
+    match points.get(&name) {
+        Some(point) => Ok(Some((point.key().to_native(), point.value().to_native()))),
+        None => Ok(None),
+    }
 }
 
 // Writes the points of two names. Returns whether each was found.
@@ -306,10 +309,9 @@ fn two_points(archive: &[u8]) -> Result<[Option<(i32, i32)>; 2], VerifyError> {
 #[test]
 fn points_in_place(rt: HostRuntime) -> Result<(), Fail> {
     let mut archive = map_archive(rt.alloc(), &[("a", (1i32, 2i32)), ("b", (3, 4))])?;
-    let found = move_two(archive.as_mut_slice()).ok();
-    expect_eq!(rt; found, Some([true, false]));
-    let points = two_points(archive.as_slice()).ok();
-    expect_eq!(rt; points, Some([Some((1, 2)), Some((-3, 5))]));
+    expect_eq!(rt; move_two(archive.as_mut_slice()), Ok([true, false]));
+    let points = two_points(archive.as_slice());
+    expect_eq!(rt; points, Ok([Some((1, 2)), Some((-3, 5))]));
     Ok(())
 }
 
@@ -330,9 +332,8 @@ fn size_of(archive: &[u8], name: &str) -> Result<Option<u64>, VerifyError> {
 #[test]
 fn a_wide_archive(rt: HostRuntime) -> Result<(), Fail> {
     let archive = write_sizes(rt.alloc(), &[("disk", 5_000_000_000), ("file", 12)])?;
-    let disk = size_of(archive.as_slice(), "disk")?;
-    let tape = size_of(archive.as_slice(), "tape")?;
-    expect_eq!(rt; (disk, tape), (Some(5_000_000_000), None));
+    expect_eq!(rt; size_of(archive.as_slice(), "disk"), Ok(Some(5_000_000_000)));
+    expect_eq!(rt; size_of(archive.as_slice(), "tape"), Ok(None));
     Ok(())
 }
 
@@ -351,8 +352,7 @@ fn has_word(archive: &[u8], word: &str) -> Result<(usize, bool), VerifyError> {
 #[test]
 fn a_set(rt: HostRuntime) -> Result<(), Fail> {
     let archive = write_words(rt.alloc(), &["red", "green"])?;
-    let green = has_word(archive.as_slice(), "green")?;
-    let blue = has_word(archive.as_slice(), "blue")?;
-    expect_eq!(rt; (green, blue), ((2, true), (2, false)));
+    expect_eq!(rt; has_word(archive.as_slice(), "green"), Ok((2, true)));
+    expect_eq!(rt; has_word(archive.as_slice(), "blue"), Ok((2, false)));
     Ok(())
 }

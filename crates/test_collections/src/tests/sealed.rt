@@ -7,9 +7,9 @@ ghost use Rattle.rkyv_keys.specs.{hash_at};
 ghost use Rattle.rkyv_collections.specs.{IsKeyPosAt, map_at, map_spec};
 ghost use Rattle.test_collections.specs.InMaps.{FindsIn, KeepsIn};
 
-use crate::tests::archives::{four_with, map_archive};
+use crate::tests::archives::{expect_four_with, text_archive};
 use crate::tests::opened::{is_text, number_seal, small_seal, text_seal};
-use crate::tests::query_results::{number_of, small};
+use crate::tests::query_results::{expect_values, number_of};
 use rkyv_base::{
     Element, Narrow, Scalar, VerifyError, View, Wide, Width, access_in, access_mut_in, set_at,
 };
@@ -112,11 +112,9 @@ fn number_stored(bytes: &mut [u8], key: u32, value: u32) -> Result<Option<u32>, 
 #[test]
 fn a_stored_value_is_looked_up(rt: HostRuntime) {
     let mut bytes = one_number();
-    let stored = [
-        number_stored(&mut bytes, 1, 7).ok(),
-        number_stored(&mut bytes, 2, 7).ok(),
-    ];
-    expect_eq!(rt; (stored, bytes[4]), ([Some(Some(7)), Some(None)], 7));
+    expect_eq!(rt; number_stored(&mut bytes, 1, 7), Ok(Some(7)));
+    expect_eq!(rt; number_stored(&mut bytes, 2, 7), Ok(None));
+    expect_eq!(rt; bytes[4], 7);
 }
 
 // Writes a number over the value of a key. Returns the values before and after the write.
@@ -155,47 +153,42 @@ fn a_found_value_is_written_in_place(rt: HostRuntime) {
     value_writes_keep_lookups::<u32, u32, u32, FxHasher64, Narrow>();
     values_written_represent::<u32, u32, u32, u32, FxHasher64, Narrow>();
     let mut bytes = one_number();
-    let replaced = replace(&mut bytes, 1, 16_909_060).ok();
-    let found = number_of::<u32, u32, FxHasher64, Narrow, u32>(&bytes, &1).ok();
+    expect_eq!(rt; replace(&mut bytes, 1, 16_909_060), Ok(Some((2, 16_909_060))));
+    let found = number_of::<u32, u32, FxHasher64, Narrow, u32>(&bytes, &1);
+    expect_eq!(rt; found, Ok(Some(16_909_060)));
     let mut expected = one_number();
     expected[4..8].copy_from_slice(&[4, 3, 2, 1]);
-    expect_eq!(rt;
-        (replaced, found, bytes == expected),
-        (Some(Some((2, 16_909_060))), Some(Some(16_909_060)), true)
-    );
+    expect_eq!(rt; bytes, expected);
 }
 
 #[test]
 fn unsuccessful_lookup_returns_no_seal(rt: HostRuntime) {
     let mut bytes = one_number();
-    let replaced = replace(&mut bytes, 2, 7).ok();
-    let beside_key = replace_beside_key::<Narrow>(&mut bytes, 2, 7).ok();
-    let by_comparison = replace_by(&mut bytes, 1, 7, false).ok();
-    let pair_by_comparison = replace_beside_key_by(&mut bytes, 2, 7, true).ok();
-    expect_eq!(rt;
-        (replaced, beside_key, by_comparison, pair_by_comparison),
-        (Some(None), Some(None), Some(None), Some(None))
-    );
+    expect_eq!(rt; replace(&mut bytes, 2, 7), Ok(None));
+    expect_eq!(rt; replace_beside_key::<Narrow>(&mut bytes, 2, 7), Ok(None));
+    expect_eq!(rt; replace_by(&mut bytes, 1, 7, false), Ok(None));
+    expect_eq!(rt; replace_beside_key_by(&mut bytes, 2, 7, true), Ok(None));
     expect_eq!(rt; bytes, one_number());
 }
 
 #[test]
 fn sealed_pair_has_its_key(rt: HostRuntime) {
     let mut bytes = one_number();
-    let before = replace_beside_key::<Narrow>(&mut bytes, 1, 7).ok();
-    expect_eq!(rt; (before, bytes[4]), (Some(Some((1, 2))), 7));
+    expect_eq!(rt; replace_beside_key::<Narrow>(&mut bytes, 1, 7), Ok(Some((1, 2))));
+    expect_eq!(rt; bytes[4], 7);
 }
 
 #[test]
 fn a_value_of_a_wide_map_is_written_in_place(rt: HostRuntime) {
     let mut bytes = one_wide_number();
     let replaced = [
-        replace_beside_key::<Wide>(&mut bytes, 1, 16_909_060).ok(),
-        replace_beside_key::<Wide>(&mut bytes, 2, 7).ok(),
+        replace_beside_key::<Wide>(&mut bytes, 1, 16_909_060),
+        replace_beside_key::<Wide>(&mut bytes, 2, 7),
     ];
+    expect_eq!(rt; replaced, [Ok(Some((1, 2))), Ok(None)]);
     let mut expected = one_wide_number();
     expected[4..8].copy_from_slice(&[4, 3, 2, 1]);
-    expect_eq!(rt; (replaced, bytes == expected), ([Some(Some((1, 2))), Some(None)], true));
+    expect_eq!(rt; bytes, expected);
 }
 
 // Writes a number over the value that is found by a comparison that always returns `accepts`.
@@ -242,11 +235,10 @@ fn replace_beside_key_by(
 #[test]
 fn sealed_lookup_takes_a_comparison(rt: HostRuntime) {
     let (mut bytes, mut pair_bytes) = (one_number(), one_number());
-    let before = replace_by(&mut bytes, 1, 7, true).ok();
-    let pair_before = replace_beside_key_by(&mut pair_bytes, 1, 7, true).ok();
+    expect_eq!(rt; replace_by(&mut bytes, 1, 7, true), Ok(Some(2)));
+    expect_eq!(rt; replace_beside_key_by(&mut pair_bytes, 1, 7, true), Ok(Some((1, 2))));
     let mut expected = one_number();
     expected[4] = 7;
-    expect_eq!(rt; (before, pair_before), (Some(Some(2)), Some(Some((1, 2)))));
     expect_eq!(rt; [bytes, pair_bytes], [expected; 2]);
 }
 
@@ -305,26 +297,17 @@ fn write_pairs(bytes: &mut [u8], pairs: &[(i8, i8)]) -> Result<bool, VerifyError
 #[test]
 fn each_value_is_written(rt: HostRuntime) {
     let mut bytes = four_pairs();
-    let written = write_values(&mut bytes, &[0; 4]).ok();
-    let found = [
-        small(&bytes, 1),
-        small(&bytes, 3),
-        small(&bytes, 5),
-        small(&bytes, 7),
-    ];
-    let same = bytes == four_with([3, 0, 1, 0, 0, 0, 7, 0, 5, 0]);
-    expect_eq!(rt;
-        (written, found, same),
-        (Some(true), [Some(Some(0)); 4], true)
-    );
+    expect_eq!(rt; write_values(&mut bytes, &[0; 4]), Ok(true));
+    let zero = Some(0);
+    expect_values(&rt, &bytes, &[(1, zero), (3, zero), (5, zero), (7, zero)]);
+    expect_four_with(&rt, &bytes, [3, 0, 1, 0, 0, 0, 7, 0, 5, 0]);
 }
 
 #[test]
 fn values_are_written_by_position(rt: HostRuntime) {
     let mut bytes = four_pairs();
-    let written = write_values_by_pos(&mut bytes, &[10, 11, 12, 13]).ok();
-    let same = bytes == four_with([3, 13, 1, 12, 0, 0, 7, 11, 5, 10]);
-    expect_eq!(rt; (written, same), (Some(true), true));
+    expect_eq!(rt; write_values_by_pos(&mut bytes, &[10, 11, 12, 13]), Ok(true));
+    expect_four_with(&rt, &bytes, [3, 13, 1, 12, 0, 0, 7, 11, 5, 10]);
 }
 
 // Writes 20 and 21 over the first two values while the cursor steps. Returns their positions.
@@ -343,17 +326,15 @@ fn write_stepping(bytes: &mut [u8]) -> Result<[Option<u64>; 2], VerifyError> {
 #[test]
 fn values_are_written_while_the_cursor_steps(rt: HostRuntime) {
     let mut bytes = four_pairs();
-    let positions = write_stepping(&mut bytes).ok();
-    let same = bytes == four_with([3, 4, 1, 2, 0, 0, 7, 21, 5, 20]);
-    expect_eq!(rt; (positions, same), (Some([Some(9), Some(7)]), true));
+    expect_eq!(rt; write_stepping(&mut bytes), Ok([Some(9), Some(7)]));
+    expect_four_with(&rt, &bytes, [3, 4, 1, 2, 0, 0, 7, 21, 5, 20]);
 }
 
 #[test]
 fn pairs_are_yielded_by_ascending_bucket(rt: HostRuntime) {
     let mut bytes = four_pairs();
-    let written = write_pairs(&mut bytes, &[(5, -5), (7, -7), (1, -1), (3, -3)]).ok();
-    let same = bytes == four_with([3, 0xfd, 1, 0xff, 0, 0, 7, 0xf9, 5, 0xfb]);
-    expect_eq!(rt; (written, same), (Some(true), true));
+    expect_eq!(rt; write_pairs(&mut bytes, &[(5, -5), (7, -7), (1, -1), (3, -3)]), Ok(true));
+    expect_four_with(&rt, &bytes, [3, 0xfd, 1, 0xff, 0, 0, 7, 0xf9, 5, 0xfb]);
 }
 
 // Writes a number behind the first key. Returns the number of pairs before the step, the key and
@@ -378,15 +359,14 @@ fn write_first(
 #[test]
 fn pairs_are_written_by_position(rt: HostRuntime) {
     let mut bytes = four_pairs();
-    let first = write_first(&mut bytes, 9).ok();
-    let same = bytes == four_with([3, 4, 1, 2, 0, 0, 7, 8, 5, 9]);
-    expect_eq!(rt; (first, same), (Some(Some((4, 8, 5, 3))), true));
+    expect_eq!(rt; write_first(&mut bytes, 9), Ok(Some((4, 8, 5, 3))));
+    expect_four_with(&rt, &bytes, [3, 4, 1, 2, 0, 0, 7, 8, 5, 9]);
 }
 
 // Returns the archive of three texts, mapped to these values.
 fn archive_of(alloc: Global, values: [&str; 3]) -> Option<Vec<u8>> {
     let pairs = [("hello", values[0]), ("foo", values[1]), ("baz", values[2])];
-    map_archive(alloc, &pairs).ok()
+    text_archive(alloc, &pairs).ok()
 }
 
 // Returns whether `bytes` are that archive.

@@ -8,6 +8,8 @@ use rkyv_base::{Narrow, VerifyError, Wide, access_in};
 use rkyv_collections::set::laws;
 use rkyv_collections::{ArchivedHashMap, ArchivedHashSet, HashMapOf, HashSetOf};
 use rkyv_scan::{FxHasher64, FxHasher64Wide};
+use std::alloc::Global;
+use std::process::Abort;
 use test_support::archives::{no_items, one_unit, set_in_a_map, three_keys, two_units};
 
 // Returns the number of buckets of a set.
@@ -21,48 +23,47 @@ fn a_set_has_a_capacity(rt: HostRuntime) {
     expect_eq!(rt; capacities, [Some(4), Some(0)]);
 }
 
+// Compares whether a set of `u8` is empty, its length, the number of its misplaced keys and its
+// text.
+fn expect_read(
+    rt: &impl Abort,
+    alloc: Global,
+    bytes: &[u8],
+    counts: (bool, usize, usize),
+    text: &str,
+) {
+    expect_eq!(*rt; set_counts::<u8, FxHasher64, Narrow>(bytes), Ok(counts));
+    expect_eq!(*rt; set_prints::<u8, FxHasher64, Narrow>(alloc, bytes, text), true);
+}
+
+// Compares whether a set of `u8` has a key, and the position of the key.
+fn expect_member(rt: &impl Abort, bytes: &[u8], key: u8, expected: (bool, Option<u64>)) {
+    let member = member_of::<u8, FxHasher64, Narrow, u8>(bytes, &key);
+    expect_eq!(*rt; member, Ok(expected));
+}
+
 #[test]
 fn a_set_is_read(rt: HostRuntime) {
     laws::members_found_are_listed::<u8, u8, u8, FxHasher64, Narrow>();
     let three = three_keys();
     let none = no_items();
-    let counts = [
-        set_counts::<u8, FxHasher64, Narrow>(&three).ok(),
-        set_counts::<u8, FxHasher64, Narrow>(&none).ok(),
-    ];
-    let members = [
-        member_of::<u8, FxHasher64, Narrow, u8>(&three, &3).ok(),
-        member_of::<u8, FxHasher64, Narrow, u8>(&three, &4).ok(),
-        member_of::<u8, FxHasher64, Narrow, u8>(&none, &4).ok(),
-    ];
-    let printed = [
-        set_prints::<u8, FxHasher64, Narrow>(rt.alloc(), &three, "{1, 2, 3}"),
-        set_prints::<u8, FxHasher64, Narrow>(rt.alloc(), &none, "{}"),
-    ];
-    expect_eq!(rt;
-        (counts, members, printed),
-        (
-            [Some((false, 3, 0)), Some((true, 0, 0))],
-            [
-                Some((true, Some(0))),
-                Some((false, None)),
-                Some((false, None))
-            ],
-            [true; 2]
-        )
-    );
+    expect_read(&rt, rt.alloc(), &three, (false, 3, 0), "{1, 2, 3}");
+    expect_read(&rt, rt.alloc(), &none, (true, 0, 0), "{}");
+    expect_member(&rt, &three, 3, (true, Some(0)));
+    expect_member(&rt, &three, 4, (false, None));
+    expect_member(&rt, &none, 4, (false, None));
 }
 
 // Returns the number of misplaced keys of a set, or `None` if more than `limit` strides are read.
-fn misplaced_up_to(bytes: &[u8], limit: u64) -> Option<Option<usize>> {
-    Some(key_set(bytes).ok()?.misplaced_up_to(limit))
+fn misplaced_up_to(bytes: &[u8], limit: u64) -> Result<Option<usize>, VerifyError> {
+    Ok(key_set(bytes)?.misplaced_up_to(limit))
 }
 
 #[test]
 fn counting_misplaced_keys_of_a_set_ends_at_a_limit(rt: HostRuntime) {
     let three = three_keys();
     let counted = [misplaced_up_to(&three, 2), misplaced_up_to(&three, 3)];
-    expect_eq!(rt; counted, [Some(None), Some(Some(0))]);
+    expect_eq!(rt; counted, [Ok(None), Ok(Some(0))]);
 }
 
 #[test]
@@ -72,41 +73,38 @@ fn sets_are_compared(rt: HostRuntime) {
     let mut other = three_keys();
     other[2] = 9;
     let equal = [
-        equal_sets::<u8, FxHasher64, Narrow>(&bytes, &bytes).ok(),
-        equal_sets::<u8, FxHasher64, Narrow>(&bytes, &other).ok(),
+        equal_sets::<u8, FxHasher64, Narrow>(&bytes, &bytes),
+        equal_sets::<u8, FxHasher64, Narrow>(&bytes, &other),
     ];
-    expect_eq!(rt; equal, [Some((true, true)), Some((false, false))]);
+    expect_eq!(rt; equal, [Ok((true, true)), Ok((false, false))]);
+}
+
+// Compares the same for a set of the unit value.
+fn expect_units_read(
+    rt: &impl Abort,
+    alloc: Global,
+    bytes: &[u8],
+    counts: (bool, usize, usize),
+    text: &str,
+) {
+    expect_eq!(*rt; set_counts::<(), FxHasher64, Narrow>(bytes), Ok(counts));
+    expect_eq!(*rt; set_prints::<(), FxHasher64, Narrow>(alloc, bytes, text), true);
+}
+
+fn expect_unit_member(rt: &impl Abort, bytes: &[u8], expected: (bool, Option<u64>)) {
+    let member = member_of::<(), FxHasher64, Narrow, ()>(bytes, &());
+    expect_eq!(*rt; member, Ok(expected));
 }
 
 #[test]
 fn sets_of_units_are_read(rt: HostRuntime) {
     let unit = one_unit();
     let units = two_units();
-    let counts = [
-        set_counts::<(), FxHasher64, Narrow>(&unit).ok(),
-        set_counts::<(), FxHasher64, Narrow>(&units).ok(),
-    ];
-    let members = [
-        member_of::<(), FxHasher64, Narrow, ()>(&unit, &()).ok(),
-        member_of::<(), FxHasher64, Narrow, ()>(&units, &()).ok(),
-        member_of::<(), FxHasher64, Narrow, ()>(&no_items(), &()).ok(),
-    ];
-    let printed = [
-        set_prints::<(), FxHasher64, Narrow>(rt.alloc(), &unit, "{()}"),
-        set_prints::<(), FxHasher64, Narrow>(rt.alloc(), &units, "{(), ()}"),
-    ];
-    expect_eq!(rt;
-        (counts, members, printed),
-        (
-            [Some((false, 1, 0)), Some((false, 2, 1))],
-            [
-                Some((true, Some(0))),
-                Some((true, Some(0))),
-                Some((false, None))
-            ],
-            [true; 2]
-        )
-    );
+    expect_units_read(&rt, rt.alloc(), &unit, (false, 1, 0), "{()}");
+    expect_units_read(&rt, rt.alloc(), &units, (false, 2, 1), "{(), ()}");
+    expect_unit_member(&rt, &unit, (true, Some(0)));
+    expect_unit_member(&rt, &units, (true, Some(0)));
+    expect_unit_member(&rt, &no_items(), (false, None));
 }
 
 type Inner = HashSetOf<i8, FxHasher64Wide, Wide>;
@@ -127,12 +125,11 @@ fn inner_set(bytes: &[u8]) -> Result<Option<(usize, bool, bool)>, VerifyError> {
 #[test]
 fn a_set_is_the_value_of_a_map(rt: HostRuntime) {
     let bytes = set_in_a_map();
-    let equal = equal_maps::<i8, Inner, FxHasher64Wide, Wide>(&bytes, &bytes).ok();
+    expect_eq!(rt; inner_set(&bytes), Ok(Some((1, true, false))));
+    let equal = equal_maps::<i8, Inner, FxHasher64Wide, Wide>(&bytes, &bytes);
+    expect_eq!(rt; equal, Ok((true, true)));
     let printed = map_prints::<i8, Inner, FxHasher64Wide, Wide>(rt.alloc(), &bytes, "{1: {1}}");
-    expect_eq!(rt;
-        (inner_set(&bytes).ok(), equal, printed),
-        (Some(Some((1, true, false))), Some((true, true)), true)
-    );
+    expect_eq!(rt; printed, true);
 }
 
 // Returns the length of a copy of a set.

@@ -16,6 +16,7 @@ use rkyv_scan::{FxHasher64, FxHasher64Wide, KeyHasher};
 use std::alloc::{AllocError, Global};
 use std::collections::HashMap;
 use std::hash::{BuildHasher, BuildHasherDefault, Hash, RandomState};
+use std::process::Abort;
 use std::test::Fail;
 use test_support::archives::{nested, no_items, one_key_twice, one_number, one_pair};
 
@@ -146,42 +147,39 @@ fn equals_two(alloc: Global, bytes: &[u8]) -> Option<(bool, bool)> {
     equals_small(bytes, &two).ok()
 }
 
-// Tests the map of 1 to 2. Returns whether its archive is as expected, and whether that equals the
-// map by the calls of both sides. Then come the round trips in both widths, and the length.
-fn of_one_pair(alloc: Global) -> Option<(bool, Option<(bool, bool)>, [Option<bool>; 2], usize)> {
-    let map: Hashed<HashMap<i8, i8>> = Hashed::new(map_of(alloc, &[(1, 2)]).ok()?);
-    let written = is_archived(alloc, &map, &one_pair());
-    let equal = equals_small(&one_pair(), map.get()).ok();
-    let back = [
-        map_round_trips::<Narrow, _, _, _>(alloc, &map),
-        map_round_trips::<Wide, _, _, _>(alloc, &map),
-    ];
-    Some((written, equal, back, map.into_inner().len()))
+// Returns whether a map of `i8` to `i8` is the same after a round trip.
+fn small_round_trip(alloc: Global, map: &Hashed<HashMap<i8, i8>>) -> Option<bool> {
+    map_round_trips::<Narrow, _, _, _>(alloc, map)
+}
+
+// Compares the archive of the map of 1 to 2, whether that equals the map by the calls of both
+// sides, and the round trips in both widths.
+fn expect_one_pair(rt: &impl Abort, alloc: Global, map: &Hashed<HashMap<i8, i8>>) {
+    expect_eq!(*rt; is_archived(alloc, map, &one_pair()), true);
+    expect_eq!(*rt; equals_small(&one_pair(), map.get()), Ok((true, true)));
+    expect_eq!(*rt; small_round_trip(alloc, map), Some(true));
+    expect_eq!(*rt; map_round_trips::<Wide, _, _, _>(alloc, map), Some(true));
 }
 
 #[test]
-fn a_map_of_one_pair(rt: HostRuntime) {
+fn a_map_of_one_pair(rt: HostRuntime) -> Result<(), Fail> {
     laws::std_maps_are_represented::<i8, i8, i8, i8, RandomState, FxHasher64, Narrow>();
     laws::std_maps_are_written::<Narrow, FxHasher64, i8, i8, i8, RandomState>();
     laws::std_maps_fail_as_pairs::<i8, i8, i8, i8, FxHasher64, Narrow>();
     laws::written_maps_are_looked_up::<i8, Narrow, FxHasher64, i8, i8, RandomState>();
     laws::archives_round_trip::<Narrow, i8>();
-    let one = of_one_pair(rt.alloc());
-    let two = equals_two(rt.alloc(), &one_pair());
-    expect_eq!(rt;
-        (one, two),
-        (
-            Some((true, Some((true, true)), [Some(true); 2], 1)),
-            Some((false, false))
-        )
-    );
+    expect_eq!(rt; equals_two(rt.alloc(), &one_pair()), Some((false, false)));
+    let map: Hashed<HashMap<i8, i8>> = Hashed::new(one_of(rt.alloc(), 1, 2)?);
+    expect_one_pair(&rt, rt.alloc(), &map);
+    expect_eq!(rt; map.into_inner().len(), 1);
+    Ok(())
 }
 
 // Returns whether the map of four pairs is the same after a round trip.
 fn four_round_trip(alloc: Global) -> Option<bool> {
     let pairs = [(1i8, 2i8), (3, 4), (5, 6), (7, 8)];
     let map: Hashed<HashMap<i8, i8>> = Hashed::new(map_of(alloc, &pairs).ok()?);
-    map_round_trips::<Narrow, _, _, _>(alloc, &map)
+    small_round_trip(alloc, &map)
 }
 
 #[test]
@@ -276,8 +274,8 @@ fn read_plain_maps(
 
 #[test]
 fn a_plain_map_in_a_map_is_read(rt: HostRuntime) {
-    let back = read_plain_maps(rt.alloc(), &nested()).ok();
-    expect_eq!(rt; back, Some(Some((1, Some(2), true))));
+    let back = read_plain_maps(rt.alloc(), &nested());
+    expect_eq!(rt; back, Ok(Some((1, Some(2), true))));
 }
 
 // Returns whether the maps of 1 to each of these values are equal once they are wrapped.
@@ -409,9 +407,8 @@ fn hundred_round_trip<H: KeyHasher>(alloc: Global) -> Option<[Option<bool>; 2]> 
 
 #[test]
 fn a_hundred_texts(rt: HostRuntime) {
-    let found = found_of_hundred(rt.alloc());
-    let back = hundred_round_trip::<FxHasher64>(rt.alloc());
-    expect_eq!(rt; (found, back), (Some(([100; 3], true)), Some([Some(true); 2])));
+    expect_eq!(rt; found_of_hundred(rt.alloc()), Some(([100; 3], true)));
+    expect_eq!(rt; hundred_round_trip::<FxHasher64>(rt.alloc()), Some([Some(true); 2]));
 }
 
 #[test]
@@ -426,7 +423,10 @@ fn read_back(alloc: Global, bytes: &[u8]) -> Result<Option<(usize, i8)>, VerifyE
         Ok(map) => map,
         Err(_) => return Ok(None),
     };
-    Ok(map.get(&1).map(|value| (map.len(), *value)))
+    match map.get(&1) {
+        Some(value) => Ok(Some((map.len(), *value))),
+        None => Ok(None),
+    }
 }
 
 #[test]
@@ -434,15 +434,9 @@ fn the_later_of_equal_keys(rt: HostRuntime) {
     let bytes = one_key_twice();
     let mut same = one_key_twice();
     same[3] = 2;
-    let equal = [
-        equals_two(rt.alloc(), &bytes),
-        equals_two(rt.alloc(), &same),
-    ];
-    let back = read_back(rt.alloc(), &bytes).ok();
-    expect_eq!(rt;
-        (back, equal),
-        (Some(Some((1, 9))), [Some((false, false)); 2])
-    );
+    expect_eq!(rt; equals_two(rt.alloc(), &bytes), Some((false, false)));
+    expect_eq!(rt; equals_two(rt.alloc(), &same), Some((false, false)));
+    expect_eq!(rt; read_back(rt.alloc(), &bytes), Ok(Some((1, 9))));
 }
 
 // Returns whether the archive of the map of 1 to 2 is as expected under the hasher `H`.

@@ -171,6 +171,11 @@ fn set_in_a_map(alloc: Global, key: i8) -> Result<Sets, AllocError> {
     Ok(Hashed::new(one_of(alloc, 1, Hashed::new(set))?))
 }
 
+// Returns the archive of that map with the set of 2.
+fn archive_of_two(alloc: Global) -> Option<Vec<u8>> {
+    archived(alloc, &set_in_a_map(alloc, 2).ok()?)
+}
+
 // Returns whether that map with the set of 2 is the same after round trips in both widths.
 fn sets_round_trip(alloc: Global) -> Option<[Option<bool>; 2]> {
     let outer = set_in_a_map(alloc, 2).ok()?;
@@ -196,7 +201,7 @@ fn equals_sets(bytes: &[u8], map: &Sets) -> Result<[bool; 2], VerifyError> {
 
 // Does the same with the archived map of 1 to the set of 2, and that of 1 to the set of `key`.
 fn equals_inner_set(alloc: Global, key: i8) -> Option<[bool; 2]> {
-    let archive = archived(alloc, &set_in_a_map(alloc, 2).ok()?)?;
+    let archive = archive_of_two(alloc)?;
     let outer = set_in_a_map(alloc, key).ok()?;
     equals_sets(archive.as_slice(), &outer).ok()
 }
@@ -241,7 +246,7 @@ fn read_plain_sets(
 
 // Does the same with the archived map of 1 to the set of 2.
 fn plain_sets_of_two(alloc: Global) -> Option<Option<(usize, Option<(usize, bool)>, bool)>> {
-    let archive = archived(alloc, &set_in_a_map(alloc, 2).ok()?)?;
+    let archive = archive_of_two(alloc)?;
     read_plain_sets(alloc, archive.as_slice()).ok()
 }
 

@@ -1,6 +1,6 @@
 //! Tests of texts of a map that are written in upper case by key, over the plain bytes.
 
-use crate::tests::archives::map_archive;
+use crate::tests::archives::text_archive;
 use crate::tests::opened::is_text;
 use rkyv_base::access::access;
 use rkyv_base::{Narrow, Text, VerifyError};
@@ -14,7 +14,7 @@ use std::test::Fail;
 // out of line.
 fn texts(alloc: Global) -> Result<Vec<u8>, Fail> {
     let pairs = [("a", "hello"), ("b", "wonderful"), ("a", "again")];
-    Ok(map_archive(alloc, &pairs)?)
+    Ok(text_archive(alloc, &pairs)?)
 }
 
 // Writes the text of a key in upper case. Returns the result of the call.
@@ -44,8 +44,8 @@ fn inline_text_is_uppercased_by_key(rt: HostRuntime) -> Result<(), Fail> {
     texts_found_are_listed::<&str, &str, Text, FxHasher64, Narrow>();
     let mut bytes = texts(rt.alloc())?;
     expect_eq!(rt;
-        uppercase_three(bytes.as_mut_slice()).ok(),
-        Some(([Some(true), Some(false), None], [Some(true), Some(true)]))
+        uppercase_three(bytes.as_mut_slice()),
+        Ok(([Some(true), Some(false), None], [Some(true), Some(true)]))
     );
     Ok(())
 }

@@ -8,7 +8,11 @@ use rkyv_collections::{
     ArchivedHashMap, ArchivedHashSet, HashMapOf, HashSetOf, Iter, Keys, Values,
 };
 use rkyv_scan::FxHasher64;
+use std::process::Abort;
 use test_support::archives::{four_pairs, no_items, one_unit, three_keys};
+
+// `len` and `size_hint` of an iterator.
+type Left = (usize, (usize, Option<usize>));
 
 // Returns the positions of the next key and its value.
 fn next_pair(rest: &mut Iter<'_, i8, i8>) -> Option<(u64, u64)> {
@@ -36,15 +40,7 @@ fn next_value(rest: &mut Values<'_, i8, i8>) -> Option<u64> {
 
 // Walks over the pairs of a map. Returns the results of the first six steps. Then come `len` and
 // `size_hint` before the steps, after two of them and after all.
-fn pairs_of(
-    bytes: &[u8],
-) -> Result<
-    (
-        [Option<(u64, u64)>; 6],
-        [(usize, (usize, Option<usize>)); 3],
-    ),
-    VerifyError,
-> {
+fn pairs_of(bytes: &[u8]) -> Result<([Option<(u64, u64)>; 6], [Left; 3]), VerifyError> {
     let mut rest = small_map(bytes)?.iter();
     let before = (rest.len(), rest.size_hint());
     let (first, second) = (next_pair(&mut rest), next_pair(&mut rest));
@@ -61,9 +57,7 @@ fn pairs_of(
 }
 
 // Does the same with keys. Returns the number left after one step.
-fn keys_of(
-    bytes: &[u8],
-) -> Result<([Option<u64>; 6], (usize, (usize, Option<usize>))), VerifyError> {
+fn keys_of(bytes: &[u8]) -> Result<([Option<u64>; 6], Left), VerifyError> {
     let mut rest = small_map(bytes)?.keys();
     let first = next_key(&mut rest);
     let left = (rest.len(), rest.size_hint());
@@ -79,9 +73,7 @@ fn keys_of(
 }
 
 // Does the same with values.
-fn values_of(
-    bytes: &[u8],
-) -> Result<([Option<u64>; 6], (usize, (usize, Option<usize>))), VerifyError> {
+fn values_of(bytes: &[u8]) -> Result<([Option<u64>; 6], Left), VerifyError> {
     let mut rest = small_map(bytes)?.values();
     let first = next_value(&mut rest);
     let left = (rest.len(), rest.size_hint());
@@ -153,7 +145,12 @@ fn sums(map: &[u8], set: &[u8]) -> Result<[u8; 3], VerifyError> {
 fn maps_and_sets_are_walked_by_for(rt: HostRuntime) {
     map_laws::walks_by_for_are_iterations::<u8, u8, FxHasher64, Narrow>();
     set_laws::walks_by_for_are_iterations::<u8, FxHasher64, Narrow>();
-    expect_eq!(rt; sums(&four_pairs(), &three_keys()).ok(), Some([36, 6, 6]));
+    expect_eq!(rt; sums(&four_pairs(), &three_keys()), Ok([36, 6, 6]));
+}
+
+// Compares the results of `pairs_of` for a map.
+fn expect_pairs(rt: &impl Abort, bytes: &[u8], steps: [Option<(u64, u64)>; 6], left: [Left; 3]) {
+    expect_eq!(*rt; pairs_of(bytes), Ok((steps, left)));
 }
 
 // In bucket order, the pairs are 5 to 6, 7 to 8, 1 to 2 and 3 to 4. The first has the last two
@@ -162,60 +159,53 @@ fn maps_and_sets_are_walked_by_for(rt: HostRuntime) {
 fn pairs_are_walked_by_ascending_bucket(rt: HostRuntime) {
     map_laws::walks_visit_each::<i8, i8, i8, i8, FxHasher64, Narrow>();
     let bytes = four_pairs();
-    let pairs = pairs_of(&bytes).ok();
-    let (a, b, c, d) = ((8, 9), (6, 7), (2, 3), (0, 1));
+    let steps = [
+        Some((8, 9)),
+        Some((6, 7)),
+        Some((2, 3)),
+        Some((0, 1)),
+        None,
+        None,
+    ];
     let left = [(4, (4, Some(4))), (2, (2, Some(2))), (0, (0, Some(0)))];
-    expect_eq!(rt;
-        (pairs, found_by_own_keys(&bytes).ok()),
-        (
-            Some(([Some(a), Some(b), Some(c), Some(d), None, None], left)),
-            Some(4)
-        )
-    );
+    expect_pairs(&rt, &bytes, steps, left);
+    expect_eq!(rt; found_by_own_keys(&bytes), Ok(4));
+}
+
+// Compares the results of `keys_of` and of `values_of` for a map.
+fn expect_keys_and_values(
+    rt: &impl Abort,
+    bytes: &[u8],
+    keys: [Option<u64>; 6],
+    values: [Option<u64>; 6],
+    left: Left,
+) {
+    expect_eq!(*rt; [keys_of(bytes), values_of(bytes)], [Ok((keys, left)), Ok((values, left))]);
 }
 
 #[test]
 fn keys_and_values_are_walked_by_ascending_bucket(rt: HostRuntime) {
-    let bytes = four_pairs();
-    let keys = keys_of(&bytes).ok();
-    let values = values_of(&bytes).ok();
-    let left = (3, (3, Some(3)));
-    expect_eq!(rt;
-        (keys, values),
-        (
-            Some(([Some(8), Some(6), Some(2), Some(0), None, None], left)),
-            Some(([Some(9), Some(7), Some(3), Some(1), None, None], left))
-        )
-    );
+    let keys = [Some(8), Some(6), Some(2), Some(0), None, None];
+    let values = [Some(9), Some(7), Some(3), Some(1), None, None];
+    expect_keys_and_values(&rt, &four_pairs(), keys, values, (3, (3, Some(3))));
 }
 
 #[test]
 fn a_walk_over_the_empty_map_yields_nothing(rt: HostRuntime) {
     let bytes = no_items();
-    let pairs = pairs_of(&bytes).ok();
-    let keys = keys_of(&bytes).ok();
-    let values = values_of(&bytes).ok();
     let left = (0, (0, Some(0)));
-    expect_eq!(rt;
-        (pairs, keys, values),
-        (
-            Some(([None; 6], [left; 3])),
-            Some(([None; 6], left)),
-            Some(([None; 6], left))
-        )
-    );
+    expect_pairs(&rt, &bytes, [None; 6], [left; 3]);
+    expect_keys_and_values(&rt, &bytes, [None; 6], [None; 6], left);
 }
 
 #[test]
 fn keys_of_a_set_are_walked_by_ascending_bucket(rt: HostRuntime) {
     set_laws::walks_visit_each::<u8, u8, FxHasher64, Narrow>();
-    let three = members::<u8>(&three_keys()).ok();
-    let one_unit = members::<()>(&one_unit()).ok();
+    let members = [members::<u8>(&three_keys()), members::<()>(&one_unit())];
+    let three = [Some(2), Some(1), Some(0), None, None];
+    let one_unit = [Some(0), None, None, None, None];
     expect_eq!(rt;
-        (three, one_unit),
-        (
-            Some((3, [Some(2), Some(1), Some(0), None, None], (0, Some(0)))),
-            Some((1, [Some(0), None, None, None, None], (0, Some(0))))
-        )
+        members,
+        [Ok((3, three, (0, Some(0)))), Ok((1, one_unit, (0, Some(0))))]
     );
 }

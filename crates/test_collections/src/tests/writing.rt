@@ -1,7 +1,7 @@
 //! Tests of the written bytes of maps and sets.
 
 use crate::tests::archives::{is_map_archive, map_archive};
-use crate::tests::query_results::{counts, small};
+use crate::tests::query_results::{expect_counts, expect_values};
 use rkyv_base::{Narrow, NoMemory, Represents, Serialize, VecWriter, WriteError};
 use rkyv_collections::map::laws::written::{listed_pairs_are_written, written_maps_represent};
 use rkyv_collections::set::laws::written::{listed_items_are_written, written_sets_represent};
@@ -10,6 +10,7 @@ use rkyv_collections::{ArchivedHashMap, ArchivedHashSet, MapPairs};
 use rkyv_keys::{KeyElement, NativeKey};
 use rkyv_scan::FxHasher64;
 use std::alloc::Global;
+use std::test::Fail;
 use test_support::archives::{four_pairs_backwards, nested, no_items, three_keys};
 use test_support::written::is_then_empty;
 
@@ -74,15 +75,12 @@ fn maps_are_written(rt: HostRuntime) {
         3, 4, 1, 2, 0, 0, 7, 8, 5, 6, 0x4b, 0x1d, 0xff, 0x28, 0x7a, 0x4b, 0x1d, 0xff, 0x28, 0x7a,
     ];
     let written = [
-        map_pos(alloc, &[(1, 2)], &one, 27).ok(),
-        map_pos(alloc, &[(1, 2), (1, 9)], &twice, 25).ok(),
-        map_pos(alloc, &[(1, 2), (3, 4), (5, 6), (7, 8)], &four, 21).ok(),
-        map_pos(alloc, &[], &[], 0).ok(),
+        map_pos(alloc, &[(1, 2)], &one, 27),
+        map_pos(alloc, &[(1, 2), (1, 9)], &twice, 25),
+        map_pos(alloc, &[(1, 2), (3, 4), (5, 6), (7, 8)], &four, 21),
+        map_pos(alloc, &[], &[], 0),
     ];
-    expect_eq!(rt;
-        written,
-        [Some(Some(4)), Some(Some(6)), Some(Some(10)), Some(Some(0))]
-    );
+    expect_eq!(rt; written, [Ok(Some(4)), Ok(Some(6)), Ok(Some(10)), Ok(Some(0))]);
 }
 
 #[test]
@@ -101,15 +99,12 @@ fn sets_are_written(rt: HostRuntime) {
     let alloc = rt.alloc();
     let three = [3, 2, 1, 0, 0xff, 0x28, 0x51, 0x7a, 0xff, 0x28, 0x51, 0x7a];
     let written = [
-        set_pos::<()>(alloc, &[()], &[0, 0xff, 0], 28).ok(),
-        set_pos::<()>(alloc, &[(), ()], &[0, 0, 0xff, 0, 0], 26).ok(),
-        set_pos::<u8>(alloc, &[1, 2, 3], &three, 23).ok(),
-        set_pos::<u8>(alloc, &[], &[], 0).ok(),
+        set_pos::<()>(alloc, &[()], &[0, 0xff, 0], 28),
+        set_pos::<()>(alloc, &[(), ()], &[0, 0, 0xff, 0, 0], 26),
+        set_pos::<u8>(alloc, &[1, 2, 3], &three, 23),
+        set_pos::<u8>(alloc, &[], &[], 0),
     ];
-    expect_eq!(rt;
-        written,
-        [Some(Some(0)), Some(Some(0)), Some(Some(4)), Some(Some(0))]
-    );
+    expect_eq!(rt; written, [Ok(Some(0)), Ok(Some(0)), Ok(Some(4)), Ok(Some(0))]);
 }
 
 // Returns the header of the set of 1, 2 and 3 at position 36, and whether it fits.
@@ -137,7 +132,7 @@ fn set_header(alloc: Global) -> Result<([u8; 12], bool), WriteError<NoMemory>> {
 fn the_header_of_a_set(rt: HostRuntime) {
     let mut header = [0; 12];
     header.copy_from_slice(&three_keys()[36..]);
-    expect_eq!(rt; set_header(rt.alloc()).ok(), Some((header, true)));
+    expect_eq!(rt; set_header(rt.alloc()), Ok((header, true)));
 }
 
 // Returns the header of the map of 1 to 2 at a position, and whether its distance fits.
@@ -166,20 +161,13 @@ fn map_header(alloc: Global, pos: u32) -> Result<([u8; 12], bool), WriteError<No
 #[test]
 fn the_header_of_a_map(rt: HostRuntime) {
     let headers = [
-        map_header(rt.alloc(), 36).ok(),
-        map_header(rt.alloc(), 2_147_483_652).ok(),
-        map_header(rt.alloc(), 2_147_483_656).ok(),
+        map_header(rt.alloc(), 36),
+        map_header(rt.alloc(), 2_147_483_652),
+        map_header(rt.alloc(), 2_147_483_656),
     ];
     let near = [0xe0, 0xff, 0xff, 0xff, 1, 0, 0, 0, 2, 0, 0, 0];
     let farthest = [0, 0, 0, 0x80, 1, 0, 0, 0, 2, 0, 0, 0];
-    expect_eq!(rt;
-        headers,
-        [
-            Some((near, true)),
-            Some((farthest, true)),
-            Some(([7; 12], false))
-        ]
-    );
+    expect_eq!(rt; headers, [Ok((near, true)), Ok((farthest, true)), Ok(([7; 12], false))]);
 }
 
 #[test]
@@ -189,34 +177,20 @@ fn the_empty_map(rt: HostRuntime) {
 }
 
 // Returns the archive of a list of five pairs, two of them with one key.
-fn archived_list(alloc: Global) -> Option<Vec<u8>> {
-    map_archive::<i8, i8>(alloc, &[(1, 2), (3, 4), (5, 6), (7, 8), (3, 9)]).ok()
-}
-
-// Returns the values of the keys 3, 7 and 2 in a map.
-fn three_values(bytes: &[u8]) -> [Option<Option<i8>>; 3] {
-    [small(bytes, 3), small(bytes, 7), small(bytes, 2)]
-}
-
-// Returns the same values in the archive of that list, and its counts.
-fn list_values(alloc: Global) -> Option<([Option<Option<i8>>; 3], Option<(bool, usize, usize)>)> {
-    let bytes = archived_list(alloc)?;
-    let bytes = bytes.as_slice();
-    Some((
-        three_values(bytes),
-        counts::<i8, i8, FxHasher64, Narrow>(bytes).ok(),
-    ))
+fn archived_list(alloc: Global) -> Result<Vec<u8>, WriteError<NoMemory>> {
+    map_archive::<i8, i8>(alloc, &[(1, 2), (3, 4), (5, 6), (7, 8), (3, 9)])
 }
 
 #[test]
-fn a_list_is_looked_up(rt: HostRuntime) {
-    expect_eq!(rt;
-        list_values(rt.alloc()),
-        Some((
-            [Some(Some(4)), Some(Some(8)), Some(None)],
-            Some((false, 5, 6))
-        ))
+fn a_list_is_looked_up(rt: HostRuntime) -> Result<(), Fail> {
+    let bytes = archived_list(rt.alloc())?;
+    expect_values(
+        &rt,
+        bytes.as_slice(),
+        &[(3, Some(4)), (7, Some(8)), (2, None)],
     );
+    expect_counts(&rt, bytes.as_slice(), (false, 5, 6));
+    Ok(())
 }
 
 // Returns whether the map of 1 to the map of 1 to 2 is archived as `bytes`.
