@@ -20,38 +20,38 @@ fn set_small<W: IndexWidth>(bytes: &mut [u8], key: i8, value: i8) -> Result<bool
 #[test]
 fn a_value_is_written_by_its_key(rt: HostRuntime) {
     let mut bytes = four_entries();
-    let set = set_small::<Narrow>(&mut bytes, 5, 60).ok();
+    let set = set_small::<Narrow>(&mut bytes, 5, 60);
     let mut expected = four_entries();
     expected[56] = 60;
     let mut wide = wide_pair();
-    let wide_set = set_small::<Wide>(&mut wide, 1, 20).ok();
+    let wide_set = set_small::<Wide>(&mut wide, 1, 20);
     let mut wide_expected = wide_pair();
     wide_expected[48] = 20;
     expect_eq!(rt;
         (set, bytes == expected, wide_set, wide == wide_expected),
-        (Some(true), true, Some(true), true)
+        (Ok(true), true, Ok(true), true)
     );
 }
 
 #[test]
 fn no_value_is_written_of_a_missing_key(rt: HostRuntime) {
     let mut bytes = four_entries();
-    let set = set_small::<Narrow>(&mut bytes, 9, 60).ok();
+    let set = set_small::<Narrow>(&mut bytes, 9, 60);
     let mut wide = wide_pair();
-    let wide_set = set_small::<Wide>(&mut wide, 9, 20).ok();
+    let wide_set = set_small::<Wide>(&mut wide, 9, 20);
     expect_eq!(rt;
         (set, bytes == four_entries(), wide_set, wide == wide_pair()),
-        (Some(false), true, Some(false), true)
+        (Ok(false), true, Ok(false), true)
     );
 }
 
 #[test]
 fn of_equal_keys_the_first_value_is_written(rt: HostRuntime) {
     let mut bytes = one_key_twice();
-    let set = set_small::<Narrow>(&mut bytes, 1, 60).ok();
+    let set = set_small::<Narrow>(&mut bytes, 1, 60);
     let mut expected = one_key_twice();
     expected[44] = 60;
-    expect_eq!(rt; (set, bytes == expected), (Some(true), true));
+    expect_eq!(rt; (set, bytes == expected), (Ok(true), true));
 }
 
 // Writes the text of a key in upper case. Returns the result of the call.
@@ -63,16 +63,16 @@ fn uppercase_of<W: IndexWidth>(bytes: &mut [u8], key: i8) -> Result<Option<bool>
 #[test]
 fn an_inline_text_is_uppercased_by_its_key(rt: HostRuntime) {
     let mut bytes = two_texts();
-    let uppercased = uppercase_of::<Narrow>(&mut bytes, 1).ok();
+    let uppercased = uppercase_of::<Narrow>(&mut bytes, 1);
     let mut expected = two_texts();
     expected[56..61].copy_from_slice(b"HELLO");
     let mut wide = wide_texts();
-    let wide_uppercased = uppercase_of::<Wide>(&mut wide, 1).ok();
+    let wide_uppercased = uppercase_of::<Wide>(&mut wide, 1);
     let mut wide_expected = wide_texts();
     wide_expected[80..85].copy_from_slice(b"HELLO");
     expect_eq!(rt;
         (uppercased, bytes == expected, wide_uppercased, wide == wide_expected),
-        (Some(Some(true)), true, Some(Some(true)), true)
+        (Ok(Some(true)), true, Ok(Some(true)), true)
     );
 }
 
@@ -82,26 +82,26 @@ fn no_text_is_written_out_of_line(rt: HostRuntime) {
     let mut bytes = two_texts();
     bytes[8] = 1;
     let before = bytes;
-    let uppercased = uppercase_of::<Narrow>(&mut bytes, 1).ok();
+    let uppercased = uppercase_of::<Narrow>(&mut bytes, 1);
     let mut wide = wide_texts();
     wide[16] = 1;
     let wide_before = wide;
-    let wide_uppercased = uppercase_of::<Wide>(&mut wide, 1).ok();
+    let wide_uppercased = uppercase_of::<Wide>(&mut wide, 1);
     expect_eq!(rt;
         (uppercased, bytes == before, wide_uppercased, wide == wide_before),
-        (Some(Some(false)), true, Some(Some(false)), true)
+        (Ok(Some(false)), true, Ok(Some(false)), true)
     );
 }
 
 #[test]
 fn no_text_is_written_of_a_missing_key(rt: HostRuntime) {
     let mut bytes = two_texts();
-    let uppercased = uppercase_of::<Narrow>(&mut bytes, 9).ok();
+    let uppercased = uppercase_of::<Narrow>(&mut bytes, 9);
     let mut wide = wide_texts();
-    let wide_uppercased = uppercase_of::<Wide>(&mut wide, 9).ok();
+    let wide_uppercased = uppercase_of::<Wide>(&mut wide, 9);
     expect_eq!(rt;
         (uppercased, bytes == two_texts(), wide_uppercased, wide == wide_texts()),
-        (Some(None), true, Some(None), true)
+        (Ok(None), true, Ok(None), true)
     );
 }
 
@@ -122,7 +122,10 @@ fn write_prices(alloc: Global) -> Result<Vec<u8>, Fail> {
 // Returns the price at an index.
 fn price_at(archive: &[u8], index: usize) -> Result<Option<u32>, VerifyError> {
     let prices = ArchivedIndexMap::of(access::<Prices>(archive)?);
-    Ok(prices.get_index(index).map(|(_, price)| price.to_native()))
+    match prices.get_index(index) {
+        Some((_, price)) => Ok(Some(price.to_native())),
+        None => Ok(None),
+    }
 }
 
 // Writes two prices. Returns the results, and all prices afterwards.
@@ -143,8 +146,8 @@ fn set_prices(archive: &mut [u8]) -> Result<([bool; 2], [Option<u32>; 3]), Verif
 fn a_price_is_written_by_its_name(rt: HostRuntime) -> Result<(), Fail> {
     let mut archive = write_prices(rt.alloc())?;
     expect_eq!(rt;
-        set_prices(archive.as_mut_slice()).ok(),
-        Some(([true, false], [Some(9), Some(4), Some(5)]))
+        set_prices(archive.as_mut_slice()),
+        Ok(([true, false], [Some(9), Some(4), Some(5)]))
     );
     Ok(())
 }

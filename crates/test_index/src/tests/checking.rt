@@ -1,11 +1,12 @@
 //! Tests of valid and invalid archives of index maps.
 
 use crate::tests::archives::{no_pairs, no_wide_pairs, one_pair, wide_pair};
-use crate::tests::opened::small_map;
+use crate::tests::forms::{found, pair};
+use crate::tests::lookups::counts;
+use crate::tests::opened::{map_in, small_map};
 use rkyv_base::access::access;
-use rkyv_base::{VerifyError, Wide, access_in};
-use rkyv_index::{ArchivedIndexMap, IndexMapOf};
-use rkyv_scan::FxHasher64;
+use rkyv_base::{Narrow, VerifyError, Wide};
+use rkyv_index::IndexMapOf;
 use std::test::Fail;
 use test_support::archives::four_entries;
 
@@ -18,43 +19,42 @@ fn index_error(bytes: &[u8]) -> (usize, usize) {
 }
 
 #[test]
-fn rejects_indices_out_of_range(rt: HostRuntime) -> Result<(), Fail> {
+fn rejects_indices_out_of_range(rt: HostRuntime) {
     let mut one = one_pair();
     one[0] = 1;
     expect_eq!(rt; index_error(&one), (1, 1));
     let mut four = four_entries();
     four[12] = 4;
     expect_eq!(rt; index_error(&four), (4, 4));
-    Ok(())
 }
 
 #[test]
-fn an_empty_bucket_may_hold_any_index(rt: HostRuntime) -> Result<(), Fail> {
+fn an_empty_bucket_may_hold_any_index(rt: HostRuntime) {
     let mut four = four_entries();
     four[8] = 4;
-    let map = small_map(&four)?;
-    expect_eq!(rt; map.len(), 4);
-    expect_eq!(rt; map.get_index_of(&5), Some(2));
+    expect_eq!(rt; (counts(&four), found::<Narrow>(&four, 5)), (Ok((4, 0)), pair(2, 5, 6)));
     let mut four = four_entries();
     four[8] = 5;
     four[12] = 4;
     expect_eq!(rt; index_error(&four), (4, 4));
-    Ok(())
 }
 
-#[test]
-fn entries_may_be_anywhere(rt: HostRuntime) -> Result<(), Fail> {
-    let mut bytes = four_entries();
-    bytes[72] = 0xec;
-    let map = small_map(&bytes)?;
+// Returns the pairs of a map as digits.
+fn digits(bytes: &[u8]) -> Result<i32, VerifyError> {
     let mut digits = 0i32;
-    for (key, value) in map {
+    for (key, value) in small_map(bytes)? {
         let pair = i32::from(key.to_native()).wrapping_mul(10);
         let pair = pair.wrapping_add(i32::from(value.to_native()));
         digits = digits.wrapping_mul(100).wrapping_add(pair);
     }
-    expect_eq!(rt; digits, 23456780);
-    Ok(())
+    Ok(digits)
+}
+
+#[test]
+fn entries_may_be_anywhere(rt: HostRuntime) {
+    let mut bytes = four_entries();
+    bytes[72] = 0xec;
+    expect_eq!(rt; digits(&bytes), Ok(23456780));
 }
 
 #[test]
@@ -65,8 +65,7 @@ fn empty_maps_are_accepted(rt: HostRuntime) -> Result<(), Fail> {
     assert!(rt; map.get(&5).is_none());
     assert!(rt; map.iter().next().is_none());
     let wide = no_wide_pairs();
-    let root = access_in::<Wide, IndexMapOf<i8, i8, FxHasher64, Wide>>(&wide)?;
-    assert!(rt; ArchivedIndexMap::of(root).is_empty());
+    assert!(rt; map_in::<Wide>(&wide)?.is_empty());
     Ok(())
 }
 
@@ -96,14 +95,6 @@ fn the_row_of_no_entries_is_validated(rt: HostRuntime) {
 }
 
 #[test]
-fn a_wide_map_is_accepted(rt: HostRuntime) -> Result<(), Fail> {
-    let bytes = wide_pair();
-    let root = access_in::<Wide, IndexMapOf<i8, i8, FxHasher64, Wide>>(&bytes)?;
-    let map = ArchivedIndexMap::of(root);
-    let found = match map.get_full(&1) {
-        Some((index, _, value)) => (index, value.to_native()),
-        None => (9, 0),
-    };
-    expect_eq!(rt; found, (0, 2));
-    Ok(())
+fn a_wide_map_is_accepted(rt: HostRuntime) {
+    expect_eq!(rt; found::<Wide>(&wide_pair(), 1), pair(0, 1, 2));
 }

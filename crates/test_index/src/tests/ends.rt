@@ -1,6 +1,7 @@
 //! Tests of the first and the last pair of index maps, those of index sets, and values by `index`.
 
 use crate::tests::archives::{no_pairs, no_wide_pairs, one_key_twice, wide_key, wide_pair};
+use crate::tests::opened::map_in;
 use rkyv_base::{Narrow, VerifyError, Wide, access_in};
 use rkyv_index::{ArchivedIndexMap, ArchivedIndexSet, IndexMapOf, IndexSetOf, IndexWidth};
 use rkyv_scan::FxHasher64;
@@ -10,7 +11,7 @@ type Ends = (Option<(i8, i8)>, Option<(i8, i8)>);
 
 // Returns the first and the last pair of a map.
 fn ends<W: IndexWidth>(bytes: &[u8]) -> Result<Ends, VerifyError> {
-    let map = ArchivedIndexMap::of(access_in::<W, IndexMapOf<i8, i8, FxHasher64, W>>(bytes)?);
+    let map = map_in::<W>(bytes)?;
     let first = match map.first() {
         Some((key, value)) => Some((key.to_native(), value.to_native())),
         None => None,
@@ -24,21 +25,21 @@ fn ends<W: IndexWidth>(bytes: &[u8]) -> Result<Ends, VerifyError> {
 
 #[test]
 fn the_first_and_the_last_pair_are_read(rt: HostRuntime) {
-    let four = ends::<Narrow>(&four_entries()).ok();
-    let twice = ends::<Narrow>(&one_key_twice()).ok();
-    let wide = ends::<Wide>(&wide_pair()).ok();
+    let four = ends::<Narrow>(&four_entries());
+    let twice = ends::<Narrow>(&one_key_twice());
+    let wide = ends::<Wide>(&wide_pair());
     let one = Some((1, 2));
     expect_eq!(rt;
         (four, twice, wide),
-        (Some((one, Some((7, 8)))), Some((one, Some((1, 9)))), Some((one, one)))
+        (Ok((one, Some((7, 8)))), Ok((one, Some((1, 9)))), Ok((one, one)))
     );
 }
 
 #[test]
 fn an_empty_map_has_no_first_and_no_last_pair(rt: HostRuntime) {
-    let narrow = ends::<Narrow>(&no_pairs()).ok();
-    let wide = ends::<Wide>(&no_wide_pairs()).ok();
-    expect_eq!(rt; (narrow, wide), (Some((None, None)), Some((None, None))));
+    let narrow = ends::<Narrow>(&no_pairs());
+    let wide = ends::<Wide>(&no_wide_pairs());
+    expect_eq!(rt; (narrow, wide), (Ok((None, None)), Ok((None, None))));
 }
 
 // Returns the first and the last key of a set.
@@ -57,14 +58,14 @@ fn end_keys<W: IndexWidth>(bytes: &[u8]) -> Result<(Option<i8>, Option<i8>), Ver
 
 #[test]
 fn the_first_and_the_last_key_are_read(rt: HostRuntime) {
-    let one = end_keys::<Narrow>(&one_index_key()).ok();
-    let wide = end_keys::<Wide>(&wide_key()).ok();
-    let none = end_keys::<Narrow>(&no_pairs()).ok();
-    let wide_none = end_keys::<Wide>(&no_wide_pairs()).ok();
-    let both = Some((Some(1), Some(1)));
+    let one = end_keys::<Narrow>(&one_index_key());
+    let wide = end_keys::<Wide>(&wide_key());
+    let none = end_keys::<Narrow>(&no_pairs());
+    let wide_none = end_keys::<Wide>(&no_wide_pairs());
+    let both = Ok((Some(1), Some(1)));
     expect_eq!(rt;
         (one, wide, none, wide_none),
-        (both, both, Some((None, None)), Some((None, None)))
+        (both, both, Ok((None, None)), Ok((None, None)))
     );
 }
 
@@ -82,10 +83,10 @@ fn indexed<W: IndexWidth>(bytes: &[u8], key: i8) -> Result<Option<i8>, VerifyErr
 fn a_key_that_is_found_has_a_value(rt: HostRuntime) {
     let four = four_entries();
     let found = [
-        indexed::<Narrow>(&four, 5).ok(),
-        indexed::<Narrow>(&four, 9).ok(),
-        indexed::<Wide>(&wide_pair(), 1).ok(),
-        indexed::<Wide>(&no_wide_pairs(), 1).ok(),
+        indexed::<Narrow>(&four, 5),
+        indexed::<Narrow>(&four, 9),
+        indexed::<Wide>(&wide_pair(), 1),
+        indexed::<Wide>(&no_wide_pairs(), 1),
     ];
-    expect_eq!(rt; found, [Some(Some(6)), Some(None), Some(Some(2)), Some(None)]);
+    expect_eq!(rt; found, [Ok(Some(6)), Ok(None), Ok(Some(2)), Ok(None)]);
 }

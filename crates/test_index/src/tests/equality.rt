@@ -1,10 +1,11 @@
 //! `==` of index maps, of index sets and of the lists that are archived as them.
 
-use crate::tests::opened::key_set;
+use crate::tests::mixed::hash_map;
+use crate::tests::opened::{key_set, map_in};
 use crate::tests::writing::{narrow, set_archive, wide};
 use rkyv_base::access::access;
-use rkyv_base::{Narrow, VerifyError, Wide, access_in, to_bytes};
-use rkyv_collections::{ArchivedHashMap, HashMapOf, MapPairs};
+use rkyv_base::{Narrow, VerifyError, Wide, to_bytes};
+use rkyv_collections::MapPairs;
 use rkyv_index::map::laws::{
     index_maps_are_compared, matched_keys_are_found, pair_lists_are_compared,
     read_index_maps_are_compared,
@@ -12,9 +13,7 @@ use rkyv_index::map::laws::{
 use rkyv_index::set::laws::{
     index_sets_are_compared, item_lists_are_compared, read_index_sets_are_compared,
 };
-use rkyv_index::{
-    ArchivedIndexMap, IndexMapOf, IndexSetOf, IndexWidth, OrderedItems, OrderedPairs,
-};
+use rkyv_index::{IndexMapOf, IndexSetOf, IndexWidth, OrderedItems, OrderedPairs};
 use rkyv_keys::ElementEq;
 use rkyv_scan::FxHasher64;
 use std::alloc::Global;
@@ -23,9 +22,7 @@ use test_support::archives::four_entries;
 
 // Whether the index maps in two archives are `==`.
 fn equal<'a, W: IndexWidth>(first: &'a [u8], second: &'a [u8]) -> Result<bool, VerifyError> {
-    let own = access_in::<W, IndexMapOf<i8, i8, FxHasher64, W>>(first)?;
-    let other = access_in::<W, IndexMapOf<i8, i8, FxHasher64, W>>(second)?;
-    Ok(ArchivedIndexMap::of(own) == ArchivedIndexMap::of(other))
+    Ok(map_in::<W>(first)? == map_in::<W>(second)?)
 }
 
 // Whether the index sets in two archives are `==`.
@@ -157,8 +154,8 @@ fn map_of_two(alloc: Global, first: (i8, i8), second: (i8, i8)) -> Result<Vec<u8
 
 // Whether the hash maps in two archives have the same keys and the same index maps.
 fn same_values(first: &[u8], second: &[u8]) -> Result<bool, VerifyError> {
-    let own = ArchivedHashMap::of(access::<HashMapOf<i8, IndexMapOf<i8, i8>>>(first)?);
-    let other = ArchivedHashMap::of(access::<HashMapOf<i8, IndexMapOf<i8, i8>>>(second)?);
+    let own = hash_map(first)?;
+    let other = hash_map(second)?;
     Ok(own.eq_map(other))
 }
 

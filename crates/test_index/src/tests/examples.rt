@@ -1,6 +1,7 @@
 //! The examples of the docs of entry points that no other test has.
 
 use crate::tests::archives::{no_pairs, one_key_twice};
+use crate::tests::opened::small_map;
 use rkyv_base::VerifyError;
 use rkyv_base::access::access;
 use rkyv_index::{ArchivedIndexMap, IndexMapOf};
@@ -40,22 +41,22 @@ fn misplaced_keys_are_counted_up_to_a_limit(rt: HostRuntime) {
     let four = four_entries();
     let twice = one_key_twice();
     let counted = [
-        misplaced_within(&four, 3).ok(),
-        misplaced_within(&four, 4).ok(),
-        misplaced_within(&four, u64::MAX).ok(),
-        misplaced_within(&twice, 1).ok(),
-        misplaced_within(&twice, 2).ok(),
-        misplaced_within(&no_pairs(), 0).ok(),
+        misplaced_within(&four, 3),
+        misplaced_within(&four, 4),
+        misplaced_within(&four, u64::MAX),
+        misplaced_within(&twice, 1),
+        misplaced_within(&twice, 2),
+        misplaced_within(&no_pairs(), 0),
     ];
     expect_eq!(rt;
         counted,
         [
-            Some(None),
-            Some(Some(0)),
-            Some(Some(0)),
-            Some(None),
-            Some(Some(1)),
-            Some(Some(0))
+            Ok(None),
+            Ok(Some(0)),
+            Ok(Some(0)),
+            Ok(None),
+            Ok(Some(1)),
+            Ok(Some(0))
         ]
     );
 }
@@ -71,16 +72,13 @@ fn misplaced_counted(archive: &[u8], limit: u64) -> Result<(Option<usize>, u64),
 #[test]
 fn the_strides_of_all_lookups_are_counted(rt: HostRuntime) {
     let four = four_entries();
-    let counted = [
-        misplaced_counted(&four, 4).ok(),
-        misplaced_counted(&four, 1).ok(),
-    ];
-    expect_eq!(rt; counted, [Some((Some(0), 4)), Some((None, 2))]);
+    let counted = [misplaced_counted(&four, 4), misplaced_counted(&four, 1)];
+    expect_eq!(rt; counted, [Ok((Some(0), 4)), Ok((None, 2))]);
 }
 
 // Counts the misplaced keys twice, and returns the strides that both counts read.
 fn counted_twice(archive: &[u8]) -> Option<([usize; 2], u64)> {
-    let map = ArchivedIndexMap::of(access::<IndexMapOf<i8, i8>>(archive).ok()?);
+    let map = small_map(archive).ok()?;
     let mut strides = Strides::new();
     let first = map.misplaced_up_to_counted(4, &mut strides)?;
     let second = map.misplaced_up_to_counted(4, &mut strides)?;

@@ -65,11 +65,11 @@ fn header_at(
 fn distances_have_32_bits(rt: HostRuntime) {
     let alloc = rt.alloc();
     let headers = [
-        header_at(alloc, &[], 2_147_483_636).ok(),
-        header_at(alloc, &[], 2_147_483_640).ok(),
-        header_at(alloc, &[(1, 2)], 44).ok(),
-        header_at(alloc, &[(1, 2)], 2_147_483_656).ok(),
-        header_at(alloc, &[(1, 2)], 2_147_483_660).ok(),
+        header_at(alloc, &[], 2_147_483_636),
+        header_at(alloc, &[], 2_147_483_640),
+        header_at(alloc, &[(1, 2)], 44),
+        header_at(alloc, &[(1, 2)], 2_147_483_656),
+        header_at(alloc, &[(1, 2)], 2_147_483_660),
     ];
     let farthest_empty = [1, 0, 0, 0, 0, 0, 0, 0, 0, 0, 0, 0, 0, 0, 0, 0x80];
     let near = [
@@ -79,11 +79,11 @@ fn distances_have_32_bits(rt: HostRuntime) {
     expect_eq!(rt;
         headers,
         [
-            Some((farthest_empty, true)),
-            Some(([7; 16], false)),
-            Some((near, true)),
-            Some((farthest, true)),
-            Some(([7; 16], false))
+            Ok((farthest_empty, true)),
+            Ok(([7; 16], false)),
+            Ok((near, true)),
+            Ok((farthest, true)),
+            Ok(([7; 16], false))
         ]
     );
 }
@@ -102,11 +102,11 @@ fn resolved_at(
 
 #[test]
 fn the_header_of_a_resolver(rt: HostRuntime) {
-    let header = resolved_at(rt.alloc(), &[(1, 2)], 44).ok();
+    let header = resolved_at(rt.alloc(), &[(1, 2)], 44);
     let expected = [
         0xdc, 0xff, 0xff, 0xff, 1, 0, 0, 0, 2, 0, 0, 0, 0xef, 0xff, 0xff, 0xff,
     ];
-    expect_eq!(rt; header, Some((expected, true)));
+    expect_eq!(rt; header, Ok((expected, true)));
 }
 
 // Does the same as `header_at`, with the index set of these keys.
@@ -130,9 +130,9 @@ fn set_header_at(
 
 #[test]
 fn the_header_of_a_set(rt: HostRuntime) {
-    let header = set_header_at(rt.alloc(), &[1], 40).ok();
+    let header = set_header_at(rt.alloc(), &[1], 40);
     let expected = [
         0xe0, 0xff, 0xff, 0xff, 1, 0, 0, 0, 2, 0, 0, 0, 0xf3, 0xff, 0xff, 0xff,
     ];
-    expect_eq!(rt; header, Some((expected, true)));
+    expect_eq!(rt; header, Ok((expected, true)));
 }

@@ -31,8 +31,12 @@ fn change_found<K: KeyElement, N: Scalar, H: KeyHasher, W: IndexWidth, Q: Query<
 }
 
 // Does the same in a map of `i8` to `i8`.
-fn change_small<W: IndexWidth>(bytes: &mut [u8], key: i8, byte: u8) -> Option<Option<u64>> {
-    change_found::<i8, i8, FxHasher64, W, i8>(bytes, &key, byte).ok()
+fn change_small<W: IndexWidth>(
+    bytes: &mut [u8],
+    key: i8,
+    byte: u8,
+) -> Result<Option<u64>, VerifyError> {
+    change_found::<i8, i8, FxHasher64, W, i8>(bytes, &key, byte)
 }
 
 #[test]
@@ -47,7 +51,7 @@ fn a_found_value_is_written_over_the_bare_bytes(rt: HostRuntime) {
     wide_expected[48] = 20;
     expect_eq!(rt;
         (pos, bytes == expected, wide_pos, wide == wide_expected),
-        (Some(Some(56)), true, Some(Some(48)), true)
+        (Ok(Some(56)), true, Ok(Some(48)), true)
     );
 }
 
@@ -59,7 +63,7 @@ fn lookup_of_a_missing_key_changes_nothing(rt: HostRuntime) {
     let wide_pos = change_small::<Wide>(&mut wide, 9, 20);
     expect_eq!(rt;
         (pos, bytes == four_entries(), wide_pos, wide == wide_pair()),
-        (Some(None), true, Some(None), true)
+        (Ok(None), true, Ok(None), true)
     );
 }
 
@@ -84,28 +88,28 @@ fn change_accepted<W: IndexWidth>(
 #[test]
 fn an_accepted_value_is_written_over_the_bare_bytes(rt: HostRuntime) {
     let mut bytes = four_entries();
-    let pos = change_accepted::<Narrow>(&mut bytes, 5, true, 60).ok();
+    let pos = change_accepted::<Narrow>(&mut bytes, 5, true, 60);
     let mut expected = four_entries();
     expected[56] = 60;
     let mut wide = wide_pair();
-    let wide_pos = change_accepted::<Wide>(&mut wide, 1, true, 20).ok();
+    let wide_pos = change_accepted::<Wide>(&mut wide, 1, true, 20);
     let mut wide_expected = wide_pair();
     wide_expected[48] = 20;
     expect_eq!(rt;
         (pos, bytes == expected, wide_pos, wide == wide_expected),
-        (Some(Some(56)), true, Some(Some(48)), true)
+        (Ok(Some(56)), true, Ok(Some(48)), true)
     );
 }
 
 #[test]
 fn a_value_that_is_not_accepted_is_unchanged(rt: HostRuntime) {
     let mut bytes = four_entries();
-    let pos = change_accepted::<Narrow>(&mut bytes, 5, false, 60).ok();
+    let pos = change_accepted::<Narrow>(&mut bytes, 5, false, 60);
     let mut wide = wide_pair();
-    let wide_pos = change_accepted::<Wide>(&mut wide, 1, false, 20).ok();
+    let wide_pos = change_accepted::<Wide>(&mut wide, 1, false, 20);
     expect_eq!(rt;
         (pos, bytes == four_entries(), wide_pos, wide == wide_pair()),
-        (Some(None), true, Some(None), true)
+        (Ok(None), true, Ok(None), true)
     );
 }
 
@@ -133,12 +137,15 @@ fn uppercase<A, K: KeyElement + Represents<A>, H: KeyHasher, W: IndexWidth>(
 }
 
 // Does the same in a map of `i8` to texts.
-fn uppercase_small<W: IndexWidth>(bytes: &mut [u8], index: usize) -> Option<Option<bool>> {
-    uppercase::<i8, i8, FxHasher64, W>(bytes, index).ok()
+fn uppercase_small<W: IndexWidth>(
+    bytes: &mut [u8],
+    index: usize,
+) -> Result<Option<bool>, VerifyError> {
+    uppercase::<i8, i8, FxHasher64, W>(bytes, index)
 }
 
 // Writes the texts at the first three indices in upper case. Returns the results.
-fn uppercase_three<W: IndexWidth>(bytes: &mut [u8]) -> [Option<Option<bool>>; 3] {
+fn uppercase_three<W: IndexWidth>(bytes: &mut [u8]) -> [Result<Option<bool>, VerifyError>; 3] {
     [
         uppercase_small::<W>(bytes, 0),
         uppercase_small::<W>(bytes, 1),
@@ -156,7 +163,7 @@ fn an_inline_text_is_uppercased_by_its_index(rt: HostRuntime) {
     let wide_uppercased = uppercase_three::<Wide>(&mut wide);
     let mut wide_expected = wide_texts();
     wide_expected[80..85].copy_from_slice(b"HELLO");
-    let results = [Some(Some(true)), Some(Some(false)), Some(None)];
+    let results = [Ok(Some(true)), Ok(Some(false)), Ok(None)];
     expect_eq!(rt;
         (uppercased, bytes == expected, wide_uppercased, wide == wide_expected),
         (results, true, results, true)

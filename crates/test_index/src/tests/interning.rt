@@ -35,6 +35,6 @@ fn texts_have_numbers(rt: HostRuntime) -> Result<(), Fail> {
     let alloc = rt.alloc();
     let texts = OrderedItems(vec![in alloc; "wonderful", "foo", "excellent"]?);
     let bytes = to_bytes(alloc, &texts)?;
-    expect_eq!(rt; results(bytes.as_slice()).ok(), Some((Some(2), None, true, false)));
+    expect_eq!(rt; results(bytes.as_slice()), Ok((Some(2), None, true, false)));
     Ok(())
 }

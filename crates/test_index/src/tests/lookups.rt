@@ -1,6 +1,7 @@
 //! Tests of lookups, walks, equality and printing of index maps.
 
 use crate::tests::archives::{map_in_a_map, no_pairs, one_key_twice, one_pair};
+use crate::tests::forms::{found, no_pair, pair};
 use crate::tests::opened::{Small, small_map};
 use crate::tests::writing::narrow;
 use rkyv_base::access::access;
@@ -22,8 +23,22 @@ use std::cell::Cell;
 use std::test::Fail;
 use test_support::archives::four_entries;
 
+// Returns the pair at an index.
+fn pair_at(bytes: &[u8], index: usize) -> Result<Option<(i8, i8)>, VerifyError> {
+    match small_map(bytes)?.get_index(index) {
+        Some((key, value)) => Ok(Some((key.to_native(), value.to_native()))),
+        None => Ok(None),
+    }
+}
+
+/// Returns the number of pairs, and the number of misplaced keys.
+pub(crate) fn counts(bytes: &[u8]) -> Result<(usize, usize), VerifyError> {
+    let map = small_map(bytes)?;
+    Ok((map.len(), map.misplaced()))
+}
+
 #[test]
-fn a_key_is_found_with_its_index(rt: HostRuntime) -> Result<(), Fail> {
+fn a_key_is_found_with_its_index(rt: HostRuntime) {
     index_maps_are_laid_out::<Narrow, FxHasher64, i8, i8, i8, i8>();
     items_are_yielded::<i8, i8>();
     pairs_at_are_listed::<i8, i8, i8, i8, FxHasher64, Narrow>();
@@ -33,99 +48,88 @@ fn a_key_is_found_with_its_index(rt: HostRuntime) -> Result<(), Fail> {
     values_found_are_listed::<i8, i8, i8, i8, i8, FxHasher64, Narrow>();
     scalars_found_are_listed::<i8, i8, i8, i8, FxHasher64, Narrow>();
     texts_found_are_listed::<i8, i8, i8, FxHasher64, Narrow>();
-    let bytes = four_entries();
-    let map = small_map(&bytes)?;
-    let found = match map.get_full(&7) {
-        Some((index, key, value)) => (index, key.to_native(), value.to_native()),
-        None => (0, 0, 0),
-    };
-    let second = match map.get_index(1) {
-        Some((key, value)) => (key.to_native(), value.to_native()),
-        None => (0, 0),
-    };
-    expect_eq!(rt; (found, second), ((3, 7, 8), (3, 4)));
-    let past = map.get_index(4).is_none();
-    let none = map.get_index_of(&9).is_none();
-    assert!(rt; past && none);
-    Ok(())
+    let four = four_entries();
+    expect_eq!(rt;
+        [found::<Narrow>(&four, 7), found::<Narrow>(&four, 9)],
+        [pair(3, 7, 8), no_pair()]
+    );
+    expect_eq!(rt; [pair_at(&four, 1), pair_at(&four, 4)], [Ok(Some((3, 4))), Ok(None)]);
 }
 
 // Returns the index and the value of a key, in a map whose header was decoded before.
 fn found_by_header(bytes: &[u8], key: i8) -> Result<Option<(usize, i8)>, VerifyError> {
     let root = access::<Small>(bytes)?;
     let map = ArchivedIndexMap::with_header(root, ArchivedIndexMap::of(root).header());
-    Ok(
-        map.get_full(&key)
-            .map(|(index, _, value)| (index, value.to_native())),
-    )
+    match map.get_full(&key) {
+        Some((index, _, value)) => Ok(Some((index, value.to_native()))),
+        None => Ok(None),
+    }
 }
 
 #[test]
 fn a_decoded_header_leads_to_the_same_pair(rt: HostRuntime) {
-    let found = found_by_header(&four_entries(), 7).ok();
-    expect_eq!(rt; found, Some(Some((3, 8))));
+    expect_eq!(rt; found_by_header(&four_entries(), 7), Ok(Some((3, 8))));
 }
 
 // Returns the index, the key and the value of a key, under the hasher that feeds all bits.
 fn found_by_all_bits(bytes: &[u8], key: i8) -> Result<Option<(usize, i8, i8)>, VerifyError> {
     let map = ArchivedIndexMap::of(access::<IndexMapOf<i8, i8, FxHasher64Wide>>(bytes)?);
-    Ok(map.get_full(&key).map(|(index, key, value)| (index, key.to_native(), value.to_native())))
+    match map.get_full(&key) {
+        Some((index, key, value)) => Ok(Some((index, key.to_native(), value.to_native()))),
+        None => Ok(None),
+    }
 }
 
 #[test]
 fn lookup_under_the_hasher_that_feeds_all_bits(rt: HostRuntime) {
-    expect_eq!(rt; found_by_all_bits(&one_pair(), 1).ok(), Some(Some((0, 1, 2))));
+    expect_eq!(rt; found_by_all_bits(&one_pair(), 1), Ok(Some((0, 1, 2))));
 }
 
 #[test]
-fn every_form_finds_the_same(rt: HostRuntime) -> Result<(), Fail> {
-    let bytes = four_entries();
-    let map = small_map(&bytes)?;
-    let value = match map.get(&5) {
-        Some(value) => value.to_native(),
-        None => 0,
-    };
-    let key = match map.get_key_value(&5) {
-        Some((key, _)) => key.to_native(),
-        None => 0,
-    };
-    let index = map.get_index_of(&5);
-    expect_eq!(rt; (key, value), (5, 6));
-    assert!(rt; index == Some(2));
-    assert!(rt; map.contains_key(&5));
-    Ok(())
+fn every_form_finds_the_same(rt: HostRuntime) {
+    expect_eq!(rt; found::<Narrow>(&four_entries(), 5), pair(2, 5, 6));
+}
+
+// Accepts each key.
+fn accept(_query: &i8, _key: View<'_, i8>) -> bool {
+    true
+}
+
+// Accepts no key.
+fn reject(_query: &i8, _key: View<'_, i8>) -> bool {
+    false
 }
 
 #[test]
 fn lookup_takes_a_comparison(rt: HostRuntime) -> Result<(), Fail> {
     let bytes = four_entries();
     let map = small_map(&bytes)?;
-    let found = match map.get_full_with(&5i8, |_: &i8, _: View<'_, i8>| true) {
+    let found = match map.get_full_with(&5i8, accept) {
         Some((index, _, value)) => (index, value.to_native()),
         None => (0, 0),
     };
-    let value = match map.get_with(&5i8, |_: &i8, _: View<'_, i8>| true) {
+    let value = match map.get_with(&5i8, accept) {
         Some(value) => value.to_native(),
         None => 0,
     };
-    let key = match map.get_key_value_with(&5i8, |_: &i8, _: View<'_, i8>| true) {
+    let key = match map.get_key_value_with(&5i8, accept) {
         Some((key, _)) => key.to_native(),
         None => 0,
     };
-    let index = map.get_index_of_with(&5i8, |_: &i8, _: View<'_, i8>| true);
+    let index = map.get_index_of_with(&5i8, accept);
     expect_eq!(rt; (found, value, key), ((2, 6), 6, 5));
     assert!(rt; index == Some(2));
     Ok(())
 }
 
 // Returns the number of buckets of a map.
-fn capacity(bytes: &[u8]) -> Option<usize> {
-    Some(small_map(bytes).ok()?.capacity())
+fn capacity(bytes: &[u8]) -> Result<usize, VerifyError> {
+    Ok(small_map(bytes)?.capacity())
 }
 
 #[test]
 fn the_buckets_of_a_map(rt: HostRuntime) {
-    expect_eq!(rt; [capacity(&four_entries()), capacity(&no_pairs())], [Some(5), Some(0)]);
+    expect_eq!(rt; [capacity(&four_entries()), capacity(&no_pairs())], [Ok(5), Ok(0)]);
 }
 
 #[test]
@@ -242,32 +246,16 @@ fn lengths_of_walks_are_exact(rt: HostRuntime) {
     let keys = [Some(1), Some(3), Some(5), Some(7), None, None];
     let values = [Some(2), Some(4), Some(6), Some(8), None, None];
     let left = [(4, (4, Some(4))), (2, (2, Some(2))), (0, (0, Some(0)))];
-    expect_eq!(rt; pairs_of(&bytes).ok(), Some((pairs, left)));
-    expect_eq!(rt; keys_of(&bytes).ok(), Some((keys, left)));
-    expect_eq!(rt; values_of(&bytes).ok(), Some((values, left)));
+    expect_eq!(rt; pairs_of(&bytes), Ok((pairs, left)));
+    expect_eq!(rt; keys_of(&bytes), Ok((keys, left)));
+    expect_eq!(rt; values_of(&bytes), Ok((values, left)));
 }
 
 #[test]
-fn of_equal_keys_the_first_is_found(rt: HostRuntime) -> Result<(), Fail> {
+fn of_equal_keys_the_first_is_found(rt: HostRuntime) {
     let bytes = one_key_twice();
-    let map = small_map(&bytes)?;
-    let found = match map.get_full(&1) {
-        Some((index, _, value)) => (index, value.to_native()),
-        None => (9, 0),
-    };
-    let value = match map.get(&1) {
-        Some(value) => value.to_native(),
-        None => 0,
-    };
-    let second = match map.get_index(1) {
-        Some((key, value)) => (key.to_native(), value.to_native()),
-        None => (0, 0),
-    };
-    expect_eq!(rt;
-        (map.len(), found, value, second, map.misplaced()),
-        (2, (0, 2), 2, (1, 9), 1)
-    );
-    Ok(())
+    expect_eq!(rt; found::<Narrow>(&bytes, 1), pair(0, 1, 2));
+    expect_eq!(rt; (counts(&bytes), pair_at(&bytes, 1)), (Ok((2, 1)), Ok(Some((1, 9)))));
 }
 
 #[test]
@@ -293,9 +281,9 @@ fn strides_are_counted(rt: HostRuntime) -> Result<(), Fail> {
     let mut strides = Strides::new();
     let found = map.get_index_of_counted(&5i8, |_: &i8, _: View<'_, i8>| true, &mut strides);
     let one = strides.count();
-    let rejected = map.get_index_of_counted(&5i8, |_: &i8, _: View<'_, i8>| false, &mut strides);
+    let rejected = map.get_index_of_counted(&5i8, reject, &mut strides);
     let two = strides.count();
-    let nothing = empty.get_index_of_counted(&5i8, |_: &i8, _: View<'_, i8>| true, &mut strides);
+    let nothing = empty.get_index_of_counted(&5i8, accept, &mut strides);
     expect_eq!(rt;
         (found, rejected, nothing, one, two, strides.count()),
         (Some(2), None, None, 1, 2, 2)
@@ -314,42 +302,30 @@ fn strides_of_seventeen_keys_under_one_hash(rt: HostRuntime) -> Result<(), Fail>
         None => 0,
     };
     let mut strides = Strides::new();
-    let first = map.get_index_of_counted(&1i8, |_: &i8, _: View<'_, i8>| true, &mut strides);
+    let first = map.get_index_of_counted(&1i8, accept, &mut strides);
     let one = strides.count();
     let at = |_: &i8, key: View<'_, i8>| key.pos() == last;
     let behind = map.get_index_of_counted(&1i8, at, &mut strides);
     let three = strides.count();
-    let rejected = map.get_index_of_counted(&1i8, |_: &i8, _: View<'_, i8>| false, &mut strides);
+    let rejected = map.get_index_of_counted(&1i8, reject, &mut strides);
     expect_eq!(rt; (first, behind, rejected), (Some(0), Some(16), None));
     expect_eq!(rt; (one, three, strides.count()), (1, 3, 5));
     Ok(())
 }
 
 #[test]
-fn an_index_in_two_buckets(rt: HostRuntime) -> Result<(), Fail> {
+fn an_index_in_two_buckets(rt: HostRuntime) {
     let mut bytes = one_key_twice();
     bytes[4] = 0;
-    let map = small_map(&bytes)?;
-    let found = match map.get_full(&1) {
-        Some((index, key, value)) => (index, key.to_native(), value.to_native()),
-        None => (9, 0, 0),
-    };
-    expect_eq!(rt; (found, map.misplaced()), ((0, 1, 2), 1));
-    Ok(())
+    expect_eq!(rt; (found::<Narrow>(&bytes, 1), counts(&bytes)), (pair(0, 1, 2), Ok((2, 1))));
 }
 
 #[test]
-fn a_key_that_was_changed_is_misplaced(rt: HostRuntime) -> Result<(), Fail> {
+fn a_key_that_was_changed_is_misplaced(rt: HostRuntime) {
     let mut bytes = one_pair();
     bytes[39] = 5;
-    let map = small_map(&bytes)?;
-    let pair = match map.get_index(0) {
-        Some((key, value)) => (key.to_native(), value.to_native()),
-        None => (0, 0),
-    };
-    expect_eq!(rt; (pair, map.misplaced()), ((5, 2), 1));
-    assert!(rt; map.get_full(&5).is_none());
-    Ok(())
+    expect_eq!(rt; (pair_at(&bytes, 0), counts(&bytes)), (Ok(Some((5, 2))), Ok((1, 1))));
+    expect_eq!(rt; found::<Narrow>(&bytes, 5), no_pair());
 }
 
 #[test]
@@ -401,8 +377,8 @@ fn sets_print(alloc: Global, bytes: &[u8], text: &str) -> Result<(bool, bool), V
 
 #[test]
 fn an_index_map_in_an_index_map(rt: HostRuntime) {
-    let found = nested_prints(rt.alloc(), &map_in_a_map(), "{1: {1: 2}}").ok();
-    expect_eq!(rt; found, Some((true, true)));
+    let found = nested_prints(rt.alloc(), &map_in_a_map(), "{1: {1: 2}}");
+    expect_eq!(rt; found, Ok((true, true)));
 }
 
 // Returns the archive of the index map of 1 to the index set of 4, 1 and 3.
@@ -415,20 +391,24 @@ fn set_in_a_map(alloc: Global) -> Result<Vec<u8>, Fail> {
 #[test]
 fn an_index_set_in_an_index_map(rt: HostRuntime) -> Result<(), Fail> {
     let bytes = set_in_a_map(rt.alloc())?;
-    let found = sets_print(rt.alloc(), bytes.as_slice(), "{1: {4, 1, 3}}").ok();
-    expect_eq!(rt; found, Some((true, true)));
+    let found = sets_print(rt.alloc(), bytes.as_slice(), "{1: {4, 1, 3}}");
+    expect_eq!(rt; found, Ok((true, true)));
     Ok(())
 }
 
 // Returns the length of a copy of a map.
 fn copied_len(bytes: &[u8]) -> Option<usize> {
-    let copy = small_map(bytes).ok()?.clone().ok()?;
-    Some(copy.len())
+    match small_map(bytes) {
+        Ok(map) => match map.clone() {
+            Ok(copy) => Some(copy.len()),
+            Err(_) => None,
+        },
+        Err(_) => None,
+    }
 }
 
 #[test]
-fn a_copy_of_a_map_is_read(rt: HostRuntime) -> Result<(), Fail> {
+fn a_copy_of_a_map_is_read(rt: HostRuntime) {
     clones_are_the_same::<i8, i8, FxHasher64, Narrow>();
     expect_eq!(rt; copied_len(&four_entries()), Some(4));
-    Ok(())
 }

@@ -42,18 +42,29 @@ fn value_in_map(bytes: &[u8]) -> Result<Option<i8>, VerifyError> {
     let Some(inner) = outer.get(&1i8) else {
         return Ok(None);
     };
-    let value = ArchivedHashMap::of(inner).get(&1i8);
-    Ok(value.map(|value| value.to_native()))
+    match ArchivedHashMap::of(inner).get(&1i8) {
+        Some(value) => Ok(Some(value.to_native())),
+        None => Ok(None),
+    }
+}
+
+/// Validates an archive, and returns its hash map of `i8` to index maps of `i8` to `i8`.
+pub(crate) fn hash_map(
+    bytes: &[u8],
+) -> Result<ArchivedHashMap<'_, i8, IndexMapOf<i8, i8>>, VerifyError> {
+    Ok(ArchivedHashMap::of(access::<OrderedMaps>(bytes)?))
 }
 
 // Returns the value of the key 1 in the index map of the key 1.
 fn value_in_order(bytes: &[u8]) -> Result<Option<i8>, VerifyError> {
-    let outer = ArchivedHashMap::of(access::<OrderedMaps>(bytes)?);
+    let outer = hash_map(bytes)?;
     let Some(inner) = outer.get(&1i8) else {
         return Ok(None);
     };
-    let value = ArchivedIndexMap::of(inner).get(&1i8);
-    Ok(value.map(|value| value.to_native()))
+    match ArchivedIndexMap::of(inner).get(&1i8) {
+        Some(value) => Ok(Some(value.to_native())),
+        None => Ok(None),
+    }
 }
 
 // Returns the position of the index map of a key, which is valid.
@@ -94,7 +105,13 @@ fn differences(one: &[u8], other: &[u8]) -> Option<usize> {
     if one.len() != other.len() {
         return None;
     }
-    Some(one.iter().zip(other).filter(|(a, b)| a != b).count())
+    let mut count = 0usize;
+    for pos in 0..one.len() {
+        if one.get(pos) != other.get(pos) {
+            count = count.wrapping_add(1);
+        }
+    }
+    Some(count)
 }
 
 #[test]
@@ -103,13 +120,13 @@ fn a_hash_map_in_an_index_map_is_written(rt: HostRuntime) -> Result<(), Fail> {
     let before = maps_in_order(rt.alloc())?;
     let mut bytes = maps_in_order(rt.alloc())?;
     let written = [
-        write_in_map(&mut bytes, 1, 7).ok(),
-        write_in_map(&mut bytes, 2, 8).ok(),
+        write_in_map(&mut bytes, 1, 7),
+        write_in_map(&mut bytes, 2, 8),
     ];
-    expect_eq!(rt; written, [Some(true), Some(false)]);
+    expect_eq!(rt; written, [Ok(true), Ok(false)]);
     expect_eq!(rt; differences(&before, &bytes), Some(1));
-    let values = [value_in_map(&before).ok(), value_in_map(&bytes).ok()];
-    expect_eq!(rt; values, [Some(Some(2)), Some(Some(7))]);
+    let values = [value_in_map(&before), value_in_map(&bytes)];
+    expect_eq!(rt; values, [Ok(Some(2)), Ok(Some(7))]);
     Ok(())
 }
 
@@ -120,12 +137,12 @@ fn an_index_map_in_a_hash_map_is_written(rt: HostRuntime) -> Result<(), Fail> {
     let before = ordered_maps(rt.alloc())?;
     let mut bytes = ordered_maps(rt.alloc())?;
     let written = [
-        write_in_order(&mut bytes, 1, 7).ok(),
-        write_in_order(&mut bytes, 2, 8).ok(),
+        write_in_order(&mut bytes, 1, 7),
+        write_in_order(&mut bytes, 2, 8),
     ];
-    expect_eq!(rt; written, [Some(true), Some(false)]);
+    expect_eq!(rt; written, [Ok(true), Ok(false)]);
     expect_eq!(rt; differences(&before, &bytes), Some(1));
-    let values = [value_in_order(&before).ok(), value_in_order(&bytes).ok()];
-    expect_eq!(rt; values, [Some(Some(2)), Some(Some(7))]);
+    let values = [value_in_order(&before), value_in_order(&bytes)];
+    expect_eq!(rt; values, [Ok(Some(2)), Ok(Some(7))]);
     Ok(())
 }

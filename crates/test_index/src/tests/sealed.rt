@@ -147,13 +147,13 @@ fn a_found_value_is_written_in_place(rt: HostRuntime) {
     value_writes_keep_lookups::<i8, i8, i8, FxHasher64, Narrow>();
     values_written_represent::<i8, i8, i8, i8, FxHasher64, Narrow>();
     let mut bytes = one_pair();
-    let replaced = replace::<Narrow>(&mut bytes, 1, -1).ok();
-    let found = value_of(&bytes, 1).ok();
+    let replaced = replace::<Narrow>(&mut bytes, 1, -1);
+    let found = value_of(&bytes, 1);
     let mut expected = one_pair();
     expected[40] = 0xff;
     expect_eq!(rt;
         (replaced, found, bytes == expected),
-        (Some(Some((0, 1, 2))), Some(Some(-1)), true)
+        (Ok(Some((0, 1, 2))), Ok(Some(-1)), true)
     );
 }
 
@@ -161,31 +161,31 @@ fn a_found_value_is_written_in_place(rt: HostRuntime) {
 fn a_value_of_a_wide_map_is_written_in_place(rt: HostRuntime) {
     let mut bytes = wide_pair();
     let replaced = [
-        replace::<Wide>(&mut bytes, 1, -1).ok(),
-        replace::<Wide>(&mut bytes, 2, 7).ok(),
+        replace::<Wide>(&mut bytes, 1, -1),
+        replace::<Wide>(&mut bytes, 2, 7),
     ];
     let mut expected = wide_pair();
     expected[48] = 0xff;
-    expect_eq!(rt; (replaced, bytes == expected), ([Some(Some((0, 1, 2))), Some(None)], true));
+    expect_eq!(rt; (replaced, bytes == expected), ([Ok(Some((0, 1, 2))), Ok(None)], true));
 }
 
 #[test]
 fn every_form_writes_the_same(rt: HostRuntime) {
     let mut bytes = four_entries();
     let replaced = [
-        replace::<Narrow>(&mut bytes, 7, 80).ok(),
-        replace_by(&mut bytes, 3, 40, true).ok(),
+        replace::<Narrow>(&mut bytes, 7, 80),
+        replace_by(&mut bytes, 3, 40, true),
     ];
-    let beside_key = replace_beside_key(&mut bytes, 5, 60).ok();
-    let value = replace_value(&mut bytes, 1, 20).ok();
+    let beside_key = replace_beside_key(&mut bytes, 5, 60);
+    let value = replace_value(&mut bytes, 1, 20);
     let mut expected = four_entries();
     expected[51..59].copy_from_slice(&[1, 20, 3, 40, 5, 60, 7, 80]);
     expect_eq!(rt;
         (replaced, beside_key, value, bytes == expected),
         (
-            [Some(Some((3, 7, 8))), Some(Some((1, 3, 4)))],
-            Some(Some((5, 6))),
-            Some(Some((2, 20))),
+            [Ok(Some((3, 7, 8))), Ok(Some((1, 3, 4)))],
+            Ok(Some((5, 6))),
+            Ok(Some((2, 20))),
             true,
         )
     );
@@ -194,26 +194,26 @@ fn every_form_writes_the_same(rt: HostRuntime) {
 #[test]
 fn values_found_by_a_comparison_are_written(rt: HostRuntime) {
     let (mut pair_bytes, mut value_bytes) = (four_entries(), four_entries());
-    let pair = replace_beside_key_by(&mut pair_bytes, 5, 60, true).ok();
-    let value = replace_value_by(&mut value_bytes, 5, 60, true).ok();
+    let pair = replace_beside_key_by(&mut pair_bytes, 5, 60, true);
+    let value = replace_value_by(&mut value_bytes, 5, 60, true);
     let mut expected = four_entries();
     expected[56] = 60;
     let same = [pair_bytes == expected, value_bytes == expected];
-    expect_eq!(rt; (pair, value, same), (Some(Some((5, 6))), Some(Some(6)), [true; 2]));
+    expect_eq!(rt; (pair, value, same), (Ok(Some((5, 6))), Ok(Some(6)), [true; 2]));
 }
 
 #[test]
 fn unsuccessful_lookup_returns_no_seal(rt: HostRuntime) {
     let mut bytes = four_entries();
     let full = [
-        replace::<Narrow>(&mut bytes, 9, 80).ok(),
-        replace_by(&mut bytes, 3, 40, false).ok(),
+        replace::<Narrow>(&mut bytes, 9, 80),
+        replace_by(&mut bytes, 3, 40, false),
     ];
-    let beside_key = replace_beside_key(&mut bytes, 2, 60).ok();
-    let value = replace_value(&mut bytes, 2, 20).ok();
+    let beside_key = replace_beside_key(&mut bytes, 2, 60);
+    let value = replace_value(&mut bytes, 2, 20);
     let by_comparison = (
-        replace_beside_key_by(&mut bytes, 5, 60, false).ok(),
-        replace_value_by(&mut bytes, 5, 60, false).ok(),
+        replace_beside_key_by(&mut bytes, 5, 60, false),
+        replace_value_by(&mut bytes, 5, 60, false),
     );
     expect_eq!(rt;
         (
@@ -224,10 +224,10 @@ fn unsuccessful_lookup_returns_no_seal(rt: HostRuntime) {
             bytes == four_entries()
         ),
         (
-            [Some(None); 2],
-            Some(None),
-            Some(None),
-            (Some(None), Some(None)),
+            [Ok(None); 2],
+            Ok(None),
+            Ok(None),
+            (Ok(None), Ok(None)),
             true
         )
     );
@@ -273,15 +273,15 @@ fn write_small(bytes: &mut [u8], key: i8, value: i8) -> Result<Option<usize>, Ve
 fn a_value_is_written_by_its_index(rt: HostRuntime) {
     let mut bytes = four_entries();
     let written = [
-        write_small(&mut bytes, 5, -1).ok(),
-        write_small(&mut bytes, 9, 0).ok(),
+        write_small(&mut bytes, 5, -1),
+        write_small(&mut bytes, 9, 0),
     ];
-    let found = value_of(&bytes, 5).ok();
+    let found = value_of(&bytes, 5);
     let mut expected = four_entries();
     expected[56] = 0xff;
     expect_eq!(rt;
         (written, found, bytes == expected),
-        ([Some(Some(2)), Some(None)], Some(Some(-1)), true)
+        ([Ok(Some(2)), Ok(None)], Ok(Some(-1)), true)
     );
 }
 
@@ -315,14 +315,14 @@ fn a_value_of_an_inner_map_is_written(rt: HostRuntime) {
     nested_writes_represent::<i8, OrderedPairs<i8, i8>, i8, Small, FxHasher64, Narrow>();
     let mut bytes = map_in_a_map();
     let written = [
-        write_inner(&mut bytes, 1, 1, 7).ok(),
-        write_inner(&mut bytes, 1, 2, 8).ok(),
-        write_inner(&mut bytes, 2, 1, 9).ok(),
+        write_inner(&mut bytes, 1, 1, 7),
+        write_inner(&mut bytes, 1, 2, 8),
+        write_inner(&mut bytes, 2, 1, 9),
     ];
     let mut expected = map_in_a_map();
     expected[80] = 7;
     expect_eq!(rt;
         (written, bytes == expected),
-        ([Some(true), Some(false), Some(false)], true)
+        ([Ok(true), Ok(false), Ok(false)], true)
     );
 }

@@ -129,10 +129,10 @@ fn misplaced_keys_are_counted(rt: HostRuntime) -> Result<(), Fail> {
     let mut changed = one_index_key();
     changed[39] = 5;
     let found = [
-        misplaced_and_five(twice.as_slice()).ok(),
-        misplaced_and_five(&changed).ok(),
+        misplaced_and_five(twice.as_slice()),
+        misplaced_and_five(&changed),
     ];
-    expect_eq!(rt; found, [Some((1, false)); 2]);
+    expect_eq!(rt; found, [Ok((1, false)); 2]);
     Ok(())
 }
 
@@ -158,7 +158,7 @@ fn a_walk_keeps_the_order(rt: HostRuntime) -> Result<(), Fail> {
     let bytes = set_archive(rt.alloc(), &[4, 1, 3])?;
     let keys = [Some(4), Some(1), Some(3), None, None];
     let left = [(3, (3, Some(3))), (2, (2, Some(2))), (0, (0, Some(0)))];
-    expect_eq!(rt; keys_of(bytes.as_slice()).ok(), Some((keys, left)));
+    expect_eq!(rt; keys_of(bytes.as_slice()), Ok((keys, left)));
     Ok(())
 }
 
@@ -174,10 +174,10 @@ fn equality_is_that_of_the_lists(rt: HostRuntime) -> Result<(), Fail> {
     let bytes = set_archive(rt.alloc(), &[4, 1, 3])?;
     let backwards = set_archive(rt.alloc(), &[3, 1, 4])?;
     let equal = [
-        are_equal(bytes.as_slice(), bytes.as_slice()).ok(),
-        are_equal(bytes.as_slice(), backwards.as_slice()).ok(),
+        are_equal(bytes.as_slice(), bytes.as_slice()),
+        are_equal(bytes.as_slice(), backwards.as_slice()),
     ];
-    expect_eq!(rt; equal, [Some(true), Some(false)]);
+    expect_eq!(rt; equal, [Ok(true), Ok(false)]);
     Ok(())
 }
 
@@ -202,19 +202,24 @@ fn sets_are_printed(rt: HostRuntime) -> Result<(), Fail> {
 }
 
 // Returns the number of buckets of a set.
-fn capacity(bytes: &[u8]) -> Option<usize> {
-    Some(key_set(bytes).ok()?.capacity())
+fn capacity(bytes: &[u8]) -> Result<usize, VerifyError> {
+    Ok(key_set(bytes)?.capacity())
 }
 
 #[test]
 fn the_buckets_of_a_set(rt: HostRuntime) {
-    expect_eq!(rt; capacity(&one_index_key()), Some(2));
+    expect_eq!(rt; capacity(&one_index_key()), Ok(2));
 }
 
 // Returns the length of a copy of a set.
 fn copied_len(bytes: &[u8]) -> Option<usize> {
-    let copy = key_set(bytes).ok()?.clone().ok()?;
-    Some(copy.len())
+    match key_set(bytes) {
+        Ok(set) => match set.clone() {
+            Ok(copy) => Some(copy.len()),
+            Err(_) => None,
+        },
+        Err(_) => None,
+    }
 }
 
 #[test]

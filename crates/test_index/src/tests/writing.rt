@@ -125,7 +125,7 @@ fn an_index_map_of_index_maps(rt: HostRuntime) -> Result<(), Fail> {
     let outer = OrderedPairs(vec![in alloc; (1i8, inner)]?);
     let bytes = map_archive::<Narrow, _, _>(alloc, &outer)?;
     expect_eq!(rt; bytes.as_slice(), map_in_a_map().as_slice());
-    expect_eq!(rt; inner_value(bytes.as_slice()).ok(), Some(2));
+    expect_eq!(rt; inner_value(bytes.as_slice()), Ok(2));
     Ok(())
 }
 
@@ -192,10 +192,10 @@ fn set_under(
 #[test]
 fn resolvers_have_the_given_load_factor(rt: HostRuntime) {
     let alloc = rt.alloc();
-    let maps = [map_under(alloc, (1, 1)).ok(), map_under(alloc, (1, 2)).ok()];
-    let sets = [set_under(alloc, (1, 1)).ok(), set_under(alloc, (1, 2)).ok()];
-    expect_eq!(rt; maps, [Some((2, (1, 1))), Some((2, (1, 2)))]);
-    expect_eq!(rt; sets, [Some((1, (1, 1))), Some((1, (1, 2)))]);
+    let maps = [map_under(alloc, (1, 1)), map_under(alloc, (1, 2))];
+    let sets = [set_under(alloc, (1, 1)), set_under(alloc, (1, 2))];
+    expect_eq!(rt; maps, [Ok((2, (1, 1))), Ok((2, (1, 2)))]);
+    expect_eq!(rt; sets, [Ok((1, (1, 1))), Ok((1, (1, 2)))]);
 }
 
 #[test]
