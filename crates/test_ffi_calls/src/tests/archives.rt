@@ -8,19 +8,19 @@ use test_support::archives::archive;
 
 // The header of a narrow map of one pair in two buckets, after a zero of padding.
 // Control byte 0 is 32 bytes before it.
-pub(crate) const HEADER: [u8; 13] = [0, 0xe0, 0xff, 0xff, 0xff, 1, 0, 0, 0, 2, 0, 0, 0];
+pub(crate) const HEADER: &[u8; 13] = &[0, 0xe0, 0xff, 0xff, 0xff, 1, 0, 0, 0, 2, 0, 0, 0];
 
 // The header of a narrow map of two pairs in three buckets, likewise.
-pub(crate) const HEADER_OF_TWO: [u8; 13] = [0, 0xe0, 0xff, 0xff, 0xff, 2, 0, 0, 0, 3, 0, 0, 0];
+pub(crate) const HEADER_OF_TWO: &[u8; 13] = &[0, 0xe0, 0xff, 0xff, 0xff, 2, 0, 0, 0, 3, 0, 0, 0];
 
 // The header of a wide map of one pair in two buckets, likewise.
-pub(crate) const WIDE_HEADER: [u8; 25] = [
+pub(crate) const WIDE_HEADER: &[u8; 25] = &[
     0, 0xe0, 0xff, 0xff, 0xff, 0xff, 0xff, 0xff, 0xff, 1, 0, 0, 0, 0, 0, 0, 0, 2, 0, 0, 0, 0, 0, 0,
     0,
 ];
 
 // The buckets of the map of 1 to 2 with values of 64 bits, and the first control bytes.
-const LONG_BUCKETS: [u8; 36] = [
+const LONG_BUCKETS: &[u8; 36] = &[
     1, 0, 0, 0, 0, 0, 0, 0, 2, 0, 0, 0, 0, 0, 0, 0, 0, 0, 0, 0, 0, 0, 0, 0, 0, 0, 0, 0, 0, 0, 0, 0,
     0xff, 0x28, 0xff, 0x28,
 ];
@@ -29,14 +29,14 @@ const LONG_BUCKETS: [u8; 36] = [
 ///
 /// Buckets from 0 on, controls from 32 on, header at 64.
 pub fn one_long_number() -> [u8; 76] {
-    archive(&LONG_BUCKETS, &HEADER)
+    archive(LONG_BUCKETS, HEADER)
 }
 
 /// Returns the wide map of 1 to 2, with a value of 64 bits.
 ///
 /// Buckets from 0 on, controls from 32 on, header at 64.
 pub fn one_wide_long_number() -> [u8; 88] {
-    archive(&LONG_BUCKETS, &WIDE_HEADER)
+    archive(LONG_BUCKETS, WIDE_HEADER)
 }
 
 /// Returns the map of the pairs 1 and 2, and 1 and 9, with values of 32 bits.
@@ -50,7 +50,7 @@ pub fn one_number_twice() -> [u8; 68] {
         1, 0, 0, 0, 2, 0, 0, 0, // bucket 0
         0x28, 0x28, 0xff, 0x28, 0x28,
     ];
-    archive(&front, &HEADER_OF_TWO)
+    archive(&front, HEADER_OF_TWO)
 }
 
 /// Returns the map of the pairs 1 and 2, and 4,294,967,297 and 9, with keys of 64 bits.
@@ -64,7 +64,7 @@ pub fn two_long_numbers() -> [u8; 92] {
         1, 0, 0, 0, 0, 0, 0, 0, 2, 0, 0, 0, 0, 0, 0, 0, // bucket 0
         0x28, 0x3c, 0xff, 0x28, 0x3c,
     ];
-    archive(&front, &HEADER_OF_TWO)
+    archive(&front, HEADER_OF_TWO)
 }
 
 /// Returns the map of 4,294,967,297 to 2, with a key of 64 bits, and a value of 32 or of 64 bits.
@@ -95,7 +95,7 @@ pub fn empty_text() -> [u8; 68] {
         0xff, 0xff, 0xff, 0xff, 0xff, 0xff, 0xff, 0xff, 7, 0, 0, 0, 0, 0, 0, 0, 0, 0, 0, 0, 0, 0,
         0, 0, 0xff, 0x15, 0xff, 0x15,
     ];
-    archive(&front, &HEADER)
+    archive(&front, HEADER)
 }
 
 /// Returns the map of the pairs of the empty text and 7, and of the empty text and 8.
@@ -109,7 +109,7 @@ pub fn empty_text_twice() -> [u8; 80] {
         0xff, 0xff, 0xff, 0xff, 0xff, 0xff, 0xff, 0xff, 7, 0, 0, 0, // bucket 0
         0x15, 0x15, 0xff, 0x15, 0x15,
     ];
-    archive(&front, &HEADER_OF_TWO)
+    archive(&front, HEADER_OF_TWO)
 }
 
 /// Returns the wide map of the empty text to 7, whose bytes are the same in both widths of values.
@@ -121,5 +121,5 @@ pub fn empty_wide_text() -> [u8; 104] {
         0xff, 7, 0, 0, 0, 0, 0, 0, 0, 0, 0, 0, 0, 0, 0, 0, 0, 0, 0, 0, 0, 0, 0, 0, 0, 0, 0, 0, 0,
         0, 0, 0, 0, 0xff, 0x15, 0xff, 0x15,
     ];
-    archive(&front, &WIDE_HEADER)
+    archive(&front, WIDE_HEADER)
 }

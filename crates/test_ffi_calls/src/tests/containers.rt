@@ -2,16 +2,18 @@
 //!
 //! These calls don't validate an archive, so the three bytes are none.
 
+use crate::tests::expect_equal;
 use crate::tests::support::{Numbers, numbers_of, with_byte};
 use ffi_calls::containers::{
     Codes, Opened, container_width, explain_container, open_container, update_container,
     write_header,
 };
+use std::process::Abort;
 
 /// The container of the bytes 1, 2, 3 as a narrow map of texts to numbers of 64 bits.
 ///
 /// The sums of Adler-32 are 1 + 1 + 2 + 3 = 7 and 3 + 3 * 1 + 2 * 2 + 3 = 13.
-pub(crate) const TEXTS: [u8; 35] = [
+pub(crate) const TEXTS: &[u8; 35] = &[
     0x89, b'R', b'K', b'Y', b'V', b'\r', b'\n', 0x1a, // magic bytes
     1, 0, 1, 4, 0x18, 4, 1, 0, // version, hash map, text, u64, narrow, a checksum
     3, 0, 0, 0, 0, 0, 0, 0, // length
@@ -47,7 +49,7 @@ fn set(item: u8, width: u8) -> Codes {
 
 // Returns the container of the bytes 1, 2, 3 with these contents.
 fn container(codes: Codes) -> [u8; 35] {
-    let mut bytes = TEXTS;
+    let mut bytes = *TEXTS;
     bytes[10] = codes.kind;
     bytes[11] = codes.key;
     bytes[12] = codes.value;
@@ -78,9 +80,15 @@ fn opened(bytes: &[u8], codes: Codes) -> (u32, usize) {
     (status, archive.len())
 }
 
-// Returns the status, the position and the two numbers of the first error of a container.
-fn explained(bytes: &[u8], codes: Codes) -> Numbers {
-    numbers_of(explain_container(bytes, codes))
+// Fails the test unless opening a container has this status, and finds an archive of this length.
+fn expect_opened(rt: &impl Abort, bytes: &[u8], codes: Codes, expected: (u32, usize)) {
+    expect_equal(rt, opened(bytes, codes), expected);
+}
+
+/// Fails the test unless the first error of a container has this status, this position and these
+/// numbers.
+pub(crate) fn expect_explained(rt: &impl Abort, bytes: &[u8], codes: Codes, expected: Numbers) {
+    expect_equal(rt, numbers_of(explain_container(bytes, codes)), expected);
 }
 
 // Returns the status of writing a header, and whether the header is then `expected`.
@@ -100,13 +108,13 @@ fn writes_codes(codes: Codes, expected: &[u8]) -> (u32, bool) {
 
 // Returns the status of opening the container with another byte at `pos`.
 fn status_with(pos: usize, byte: u8) -> u32 {
-    let bytes = with_byte(TEXTS, pos, byte);
+    let bytes = with_byte(*TEXTS, pos, byte);
     opened(&bytes, map(4, 0x18, 4)).0
 }
 
 // Returns the status of updating the container with another byte at `pos`, and the byte at 24.
 fn updated_with(pos: usize, byte: u8) -> (u32, u8) {
-    let mut bytes = with_byte(TEXTS, pos, byte);
+    let mut bytes = with_byte(*TEXTS, pos, byte);
     let status = update_container(&mut bytes);
     (status, bytes[24])
 }
@@ -120,84 +128,83 @@ fn width_of(bytes: &[u8], before: bool) -> (u32, bool) {
 
 #[test]
 fn containers_open_as_their_own_form(rt: HostRuntime) {
-    expect_eq!(rt; opened(&TEXTS, map(4, 0x18, 4)), (0, 3));
-    expect_eq!(rt; opened(&TEXTS, map(0x14, 0x18, 4)), (43, 0));
-    expect_eq!(rt; opened(&TEXTS, map(4, 0x14, 4)), (44, 0));
-    expect_eq!(rt; opened(&TEXTS, map(4, 0x18, 8)), (45, 0));
-    expect_eq!(rt; opened(&TEXTS, map(0x14, 0x14, 8)), (43, 0));
-    expect_eq!(rt; opened(&TEXTS, map(0x18, 0x18, 4)), (43, 0));
+    expect_opened(&rt, TEXTS, map(4, 0x18, 4), (0, 3));
+    expect_opened(&rt, TEXTS, map(0x14, 0x18, 4), (43, 0));
+    expect_opened(&rt, TEXTS, map(4, 0x14, 4), (44, 0));
+    expect_opened(&rt, TEXTS, map(4, 0x18, 8), (45, 0));
+    expect_opened(&rt, TEXTS, map(0x14, 0x14, 8), (43, 0));
+    expect_opened(&rt, TEXTS, map(0x18, 0x18, 4), (43, 0));
 }
 
 #[test]
 fn containers_of_long_numbers_open_as_their_own_form(rt: HostRuntime) {
     let numbers = container(map(0x18, 0x14, 8));
-    expect_eq!(rt; opened(&numbers, map(0x18, 0x14, 8)), (0, 3));
-    expect_eq!(rt; opened(&numbers, map(0x14, 0x14, 8)), (43, 0));
-    expect_eq!(rt; opened(&numbers, map(0x18, 0x18, 8)), (44, 0));
-    expect_eq!(rt; opened(&numbers, map(0x18, 0x14, 4)), (45, 0));
+    expect_opened(&rt, &numbers, map(0x18, 0x14, 8), (0, 3));
+    expect_opened(&rt, &numbers, map(0x14, 0x14, 8), (43, 0));
+    expect_opened(&rt, &numbers, map(0x18, 0x18, 8), (44, 0));
+    expect_opened(&rt, &numbers, map(0x18, 0x14, 4), (45, 0));
 }
 
 #[test]
 fn containers_of_index_maps_open_as_their_own_form(rt: HostRuntime) {
     let texts = container(index_map(4, 0x18, 4));
-    expect_eq!(rt; opened(&texts, index_map(4, 0x18, 4)), (0, 3));
-    expect_eq!(rt; opened(&texts, index_map(0x14, 0x18, 4)), (43, 0));
-    expect_eq!(rt; opened(&texts, index_map(4, 0x14, 4)), (44, 0));
-    expect_eq!(rt; opened(&texts, index_map(4, 0x18, 8)), (45, 0));
-    expect_eq!(rt; opened(cut(&texts), index_map(4, 0x18, 4)), (46, 0));
-    expect_eq!(rt; opened(&TEXTS, index_map(4, 0x18, 4)), (42, 0));
-    expect_eq!(rt; opened(&texts, map(4, 0x18, 4)), (42, 0));
+    expect_opened(&rt, &texts, index_map(4, 0x18, 4), (0, 3));
+    expect_opened(&rt, &texts, index_map(0x14, 0x18, 4), (43, 0));
+    expect_opened(&rt, &texts, index_map(4, 0x14, 4), (44, 0));
+    expect_opened(&rt, &texts, index_map(4, 0x18, 8), (45, 0));
+    expect_opened(&rt, cut(&texts), index_map(4, 0x18, 4), (46, 0));
+    expect_opened(&rt, TEXTS, index_map(4, 0x18, 4), (42, 0));
+    expect_opened(&rt, &texts, map(4, 0x18, 4), (42, 0));
 }
 
 #[test]
 fn containers_to_texts_open_as_their_own_form(rt: HostRuntime) {
     let texts = container(map(4, 4, 4));
     let wide = container(map(0x14, 4, 8));
-    expect_eq!(rt; opened(&texts, map(4, 4, 4)), (0, 3));
-    expect_eq!(rt; opened(&wide, map(0x14, 4, 8)), (0, 3));
-    expect_eq!(rt; opened(&texts, map(0x14, 4, 4)), (43, 0));
-    expect_eq!(rt; opened(&texts, map(4, 4, 8)), (45, 0));
-    expect_eq!(rt; opened(&wide, map(4, 4, 8)), (43, 0));
-    expect_eq!(rt; opened(&TEXTS, map(4, 4, 4)), (44, 0));
-    expect_eq!(rt; opened(&texts, map(4, 0x18, 4)), (44, 0));
+    expect_opened(&rt, &texts, map(4, 4, 4), (0, 3));
+    expect_opened(&rt, &wide, map(0x14, 4, 8), (0, 3));
+    expect_opened(&rt, &texts, map(0x14, 4, 4), (43, 0));
+    expect_opened(&rt, &texts, map(4, 4, 8), (45, 0));
+    expect_opened(&rt, &wide, map(4, 4, 8), (43, 0));
+    expect_opened(&rt, TEXTS, map(4, 4, 4), (44, 0));
+    expect_opened(&rt, &texts, map(4, 0x18, 4), (44, 0));
 }
 
 #[test]
 fn containers_of_sets_open_as_their_own_form(rt: HostRuntime) {
     let numbers = container(set(0x14, 4));
     let texts = container(set(4, 8));
-    expect_eq!(rt; opened(&numbers, set(0x14, 4)), (0, 3));
-    expect_eq!(rt; opened(&texts, set(4, 8)), (0, 3));
-    expect_eq!(rt; opened(&numbers, set(4, 4)), (43, 0));
-    expect_eq!(rt; opened(&texts, set(4, 4)), (45, 0));
-    expect_eq!(rt; opened(&TEXTS, set(4, 4)), (42, 0));
-    expect_eq!(rt; opened(&texts, map(4, 0x18, 4)), (42, 0));
+    expect_opened(&rt, &numbers, set(0x14, 4), (0, 3));
+    expect_opened(&rt, &texts, set(4, 8), (0, 3));
+    expect_opened(&rt, &numbers, set(4, 4), (43, 0));
+    expect_opened(&rt, &texts, set(4, 4), (45, 0));
+    expect_opened(&rt, TEXTS, set(4, 4), (42, 0));
+    expect_opened(&rt, &texts, map(4, 0x18, 4), (42, 0));
 }
 
 #[test]
 fn errors_have_their_numbers(rt: HostRuntime) {
     let index = container(index_map(4, 0x18, 4));
-    expect_eq!(rt; explained(&index, index_map(4, 0x18, 4)), (0, 0, 0, 0));
-    expect_eq!(rt; explained(&TEXTS, index_map(4, 0x18, 4)), (42, 0, 3, 1));
-    expect_eq!(rt;
-        explained(&index, index_map(0x14, 0x18, 4)),
-        (43, 0, 0x14, 4)
+    expect_explained(&rt, &index, index_map(4, 0x18, 4), (0, 0, 0, 0));
+    expect_explained(&rt, TEXTS, index_map(4, 0x18, 4), (42, 0, 3, 1));
+    expect_explained(&rt, &index, index_map(0x14, 0x18, 4), (43, 0, 0x14, 4));
+    expect_explained(
+        &rt,
+        cut_header(&index),
+        index_map(4, 0x18, 4),
+        (32, 0, 31, 0),
     );
-    expect_eq!(rt;
-        explained(cut_header(&index), index_map(4, 0x18, 4)),
-        (32, 0, 31, 0)
-    );
-    expect_eq!(rt; explained(&TEXTS, set(4, 4)), (42, 0, 2, 1));
+    expect_explained(&rt, TEXTS, set(4, 4), (42, 0, 2, 1));
 }
 
 #[test]
 fn errors_of_containers_to_texts_have_their_numbers(rt: HostRuntime) {
     let texts = container(map(4, 4, 4));
-    expect_eq!(rt; explained(&texts, map(4, 4, 4)), (0, 0, 0, 0));
-    expect_eq!(rt; explained(&texts, map(0x14, 4, 4)), (43, 0, 0x14, 4));
-    expect_eq!(rt; explained(&TEXTS, map(4, 4, 4)), (44, 0, 4, 0x18));
-    expect_eq!(rt; explained(&texts, map(4, 4, 8)), (45, 0, 8, 4));
-    expect_eq!(rt; explained(&TEXTS[..31], map(4, 4, 4)), (32, 0, 31, 0));
+    expect_explained(&rt, &texts, map(4, 4, 4), (0, 0, 0, 0));
+    expect_explained(&rt, &texts, map(0x14, 4, 4), (43, 0, 0x14, 4));
+    expect_explained(&rt, TEXTS, map(4, 4, 4), (44, 0, 4, 0x18));
+    expect_explained(&rt, &texts, map(4, 4, 8), (45, 0, 8, 4));
+    expect_explained(&rt, &TEXTS[..31], map(4, 4, 4), (32, 0, 31, 0));
 }
 
 #[test]
@@ -244,36 +251,34 @@ fn headers_without_a_checksum_are_those_of_the_format(rt: HostRuntime) {
 
 #[test]
 fn codes_of_no_contents_have_a_status(rt: HostRuntime) {
-    expect_eq!(rt;
-        opened(
-            &TEXTS,
-            Codes {
-                kind: 0,
-                ..map(4, 0x18, 4)
-            }
-        ),
-        (7, 0)
+    expect_opened(
+        &rt,
+        TEXTS,
+        Codes {
+            kind: 0,
+            ..map(4, 0x18, 4)
+        },
+        (7, 0),
     );
-    expect_eq!(rt;
-        opened(
-            &TEXTS,
-            Codes {
-                kind: 5,
-                ..map(4, 0x18, 4)
-            }
-        ),
-        (7, 0)
+    expect_opened(
+        &rt,
+        TEXTS,
+        Codes {
+            kind: 5,
+            ..map(4, 0x18, 4)
+        },
+        (7, 0),
     );
-    expect_eq!(rt; opened(&TEXTS, map(6, 0x18, 4)), (7, 0));
-    expect_eq!(rt; opened(&TEXTS, map(4, 0, 4)), (7, 0));
-    expect_eq!(rt; opened(&TEXTS, map(4, 0x18, 32)), (7, 0));
-    expect_eq!(rt; explained(&TEXTS, map(4, 0x18, 0)), (7, 0, 0, 0));
+    expect_opened(&rt, TEXTS, map(6, 0x18, 4), (7, 0));
+    expect_opened(&rt, TEXTS, map(4, 0, 4), (7, 0));
+    expect_opened(&rt, TEXTS, map(4, 0x18, 32), (7, 0));
+    expect_explained(&rt, TEXTS, map(4, 0x18, 0), (7, 0, 0, 0));
     expect_eq!(rt; writes(map(4, 0x18, 64), true, &[9; 32]), (7, true));
 }
 
 #[test]
 fn wrong_headers_have_statuses(rt: HostRuntime) {
-    expect_eq!(rt; opened(&TEXTS[..31], map(4, 0x18, 4)), (32, 0));
+    expect_opened(&rt, &TEXTS[..31], map(4, 0x18, 4), (32, 0));
     expect_eq!(rt; status_with(0, 0), 33);
     expect_eq!(rt; status_with(8, 2), 34);
     expect_eq!(rt; status_with(10, 5), 35);
@@ -297,8 +302,8 @@ fn wrong_contents_have_statuses(rt: HostRuntime) {
 
 #[test]
 fn widths_are_read(rt: HostRuntime) {
-    expect_eq!(rt; width_of(&TEXTS, true), (0, false));
-    let mut wide = TEXTS;
+    expect_eq!(rt; width_of(TEXTS, true), (0, false));
+    let mut wide = *TEXTS;
     wide[13] = 8;
     expect_eq!(rt; width_of(&wide, false), (0, true));
     expect_eq!(rt; width_of(&TEXTS[..31], true), (32, true));

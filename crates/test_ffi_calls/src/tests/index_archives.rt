@@ -8,10 +8,10 @@
 use test_support::archives::archive;
 
 /// The empty index map.
-pub const NO_PAIRS: [u8; 16] = [1, 0, 0, 0, 0, 0, 0, 0, 0, 0, 0, 0, 0xf4, 0xff, 0xff, 0xff];
+pub const NO_PAIRS: &[u8; 16] = &[1, 0, 0, 0, 0, 0, 0, 0, 0, 0, 0, 0, 0xf4, 0xff, 0xff, 0xff];
 
 /// The empty wide index map.
-pub const NO_WIDE_PAIRS: [u8; 32] = [
+pub const NO_WIDE_PAIRS: &[u8; 32] = &[
     1, 0, 0, 0, 0, 0, 0, 0, 0, 0, 0, 0, 0, 0, 0, 0, 0, 0, 0, 0, 0, 0, 0, 0, 0xe8, 0xff, 0xff, 0xff,
     0xff, 0xff, 0xff, 0xff,
 ];

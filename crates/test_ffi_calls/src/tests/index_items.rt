@@ -5,7 +5,7 @@ use crate::tests::index_archives::{
     one_number, one_number_twice, one_symbol, one_wide_great_number, one_wide_long_number,
     one_wide_number, two_texts,
 };
-use crate::tests::support::{GREAT, outcome_of};
+use crate::tests::support::{GREAT, expect_outcome, expect_permitted, outcome_of};
 use ffi_calls::building::Built;
 use ffi_calls::form::{Form, LONG, SHORT, WIDE, WIDE_LONG};
 use ffi_calls::index_items::{build_index_numbers, build_index_texts};
@@ -58,29 +58,25 @@ fn text(alloc: Global, form: Form, key: &[u8], value: u64, bytes: &[u8]) -> (u32
     texts(alloc, &[Pair { key, value }], form, bytes)
 }
 
-// Returns whether the result is that of the archive, or of an allocation that fails.
-fn is_permitted(written: (u32, bool)) -> bool {
-    written == (0, true) || written == (12, true)
-}
-
 #[test]
 fn pairs_have_their_bytes_or_no_memory(rt: HostRuntime) {
     let alloc = rt.alloc();
-    assert!(rt; is_permitted(one(alloc, SHORT, &one_number())));
-    assert!(rt; is_permitted(one(alloc, WIDE_LONG, &one_wide_long_number())));
-    assert!(rt; is_permitted(long(alloc, WIDE, GREAT, 2, &one_wide_great_number())));
-    assert!(rt; is_permitted(text(alloc, LONG, b"main", 4096, &one_symbol())));
-    assert!(rt; is_permitted(text(alloc, WIDE, b"", 7, &empty_wide_text())));
+    expect_permitted(&rt, one(alloc, SHORT, &one_number()));
+    expect_permitted(&rt, one(alloc, WIDE_LONG, &one_wide_long_number()));
+    expect_permitted(&rt, long(alloc, WIDE, GREAT, 2, &one_wide_great_number()));
+    expect_permitted(&rt, text(alloc, LONG, b"main", 4096, &one_symbol()));
+    expect_permitted(&rt, text(alloc, WIDE, b"", 7, &empty_wide_text()));
 }
 
 #[test]
 fn one_number_succeeds(rt: HostRuntime) {
-    expect_eq!(rt; one(rt.alloc(), SHORT, &one_number()), (0, true));
-    expect_eq!(rt; one(rt.alloc(), LONG, &one_long_number()), (0, true));
-    expect_eq!(rt; one(rt.alloc(), WIDE, &one_wide_number()), (0, true));
-    expect_eq!(rt;
+    expect_outcome(&rt, one(rt.alloc(), SHORT, &one_number()), (0, true));
+    expect_outcome(&rt, one(rt.alloc(), LONG, &one_long_number()), (0, true));
+    expect_outcome(&rt, one(rt.alloc(), WIDE, &one_wide_number()), (0, true));
+    expect_outcome(
+        &rt,
         one(rt.alloc(), WIDE_LONG, &one_wide_long_number()),
-        (0, true)
+        (0, true),
     );
 }
 
@@ -88,13 +84,18 @@ fn one_number_succeeds(rt: HostRuntime) {
 fn one_long_number_succeeds(rt: HostRuntime) {
     let alloc = rt.alloc();
     let done = (0, true);
-    expect_eq!(rt; long(alloc, SHORT, 1, 2, &one_long_number()), done);
-    expect_eq!(rt; long(alloc, LONG, 1, 2, &one_long_number()), done);
-    expect_eq!(rt; long(alloc, WIDE, 1, 2, &one_wide_long_number()), done);
-    expect_eq!(rt; long(alloc, WIDE_LONG, 1, 2, &one_wide_long_number()), done);
-    expect_eq!(rt;
+    expect_outcome(&rt, long(alloc, SHORT, 1, 2, &one_long_number()), done);
+    expect_outcome(&rt, long(alloc, LONG, 1, 2, &one_long_number()), done);
+    expect_outcome(&rt, long(alloc, WIDE, 1, 2, &one_wide_long_number()), done);
+    expect_outcome(
+        &rt,
+        long(alloc, WIDE_LONG, 1, 2, &one_wide_long_number()),
+        done,
+    );
+    expect_outcome(
+        &rt,
         long(alloc, WIDE_LONG, GREAT, 2, &one_wide_great_number()),
-        done
+        done,
     );
 }
 
@@ -108,9 +109,10 @@ fn a_write_of_equal_keys_succeeds(rt: HostRuntime) {
         Pair { value: 6, key: 5 },
         Pair { value: 9, key: 1 },
     ];
-    expect_eq!(rt;
+    expect_outcome(
+        &rt,
         numbers(rt.alloc(), &items, SHORT, &one_number_twice()),
-        (0, true)
+        (0, true),
     );
     let items = [
         Pair {
@@ -123,21 +125,31 @@ fn a_write_of_equal_keys_succeeds(rt: HostRuntime) {
         },
         Pair { value: 9, key: 1 },
     ];
-    expect_eq!(rt;
+    expect_outcome(
+        &rt,
         numbers(rt.alloc(), &items, LONG, &long_number_twice()),
-        (0, true)
+        (0, true),
     );
 }
 
 #[test]
 fn one_text_succeeds(rt: HostRuntime) {
     let alloc = rt.alloc();
-    expect_eq!(rt; text(alloc, SHORT, b"", 7, &empty_text()), (0, true));
-    expect_eq!(rt; text(alloc, LONG, b"main", 4096, &one_symbol()), (0, true));
-    expect_eq!(rt; text(alloc, WIDE, b"", 7, &empty_wide_text()), (0, true));
-    expect_eq!(rt;
+    expect_outcome(&rt, text(alloc, SHORT, b"", 7, &empty_text()), (0, true));
+    expect_outcome(
+        &rt,
+        text(alloc, LONG, b"main", 4096, &one_symbol()),
+        (0, true),
+    );
+    expect_outcome(
+        &rt,
+        text(alloc, WIDE, b"", 7, &empty_wide_text()),
+        (0, true),
+    );
+    expect_outcome(
+        &rt,
         text(alloc, WIDE_LONG, b"", 7, &empty_wide_text()),
-        (0, true)
+        (0, true),
     );
 }
 
@@ -154,28 +166,40 @@ fn a_write_of_texts_out_of_line_succeeds(rt: HostRuntime) {
             key: keys[1],
         },
     ];
-    expect_eq!(rt; texts(rt.alloc(), &items, SHORT, &two_texts()), (0, true));
+    expect_outcome(
+        &rt,
+        texts(rt.alloc(), &items, SHORT, &two_texts()),
+        (0, true),
+    );
 }
 
 #[test]
 fn no_pair_succeeds(rt: HostRuntime) {
-    expect_eq!(rt;
-        numbers::<u32>(rt.alloc(), &[], SHORT, &NO_PAIRS),
-        (0, true)
+    expect_outcome(
+        &rt,
+        numbers::<u32>(rt.alloc(), &[], SHORT, NO_PAIRS),
+        (0, true),
     );
-    expect_eq!(rt;
-        numbers::<u32>(rt.alloc(), &[], WIDE, &NO_WIDE_PAIRS),
-        (0, true)
+    expect_outcome(
+        &rt,
+        numbers::<u32>(rt.alloc(), &[], WIDE, NO_WIDE_PAIRS),
+        (0, true),
     );
-    expect_eq!(rt; numbers::<u64>(rt.alloc(), &[], LONG, &NO_PAIRS), (0, true));
-    expect_eq!(rt;
-        numbers::<u64>(rt.alloc(), &[], WIDE, &NO_WIDE_PAIRS),
-        (0, true)
+    expect_outcome(
+        &rt,
+        numbers::<u64>(rt.alloc(), &[], LONG, NO_PAIRS),
+        (0, true),
     );
-    expect_eq!(rt; texts(rt.alloc(), &[], LONG, &NO_PAIRS), (0, true));
-    expect_eq!(rt;
-        texts(rt.alloc(), &[], WIDE_LONG, &NO_WIDE_PAIRS),
-        (0, true)
+    expect_outcome(
+        &rt,
+        numbers::<u64>(rt.alloc(), &[], WIDE, NO_WIDE_PAIRS),
+        (0, true),
+    );
+    expect_outcome(&rt, texts(rt.alloc(), &[], LONG, NO_PAIRS), (0, true));
+    expect_outcome(
+        &rt,
+        texts(rt.alloc(), &[], WIDE_LONG, NO_WIDE_PAIRS),
+        (0, true),
     );
 }
 
@@ -187,10 +211,10 @@ fn the_rejection_of_a_pair_succeeds(rt: HostRuntime) {
         value: large,
         key: 1u32,
     };
-    expect_eq!(rt; numbers(alloc, &[item], SHORT, &[]), (3, true));
-    expect_eq!(rt; numbers(alloc, &[item], WIDE, &[]), (3, true));
-    expect_eq!(rt; long(alloc, SHORT, GREAT, large, &[]), (3, true));
-    expect_eq!(rt; long(alloc, WIDE, 1, u64::MAX, &[]), (3, true));
-    expect_eq!(rt; text(alloc, SHORT, b"main", large, &[]), (3, true));
-    expect_eq!(rt; text(alloc, LONG, &[0x80], large, &[]), (4, true));
+    expect_outcome(&rt, numbers(alloc, &[item], SHORT, &[]), (3, true));
+    expect_outcome(&rt, numbers(alloc, &[item], WIDE, &[]), (3, true));
+    expect_outcome(&rt, long(alloc, SHORT, GREAT, large, &[]), (3, true));
+    expect_outcome(&rt, long(alloc, WIDE, 1, u64::MAX, &[]), (3, true));
+    expect_outcome(&rt, text(alloc, SHORT, b"main", large, &[]), (3, true));
+    expect_outcome(&rt, text(alloc, LONG, &[0x80], large, &[]), (4, true));
 }

@@ -3,6 +3,7 @@
 ghost use Rattle.std.specs.Prelude.{IsTrue};
 ghost use Rattle.ffi_calls.specs.{IsNumberIndex};
 
+use crate::tests::expect_equal;
 use crate::tests::index_archives::{
     NO_PAIRS, NO_WIDE_PAIRS, long_number_twice, one_long_number, one_number, one_number_twice,
     one_wide_great_number, one_wide_long_number, one_wide_number,
@@ -15,6 +16,7 @@ use ffi_calls::index_numbers::{
 use ffi_calls::pairs::{Indexed, Pair};
 use ffi_calls::reading::NumberKey;
 use ffi_calls::status::DONE;
+use std::process::Abort;
 
 /// Returns whether the archive is valid in the form.
 pub(crate) fn is_map<K: NumberKey>(archive: &[u8], form: Form) -> bool
@@ -68,158 +70,176 @@ const NINE: Pair<u32, u64> = Pair { value: 9, key: 9 };
 // A pair that no call stores, with a key of 64 bits.
 const LONG_NINE: Pair<u64, u64> = Pair { value: 9, key: 9 };
 
-// Returns how many pairs are stored over one, from an index on, and the one afterwards.
-// It is 9 to 9 at first.
-fn pair_at(archive: &[u8], form: Form, index: usize) -> Option<(usize, (u32, u64))> {
+// Fails the test unless a lookup has this result.
+fn expect_lookup(
+    rt: &impl Abort,
+    archive: &[u8],
+    form: Form,
+    key: u32,
+    expected: (usize, u32, usize, u64),
+) {
+    expect_equal(rt, lookup(archive, form, key), Some(expected));
+}
+
+// Does the same with a key of 64 bits.
+fn expect_long_lookup(
+    rt: &impl Abort,
+    archive: &[u8],
+    form: Form,
+    key: u64,
+    expected: (usize, u32, usize, u64),
+) {
+    expect_equal(rt, lookup(archive, form, key), Some(expected));
+}
+
+// Fails the test unless this many pairs are stored over one, from an index on, and the one is as
+// expected afterwards. It is 9 to 9 at first.
+fn expect_pair_at(
+    rt: &impl Abort,
+    archive: &[u8],
+    form: Form,
+    index: usize,
+    (count, pair): (usize, (u32, u64)),
+) {
     let mut pairs = [NINE];
-    let count = read(archive, form, index, &mut pairs)?;
-    Some((count, numbers_of(pairs[0])))
+    let stored = read(archive, form, index, &mut pairs);
+    expect_equal(rt, (stored, numbers_of(pairs[0])), (Some(count), pair));
 }
 
-// Returns how many pairs are stored over two, from an index on, and the two afterwards.
-// Each is 9 to 9 at first.
-fn several(archive: &[u8], form: Form, from: usize) -> Option<(usize, [(u32, u64); 2])> {
+// Fails the test unless this many pairs are stored over two, from an index on, and the two are as
+// expected afterwards. Each is 9 to 9 at first.
+fn expect_several(
+    rt: &impl Abort,
+    archive: &[u8],
+    form: Form,
+    from: usize,
+    (count, expected): (usize, [(u32, u64); 2]),
+) {
     let mut pairs = [NINE; 2];
-    let count = read(archive, form, from, &mut pairs)?;
-    Some((count, [numbers_of(pairs[0]), numbers_of(pairs[1])]))
+    let stored = read(archive, form, from, &mut pairs);
+    let found = [numbers_of(pairs[0]), numbers_of(pairs[1])];
+    expect_equal(rt, (stored, found), (Some(count), expected));
 }
 
-// Returns the same for keys of 64 bits.
-fn several_long(archive: &[u8], form: Form, from: usize) -> Option<(usize, [(u64, u64); 2])> {
+// Does the same with keys of 64 bits.
+fn expect_long_several(
+    rt: &impl Abort,
+    archive: &[u8],
+    form: Form,
+    from: usize,
+    (count, expected): (usize, [(u64, u64); 2]),
+) {
     let mut pairs = [LONG_NINE; 2];
-    let count = read(archive, form, from, &mut pairs)?;
-    Some((count, [numbers_of(pairs[0]), numbers_of(pairs[1])]))
+    let stored = read(archive, form, from, &mut pairs);
+    let found = [numbers_of(pairs[0]), numbers_of(pairs[1])];
+    expect_equal(rt, (stored, found), (Some(count), expected));
 }
 
 #[test]
 fn lookups_find_the_number(rt: HostRuntime) {
-    expect_eq!(rt; lookup(&one_number(), SHORT, 1u32), Some((1, 0, 0, 2)));
-    expect_eq!(rt; lookup(&one_long_number(), LONG, 1u32), Some((1, 0, 0, 2)));
-    expect_eq!(rt; lookup(&one_wide_number(), WIDE, 1u32), Some((1, 0, 0, 2)));
-    expect_eq!(rt;
-        lookup(&one_wide_long_number(), WIDE_LONG, 1u32),
-        Some((1, 0, 0, 2))
-    );
+    expect_lookup(&rt, &one_number(), SHORT, 1, (1, 0, 0, 2));
+    expect_lookup(&rt, &one_long_number(), LONG, 1, (1, 0, 0, 2));
+    expect_lookup(&rt, &one_wide_number(), WIDE, 1, (1, 0, 0, 2));
+    expect_lookup(&rt, &one_wide_long_number(), WIDE_LONG, 1, (1, 0, 0, 2));
 }
 
 #[test]
 fn lookups_find_no_other_number(rt: HostRuntime) {
-    expect_eq!(rt; lookup(&one_number(), SHORT, 2u32), Some((1, 1, 8, 9)));
-    expect_eq!(rt; lookup(&one_long_number(), LONG, 0u32), Some((1, 1, 8, 9)));
-    expect_eq!(rt;
-        lookup(&one_wide_number(), WIDE, u32::MAX),
-        Some((1, 1, 8, 9))
-    );
-    expect_eq!(rt;
-        lookup(&one_wide_long_number(), WIDE_LONG, 2u32),
-        Some((1, 1, 8, 9))
-    );
+    expect_lookup(&rt, &one_number(), SHORT, 2, (1, 1, 8, 9));
+    expect_lookup(&rt, &one_long_number(), LONG, 0, (1, 1, 8, 9));
+    expect_lookup(&rt, &one_wide_number(), WIDE, u32::MAX, (1, 1, 8, 9));
+    expect_lookup(&rt, &one_wide_long_number(), WIDE_LONG, 2, (1, 1, 8, 9));
 }
 
 #[test]
 fn lookups_of_long_numbers_compare_all_64_bits(rt: HostRuntime) {
-    let found = Some((1, 0, 0, 2));
-    let none = Some((1, 1, 8, 9));
-    expect_eq!(rt; lookup(&one_long_number(), SHORT, 1u64), found);
-    expect_eq!(rt; lookup(&one_long_number(), LONG, 1u64), found);
-    expect_eq!(rt; lookup(&one_wide_long_number(), WIDE, 1u64), found);
-    expect_eq!(rt; lookup(&one_wide_long_number(), WIDE_LONG, 1u64), found);
-    expect_eq!(rt; lookup(&one_wide_great_number(), WIDE, GREAT), found);
-    expect_eq!(rt; lookup(&one_long_number(), SHORT, GREAT), none);
-    expect_eq!(rt; lookup(&one_long_number(), LONG, u64::MAX), none);
-    expect_eq!(rt; lookup(&one_wide_great_number(), WIDE, 1u64), none);
-    expect_eq!(rt; lookup(&one_wide_great_number(), WIDE_LONG, 0u64), none);
+    let found = (1, 0, 0, 2);
+    let none = (1, 1, 8, 9);
+    expect_long_lookup(&rt, &one_long_number(), SHORT, 1, found);
+    expect_long_lookup(&rt, &one_long_number(), LONG, 1, found);
+    expect_long_lookup(&rt, &one_wide_long_number(), WIDE, 1, found);
+    expect_long_lookup(&rt, &one_wide_long_number(), WIDE_LONG, 1, found);
+    expect_long_lookup(&rt, &one_wide_great_number(), WIDE, GREAT, found);
+    expect_long_lookup(&rt, &one_long_number(), SHORT, GREAT, none);
+    expect_long_lookup(&rt, &one_long_number(), LONG, u64::MAX, none);
+    expect_long_lookup(&rt, &one_wide_great_number(), WIDE, 1, none);
+    expect_long_lookup(&rt, &one_wide_great_number(), WIDE_LONG, 0, none);
 }
 
 #[test]
 fn lookups_in_an_empty_map_find_nothing(rt: HostRuntime) {
-    expect_eq!(rt; lookup(&NO_PAIRS, SHORT, 1u32), Some((0, 1, 8, 9)));
-    expect_eq!(rt; lookup(&NO_PAIRS, LONG, 1u32), Some((0, 1, 8, 9)));
-    expect_eq!(rt; lookup(&NO_WIDE_PAIRS, WIDE, 1u32), Some((0, 1, 8, 9)));
-    expect_eq!(rt; lookup(&NO_WIDE_PAIRS, WIDE_LONG, 1u32), Some((0, 1, 8, 9)));
+    expect_lookup(&rt, NO_PAIRS, SHORT, 1, (0, 1, 8, 9));
+    expect_lookup(&rt, NO_PAIRS, LONG, 1, (0, 1, 8, 9));
+    expect_lookup(&rt, NO_WIDE_PAIRS, WIDE, 1, (0, 1, 8, 9));
+    expect_lookup(&rt, NO_WIDE_PAIRS, WIDE_LONG, 1, (0, 1, 8, 9));
 }
 
 #[test]
 fn lookups_find_the_first_of_equal_keys(rt: HostRuntime) {
     let bytes = one_number_twice();
-    expect_eq!(rt; lookup(&bytes, SHORT, 1u32), Some((3, 0, 0, 2)));
-    expect_eq!(rt; lookup(&bytes, SHORT, 5u32), Some((3, 0, 1, 6)));
+    expect_lookup(&rt, &bytes, SHORT, 1, (3, 0, 0, 2));
+    expect_lookup(&rt, &bytes, SHORT, 5, (3, 0, 1, 6));
     let bytes = long_number_twice();
-    expect_eq!(rt; lookup(&bytes, SHORT, 1u64), Some((3, 0, 0, 2)));
-    expect_eq!(rt; lookup(&bytes, LONG, GREAT), Some((3, 0, 1, 6)));
+    expect_long_lookup(&rt, &bytes, SHORT, 1, (3, 0, 0, 2));
+    expect_long_lookup(&rt, &bytes, LONG, GREAT, (3, 0, 1, 6));
 }
 
 #[test]
 fn pairs_are_in_insertion_order(rt: HostRuntime) {
     let bytes = one_number_twice();
-    expect_eq!(rt; pair_at(&bytes, SHORT, 0), Some((1, (1, 2))));
-    expect_eq!(rt; pair_at(&bytes, SHORT, 1), Some((1, (5, 6))));
-    expect_eq!(rt; pair_at(&bytes, SHORT, 2), Some((1, (1, 9))));
-    expect_eq!(rt; pair_at(&bytes, SHORT, 3), Some((0, (9, 9))));
+    expect_pair_at(&rt, &bytes, SHORT, 0, (1, (1, 2)));
+    expect_pair_at(&rt, &bytes, SHORT, 1, (1, (5, 6)));
+    expect_pair_at(&rt, &bytes, SHORT, 2, (1, (1, 9)));
+    expect_pair_at(&rt, &bytes, SHORT, 3, (0, (9, 9)));
 }
 
 #[test]
 fn pairs_are_read_in_each_form(rt: HostRuntime) {
-    expect_eq!(rt; pair_at(&one_long_number(), LONG, 0), Some((1, (1, 2))));
-    expect_eq!(rt; pair_at(&one_wide_number(), WIDE, 0), Some((1, (1, 2))));
-    expect_eq!(rt;
-        pair_at(&one_wide_long_number(), WIDE_LONG, 0),
-        Some((1, (1, 2)))
-    );
-    expect_eq!(rt; pair_at(&NO_PAIRS, SHORT, 0), Some((0, (9, 9))));
-    expect_eq!(rt;
-        pair_at(&one_wide_number(), WIDE, usize::MAX),
-        Some((0, (9, 9)))
-    );
+    expect_pair_at(&rt, &one_long_number(), LONG, 0, (1, (1, 2)));
+    expect_pair_at(&rt, &one_wide_number(), WIDE, 0, (1, (1, 2)));
+    expect_pair_at(&rt, &one_wide_long_number(), WIDE_LONG, 0, (1, (1, 2)));
+    expect_pair_at(&rt, NO_PAIRS, SHORT, 0, (0, (9, 9)));
+    expect_pair_at(&rt, &one_wide_number(), WIDE, usize::MAX, (0, (9, 9)));
 }
 
 #[test]
 fn several_pairs_are_stored_at_once(rt: HostRuntime) {
     let bytes = one_number_twice();
-    expect_eq!(rt; several(&bytes, SHORT, 0), Some((2, [(1, 2), (5, 6)])));
-    expect_eq!(rt; several(&bytes, SHORT, 1), Some((2, [(5, 6), (1, 9)])));
-    expect_eq!(rt; several(&bytes, SHORT, 2), Some((1, [(1, 9), (9, 9)])));
-    expect_eq!(rt; several(&bytes, SHORT, 3), Some((0, [(9, 9), (9, 9)])));
-    expect_eq!(rt;
-        several(&bytes, SHORT, usize::MAX),
-        Some((0, [(9, 9), (9, 9)]))
-    );
+    expect_several(&rt, &bytes, SHORT, 0, (2, [(1, 2), (5, 6)]));
+    expect_several(&rt, &bytes, SHORT, 1, (2, [(5, 6), (1, 9)]));
+    expect_several(&rt, &bytes, SHORT, 2, (1, [(1, 9), (9, 9)]));
+    expect_several(&rt, &bytes, SHORT, 3, (0, [(9, 9), (9, 9)]));
+    expect_several(&rt, &bytes, SHORT, usize::MAX, (0, [(9, 9), (9, 9)]));
 }
 
 #[test]
 fn several_pairs_are_stored_in_each_form(rt: HostRuntime) {
-    let one = Some((1, [(1, 2), (9, 9)]));
-    expect_eq!(rt; several(&one_long_number(), LONG, 0), one);
-    expect_eq!(rt; several(&one_wide_number(), WIDE, 0), one);
-    expect_eq!(rt; several(&one_wide_long_number(), WIDE_LONG, 0), one);
+    let one = (1, [(1, 2), (9, 9)]);
+    expect_several(&rt, &one_long_number(), LONG, 0, one);
+    expect_several(&rt, &one_wide_number(), WIDE, 0, one);
+    expect_several(&rt, &one_wide_long_number(), WIDE_LONG, 0, one);
 }
 
 #[test]
 fn several_pairs_of_long_numbers_are_stored_at_once(rt: HostRuntime) {
     let bytes = long_number_twice();
-    expect_eq!(rt;
-        several_long(&bytes, SHORT, 0),
-        Some((2, [(1, 2), (GREAT, 6)]))
+    expect_long_several(&rt, &bytes, SHORT, 0, (2, [(1, 2), (GREAT, 6)]));
+    expect_long_several(&rt, &bytes, LONG, 1, (2, [(GREAT, 6), (1, 9)]));
+    expect_long_several(&rt, &bytes, LONG, 2, (1, [(1, 9), (9, 9)]));
+    expect_long_several(&rt, &bytes, SHORT, usize::MAX, (0, [(9, 9), (9, 9)]));
+    expect_long_several(
+        &rt,
+        &one_wide_great_number(),
+        WIDE,
+        0,
+        (1, [(GREAT, 2), (9, 9)]),
     );
-    expect_eq!(rt;
-        several_long(&bytes, LONG, 1),
-        Some((2, [(GREAT, 6), (1, 9)]))
+    expect_long_several(
+        &rt,
+        &one_wide_long_number(),
+        WIDE_LONG,
+        0,
+        (1, [(1, 2), (9, 9)]),
     );
-    expect_eq!(rt; several_long(&bytes, LONG, 2), Some((1, [(1, 9), (9, 9)])));
-    expect_eq!(rt;
-        several_long(&bytes, SHORT, usize::MAX),
-        Some((0, [(9, 9), (9, 9)]))
-    );
-    expect_eq!(rt;
-        several_long(&one_wide_great_number(), WIDE, 0),
-        Some((1, [(GREAT, 2), (9, 9)]))
-    );
-    expect_eq!(rt;
-        several_long(&one_wide_long_number(), WIDE_LONG, 0),
-        Some((1, [(1, 2), (9, 9)]))
-    );
-    expect_eq!(rt;
-        several_long(&NO_WIDE_PAIRS, WIDE, 0),
-        Some((0, [(9, 9), (9, 9)]))
-    );
+    expect_long_several(&rt, NO_WIDE_PAIRS, WIDE, 0, (0, [(9, 9), (9, 9)]));
 }

@@ -3,6 +3,7 @@
 ghost use Rattle.std.specs.Prelude.{IsTrue};
 ghost use Rattle.ffi_calls.specs.{IsNumberTextIndex};
 
+use crate::tests::expect_equal;
 use crate::tests::index_archives::{NO_PAIRS, NO_WIDE_PAIRS};
 use crate::tests::index_text_archives::{
     great_to_wide_text, long_to_tea, long_to_two_texts, one_to_tea, one_to_two_texts,
@@ -16,6 +17,7 @@ use ffi_calls::index_numbers_to_texts::{
 use ffi_calls::pairs::{Indexed, Pair};
 use ffi_calls::reading::NumberKey;
 use ffi_calls::status::DONE;
+use std::process::Abort;
 
 // Returns whether the archive is valid.
 fn is_map<K: NumberKey>(archive: &[u8], wide: bool) -> bool
@@ -105,71 +107,69 @@ fn several_long(
     right.then_some(count)
 }
 
+// Fails the test unless a lookup has this result, and the value is `value` afterwards.
+fn expect_lookup(
+    rt: &impl Abort,
+    archive: &[u8],
+    wide: bool,
+    key: u32,
+    value: &[u8],
+    expected: (usize, u32, usize),
+) {
+    expect_equal(rt, lookup(archive, wide, key, value), Some(expected));
+}
+
+// Does the same with a key of 64 bits.
+fn expect_long_lookup(
+    rt: &impl Abort,
+    archive: &[u8],
+    wide: bool,
+    key: u64,
+    value: &[u8],
+    expected: (usize, u32, usize),
+) {
+    expect_equal(rt, lookup(archive, wide, key, value), Some(expected));
+}
+
 #[test]
 fn lookups_find_the_text_of_the_first_pair(rt: HostRuntime) {
-    expect_eq!(rt; lookup(&one_to_tea(), false, 1u32, b"tea"), Some((1, 0, 0)));
-    expect_eq!(rt;
-        lookup(&one_to_two_texts(), false, 1u32, b"wonderful"),
-        Some((3, 0, 0))
-    );
-    expect_eq!(rt;
-        lookup(&one_to_two_texts(), false, 5u32, b"x"),
-        Some((3, 0, 1))
-    );
-    expect_eq!(rt;
-        lookup(&one_to_wide_text(), true, 1u32, b"wonderful"),
-        Some((1, 0, 0))
-    );
+    expect_lookup(&rt, &one_to_tea(), false, 1, b"tea", (1, 0, 0));
+    expect_lookup(&rt, &one_to_two_texts(), false, 1, b"wonderful", (3, 0, 0));
+    expect_lookup(&rt, &one_to_two_texts(), false, 5, b"x", (3, 0, 1));
+    expect_lookup(&rt, &one_to_wide_text(), true, 1, b"wonderful", (1, 0, 0));
 }
 
 #[test]
 fn lookups_find_no_other_number(rt: HostRuntime) {
-    expect_eq!(rt; lookup(&one_to_tea(), false, 2u32, b"?"), Some((1, 1, 8)));
-    expect_eq!(rt;
-        lookup(&one_to_two_texts(), false, u32::MAX, b"?"),
-        Some((3, 1, 8))
-    );
-    expect_eq!(rt;
-        lookup(&one_to_wide_text(), true, 0u32, b"?"),
-        Some((1, 1, 8))
-    );
-    expect_eq!(rt; lookup(&NO_PAIRS, false, 1u32, b"?"), Some((0, 1, 8)));
-    expect_eq!(rt; lookup(&NO_WIDE_PAIRS, true, 1u32, b"?"), Some((0, 1, 8)));
+    expect_lookup(&rt, &one_to_tea(), false, 2, b"?", (1, 1, 8));
+    expect_lookup(&rt, &one_to_two_texts(), false, u32::MAX, b"?", (3, 1, 8));
+    expect_lookup(&rt, &one_to_wide_text(), true, 0, b"?", (1, 1, 8));
+    expect_lookup(&rt, NO_PAIRS, false, 1, b"?", (0, 1, 8));
+    expect_lookup(&rt, NO_WIDE_PAIRS, true, 1, b"?", (0, 1, 8));
 }
 
 #[test]
 fn lookups_find_the_text_of_a_long_number(rt: HostRuntime) {
-    expect_eq!(rt;
-        lookup(&long_to_tea(), false, 1u64, b"tea"),
-        Some((1, 0, 0))
-    );
-    expect_eq!(rt;
-        lookup(&long_to_two_texts(), false, 1u64, b"wonderful"),
-        Some((3, 0, 0))
-    );
-    expect_eq!(rt;
-        lookup(&long_to_two_texts(), false, GREAT, b"x"),
-        Some((3, 0, 1))
-    );
-    expect_eq!(rt;
-        lookup(&one_to_wide_text(), true, 1u64, b"wonderful"),
-        Some((1, 0, 0))
-    );
-    expect_eq!(rt;
-        lookup(&great_to_wide_text(), true, GREAT, b"wonderful"),
-        Some((1, 0, 0))
+    expect_long_lookup(&rt, &long_to_tea(), false, 1, b"tea", (1, 0, 0));
+    expect_long_lookup(&rt, &long_to_two_texts(), false, 1, b"wonderful", (3, 0, 0));
+    expect_long_lookup(&rt, &long_to_two_texts(), false, GREAT, b"x", (3, 0, 1));
+    expect_long_lookup(&rt, &one_to_wide_text(), true, 1, b"wonderful", (1, 0, 0));
+    expect_long_lookup(
+        &rt,
+        &great_to_wide_text(),
+        true,
+        GREAT,
+        b"wonderful",
+        (1, 0, 0),
     );
 }
 
 #[test]
 fn lookups_of_long_numbers_compare_all_64_bits(rt: HostRuntime) {
-    expect_eq!(rt; lookup(&long_to_tea(), false, GREAT, b"?"), Some((1, 1, 8)));
-    expect_eq!(rt;
-        lookup(&great_to_wide_text(), true, 1u64, b"?"),
-        Some((1, 1, 8))
-    );
-    expect_eq!(rt; lookup(&NO_PAIRS, false, 1u64, b"?"), Some((0, 1, 8)));
-    expect_eq!(rt; lookup(&NO_WIDE_PAIRS, true, GREAT, b"?"), Some((0, 1, 8)));
+    expect_long_lookup(&rt, &long_to_tea(), false, GREAT, b"?", (1, 1, 8));
+    expect_long_lookup(&rt, &great_to_wide_text(), true, 1, b"?", (1, 1, 8));
+    expect_long_lookup(&rt, NO_PAIRS, false, 1, b"?", (0, 1, 8));
+    expect_long_lookup(&rt, NO_WIDE_PAIRS, true, GREAT, b"?", (0, 1, 8));
 }
 
 #[test]
@@ -197,8 +197,8 @@ fn pairs_are_read_in_each_form(rt: HostRuntime) {
         Some(1)
     );
     expect_eq!(rt; several(&one_to_wide_text(), true, 1, nine, nine), Some(0));
-    expect_eq!(rt; several(&NO_PAIRS, false, 0, nine, nine), Some(0));
-    expect_eq!(rt; several(&NO_WIDE_PAIRS, true, 0, nine, nine), Some(0));
+    expect_eq!(rt; several(NO_PAIRS, false, 0, nine, nine), Some(0));
+    expect_eq!(rt; several(NO_WIDE_PAIRS, true, 0, nine, nine), Some(0));
 }
 
 #[test]

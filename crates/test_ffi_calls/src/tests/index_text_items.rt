@@ -5,7 +5,7 @@ use crate::tests::index_text_archives::{
     empty_to_text, empty_to_wide_text, great_to_wide_text, long_to_tea, long_to_two_texts,
     one_to_tea, one_to_two_texts, one_to_wide_text, two_texts,
 };
-use crate::tests::support::{GREAT, outcome_of};
+use crate::tests::support::{GREAT, expect_outcome, expect_permitted, outcome_of};
 use ffi_calls::building::Built;
 use ffi_calls::index_text_items::{build_index_numbers_to_texts, build_index_texts_to_texts};
 use ffi_calls::pairs::Pair;
@@ -102,17 +102,15 @@ fn two(alloc: Global, first: [&[u8]; 2], second: [&[u8]; 2], bytes: &[u8]) -> (u
     texts(alloc, &items, false, bytes)
 }
 
-// Returns whether the result is that of the archive, or of an allocation that fails.
-fn is_permitted(written: (u32, bool)) -> bool {
-    written == (0, true) || written == (12, true)
-}
-
 #[test]
 fn pairs_have_their_bytes_or_no_memory(rt: HostRuntime) {
     let alloc = rt.alloc();
-    assert!(rt; is_permitted(one(alloc, false, b"tea", &one_to_tea())));
-    assert!(rt; is_permitted(long(alloc, true, GREAT, b"wonderful", &great_to_wide_text())));
-    assert!(rt; is_permitted(text(alloc, false, b"", b"wonderful", &empty_to_text())));
+    expect_permitted(&rt, one(alloc, false, b"tea", &one_to_tea()));
+    expect_permitted(
+        &rt,
+        long(alloc, true, GREAT, b"wonderful", &great_to_wide_text()),
+    );
+    expect_permitted(&rt, text(alloc, false, b"", b"wonderful", &empty_to_text()));
 }
 
 #[test]
@@ -120,9 +118,13 @@ fn a_write_of_numbers_succeeds(rt: HostRuntime) {
     let alloc = rt.alloc();
     let done = (0, true);
     let values: [&[u8]; 3] = [b"wonderful", b"x", b"tea"];
-    expect_eq!(rt; one(alloc, false, b"tea", &one_to_tea()), done);
-    expect_eq!(rt; one(alloc, true, b"wonderful", &one_to_wide_text()), done);
-    expect_eq!(rt; three(alloc, false, values, &one_to_two_texts()), done);
+    expect_outcome(&rt, one(alloc, false, b"tea", &one_to_tea()), done);
+    expect_outcome(
+        &rt,
+        one(alloc, true, b"wonderful", &one_to_wide_text()),
+        done,
+    );
+    expect_outcome(&rt, three(alloc, false, values, &one_to_two_texts()), done);
 }
 
 #[test]
@@ -130,18 +132,21 @@ fn a_write_of_long_numbers_succeeds(rt: HostRuntime) {
     let alloc = rt.alloc();
     let done = (0, true);
     let values: [&[u8]; 3] = [b"wonderful", b"x", b"tea"];
-    expect_eq!(rt; long(alloc, false, 1, b"tea", &long_to_tea()), done);
-    expect_eq!(rt;
+    expect_outcome(&rt, long(alloc, false, 1, b"tea", &long_to_tea()), done);
+    expect_outcome(
+        &rt,
         long(alloc, true, 1, b"wonderful", &one_to_wide_text()),
-        done
+        done,
     );
-    expect_eq!(rt;
+    expect_outcome(
+        &rt,
         long(alloc, true, GREAT, b"wonderful", &great_to_wide_text()),
-        done
+        done,
     );
-    expect_eq!(rt;
+    expect_outcome(
+        &rt,
         three_long(alloc, false, values, &long_to_two_texts()),
-        done
+        done,
     );
 }
 
@@ -150,19 +155,25 @@ fn a_write_of_texts_succeeds(rt: HostRuntime) {
     let alloc = rt.alloc();
     let done = (0, true);
     let wide: &[u8] = b"a text of 17 byte";
-    expect_eq!(rt;
+    expect_outcome(
+        &rt,
         text(alloc, false, b"", b"wonderful", &empty_to_text()),
-        done
+        done,
     );
-    expect_eq!(rt; text(alloc, true, b"", wide, &empty_to_wide_text()), done);
-    expect_eq!(rt;
+    expect_outcome(
+        &rt,
+        text(alloc, true, b"", wide, &empty_to_wide_text()),
+        done,
+    );
+    expect_outcome(
+        &rt,
         two(
             alloc,
             [b"a text out of line", b"wonderful"],
             [b"b", b"x"],
-            &two_texts()
+            &two_texts(),
         ),
-        done
+        done,
     );
 }
 
@@ -170,26 +181,31 @@ fn a_write_of_texts_succeeds(rt: HostRuntime) {
 fn no_pair_succeeds(rt: HostRuntime) {
     let alloc = rt.alloc();
     let done = (0, true);
-    expect_eq!(rt; numbers::<u32>(alloc, &[], false, &NO_PAIRS), done);
-    expect_eq!(rt; numbers::<u32>(alloc, &[], true, &NO_WIDE_PAIRS), done);
-    expect_eq!(rt; numbers::<u64>(alloc, &[], false, &NO_PAIRS), done);
-    expect_eq!(rt; numbers::<u64>(alloc, &[], true, &NO_WIDE_PAIRS), done);
-    expect_eq!(rt; texts(alloc, &[], false, &NO_PAIRS), done);
-    expect_eq!(rt; texts(alloc, &[], true, &NO_WIDE_PAIRS), done);
+    expect_outcome(&rt, numbers::<u32>(alloc, &[], false, NO_PAIRS), done);
+    expect_outcome(&rt, numbers::<u32>(alloc, &[], true, NO_WIDE_PAIRS), done);
+    expect_outcome(&rt, numbers::<u64>(alloc, &[], false, NO_PAIRS), done);
+    expect_outcome(&rt, numbers::<u64>(alloc, &[], true, NO_WIDE_PAIRS), done);
+    expect_outcome(&rt, texts(alloc, &[], false, NO_PAIRS), done);
+    expect_outcome(&rt, texts(alloc, &[], true, NO_WIDE_PAIRS), done);
 }
 
 #[test]
 fn the_rejection_of_other_bytes_succeeds(rt: HostRuntime) {
     let alloc = rt.alloc();
     let rejected = (4, true);
-    expect_eq!(rt; one(alloc, false, &[0x80], &[]), rejected);
-    expect_eq!(rt; three(alloc, true, [b"x", b"", &[0xc3]], &[]), rejected);
-    expect_eq!(rt; long(alloc, true, GREAT, &[0x80], &[]), rejected);
-    expect_eq!(rt;
+    expect_outcome(&rt, one(alloc, false, &[0x80], &[]), rejected);
+    expect_outcome(&rt, three(alloc, true, [b"x", b"", &[0xc3]], &[]), rejected);
+    expect_outcome(&rt, long(alloc, true, GREAT, &[0x80], &[]), rejected);
+    expect_outcome(
+        &rt,
         three_long(alloc, false, [b"x", &[0xc3], b"x"], &[]),
-        rejected
+        rejected,
     );
-    expect_eq!(rt; text(alloc, false, &[0x80], b"x", &[]), rejected);
-    expect_eq!(rt; text(alloc, true, b"x", &[0x61, 0xff], &[]), rejected);
-    expect_eq!(rt; two(alloc, [b"x", b"x"], [&[0x80], b"x"], &[]), rejected);
+    expect_outcome(&rt, text(alloc, false, &[0x80], b"x", &[]), rejected);
+    expect_outcome(&rt, text(alloc, true, b"x", &[0x61, 0xff], &[]), rejected);
+    expect_outcome(
+        &rt,
+        two(alloc, [b"x", b"x"], [&[0x80], b"x"], &[]),
+        rejected,
+    );
 }

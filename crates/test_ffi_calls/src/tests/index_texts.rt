@@ -3,6 +3,7 @@
 ghost use Rattle.std.specs.Prelude.{IsTrue};
 ghost use Rattle.ffi_calls.specs.{IsTextIndex};
 
+use crate::tests::expect_equal;
 use crate::tests::index_archives::{
     NO_PAIRS, NO_WIDE_PAIRS, empty_text, empty_wide_text, one_symbol, two_texts,
 };
@@ -12,6 +13,7 @@ use ffi_calls::index_texts::{
 };
 use ffi_calls::pairs::{Indexed, Pair};
 use ffi_calls::status::DONE;
+use std::process::Abort;
 
 /// Returns whether the archive is valid in the form.
 pub(crate) fn is_map(archive: &[u8], form: Form) -> bool
@@ -70,37 +72,39 @@ fn several(archive: &[u8], form: Form, from: usize, key: &[u8], value: u64) -> O
     (pairs[0].key == key && pairs[0].value == value).then_some(count)
 }
 
+// Fails the test unless a lookup has this result.
+fn expect_lookup(
+    rt: &impl Abort,
+    archive: &[u8],
+    form: Form,
+    key: &[u8],
+    expected: (usize, u32, usize, u64),
+) {
+    expect_equal(rt, lookup(archive, form, key), Some(expected));
+}
+
 #[test]
 fn lookups_find_the_text(rt: HostRuntime) {
-    expect_eq!(rt; lookup(&empty_text(), SHORT, b""), Some((1, 0, 0, 7)));
-    expect_eq!(rt; lookup(&one_symbol(), LONG, b"main"), Some((1, 0, 0, 4096)));
-    expect_eq!(rt; lookup(&empty_wide_text(), WIDE, b""), Some((1, 0, 0, 7)));
-    expect_eq!(rt;
-        lookup(&empty_wide_text(), WIDE_LONG, b""),
-        Some((1, 0, 0, 7))
-    );
+    expect_lookup(&rt, &empty_text(), SHORT, b"", (1, 0, 0, 7));
+    expect_lookup(&rt, &one_symbol(), LONG, b"main", (1, 0, 0, 4096));
+    expect_lookup(&rt, &empty_wide_text(), WIDE, b"", (1, 0, 0, 7));
+    expect_lookup(&rt, &empty_wide_text(), WIDE_LONG, b"", (1, 0, 0, 7));
 }
 
 #[test]
 fn lookups_find_texts_out_of_line(rt: HostRuntime) {
     let bytes = two_texts();
-    expect_eq!(rt;
-        lookup(&bytes, SHORT, b"a text out of line"),
-        Some((2, 0, 0, 1))
-    );
-    expect_eq!(rt; lookup(&bytes, SHORT, b"b"), Some((2, 0, 1, 2)));
-    expect_eq!(rt; lookup(&bytes, SHORT, b"a text"), Some((2, 1, 8, 9)));
+    expect_lookup(&rt, &bytes, SHORT, b"a text out of line", (2, 0, 0, 1));
+    expect_lookup(&rt, &bytes, SHORT, b"b", (2, 0, 1, 2));
+    expect_lookup(&rt, &bytes, SHORT, b"a text", (2, 1, 8, 9));
 }
 
 #[test]
 fn lookups_find_no_other_text(rt: HostRuntime) {
-    expect_eq!(rt; lookup(&empty_text(), SHORT, b"a"), Some((1, 1, 8, 9)));
-    expect_eq!(rt; lookup(&NO_PAIRS, LONG, b""), Some((0, 1, 8, 9)));
-    expect_eq!(rt; lookup(&NO_WIDE_PAIRS, WIDE, b"a"), Some((0, 1, 8, 9)));
-    expect_eq!(rt;
-        lookup(&empty_wide_text(), WIDE_LONG, &[0xc3]),
-        Some((1, 4, 8, 9))
-    );
+    expect_lookup(&rt, &empty_text(), SHORT, b"a", (1, 1, 8, 9));
+    expect_lookup(&rt, NO_PAIRS, LONG, b"", (0, 1, 8, 9));
+    expect_lookup(&rt, NO_WIDE_PAIRS, WIDE, b"a", (0, 1, 8, 9));
+    expect_lookup(&rt, &empty_wide_text(), WIDE_LONG, &[0xc3], (1, 4, 8, 9));
 }
 
 #[test]
@@ -119,7 +123,7 @@ fn pairs_are_read_in_each_form(rt: HostRuntime) {
     expect_eq!(rt; pair_at(&one_symbol(), LONG, 0, b"main", 4096), Some(1));
     expect_eq!(rt; pair_at(&empty_wide_text(), WIDE, 0, b"", 7), Some(1));
     expect_eq!(rt; pair_at(&empty_wide_text(), WIDE_LONG, 0, b"", 7), Some(1));
-    expect_eq!(rt; pair_at(&NO_PAIRS, LONG, 0, b"?", 9), Some(0));
+    expect_eq!(rt; pair_at(NO_PAIRS, LONG, 0, b"?", 9), Some(0));
 }
 
 #[test]

@@ -3,6 +3,7 @@
 ghost use Rattle.std.specs.Prelude.{IsTrue};
 ghost use Rattle.ffi_calls.specs.{IsTextTextIndex};
 
+use crate::tests::expect_equal;
 use crate::tests::index_archives::{NO_PAIRS, NO_WIDE_PAIRS};
 use crate::tests::index_text_archives::{empty_to_text, empty_to_wide_text, two_texts};
 use ffi_calls::index_texts_to_texts::{
@@ -11,6 +12,7 @@ use ffi_calls::index_texts_to_texts::{
 };
 use ffi_calls::pairs::{Indexed, Pair};
 use ffi_calls::status::DONE;
+use std::process::Abort;
 
 // Returns whether the archive is valid.
 fn is_map(archive: &[u8], wide: bool) -> bool
@@ -80,55 +82,61 @@ fn several(
     right.then_some(count)
 }
 
+// Fails the test unless a lookup has this result, and the value is `value` afterwards.
+fn expect_lookup(
+    rt: &impl Abort,
+    archive: &[u8],
+    wide: bool,
+    key: &[u8],
+    value: &[u8],
+    expected: (usize, u32, usize),
+) {
+    expect_equal(rt, lookup(archive, wide, key, value), Some(expected));
+}
+
 #[test]
 fn lookups_find_the_text(rt: HostRuntime) {
-    expect_eq!(rt;
-        lookup(&empty_to_text(), false, b"", b"wonderful"),
-        Some((1, 0, 0))
+    expect_lookup(&rt, &empty_to_text(), false, b"", b"wonderful", (1, 0, 0));
+    expect_lookup(
+        &rt,
+        &two_texts(),
+        false,
+        b"a text out of line",
+        b"wonderful",
+        (2, 0, 0),
     );
-    expect_eq!(rt;
-        lookup(&two_texts(), false, b"a text out of line", b"wonderful"),
-        Some((2, 0, 0))
-    );
-    expect_eq!(rt; lookup(&two_texts(), false, b"b", b"x"), Some((2, 0, 1)));
-    expect_eq!(rt;
-        lookup(&empty_to_wide_text(), true, b"", b"a text of 17 byte"),
-        Some((1, 0, 0))
+    expect_lookup(&rt, &two_texts(), false, b"b", b"x", (2, 0, 1));
+    expect_lookup(
+        &rt,
+        &empty_to_wide_text(),
+        true,
+        b"",
+        b"a text of 17 byte",
+        (1, 0, 0),
     );
 }
 
 #[test]
 fn lookups_find_no_other_text(rt: HostRuntime) {
-    expect_eq!(rt;
-        lookup(&empty_to_text(), false, b"a", b"?"),
-        Some((1, 1, 8))
+    expect_lookup(&rt, &empty_to_text(), false, b"a", b"?", (1, 1, 8));
+    expect_lookup(&rt, &two_texts(), false, b"a text", b"?", (2, 1, 8));
+    expect_lookup(
+        &rt,
+        &empty_to_wide_text(),
+        true,
+        b"wonderful",
+        b"?",
+        (1, 1, 8),
     );
-    expect_eq!(rt;
-        lookup(&two_texts(), false, b"a text", b"?"),
-        Some((2, 1, 8))
-    );
-    expect_eq!(rt;
-        lookup(&empty_to_wide_text(), true, b"wonderful", b"?"),
-        Some((1, 1, 8))
-    );
-    expect_eq!(rt; lookup(&NO_PAIRS, false, b"", b"?"), Some((0, 1, 8)));
-    expect_eq!(rt; lookup(&NO_WIDE_PAIRS, true, b"", b"?"), Some((0, 1, 8)));
+    expect_lookup(&rt, NO_PAIRS, false, b"", b"?", (0, 1, 8));
+    expect_lookup(&rt, NO_WIDE_PAIRS, true, b"", b"?", (0, 1, 8));
 }
 
 #[test]
 fn lookups_reject_keys_that_are_no_text(rt: HostRuntime) {
-    expect_eq!(rt;
-        lookup(&empty_to_text(), false, &[0xc3], b"?"),
-        Some((1, 4, 8))
-    );
-    expect_eq!(rt;
-        lookup(&empty_to_wide_text(), true, &[0x80], b"?"),
-        Some((1, 4, 8))
-    );
-    expect_eq!(rt;
-        lookup(&NO_PAIRS, false, &[0x61, 0xff], b"?"),
-        Some((0, 4, 8))
-    );
+    expect_lookup(&rt, &empty_to_text(), false, &[0xc3], b"?", (1, 4, 8));
+    expect_lookup(&rt, &empty_to_wide_text(), true, &[0x80], b"?", (1, 4, 8));
+    expect_lookup(&rt, NO_PAIRS, false, &[0x61, 0xff], b"?", (0, 4, 8));
 }
 
 #[test]
@@ -176,6 +184,6 @@ fn several_pairs_are_stored_at_once(rt: HostRuntime) {
         several(&empty_to_wide_text(), true, 1, other, other),
         Some(0)
     );
-    expect_eq!(rt; several(&NO_PAIRS, false, 0, other, other), Some(0));
-    expect_eq!(rt; several(&NO_WIDE_PAIRS, true, 0, other, other), Some(0));
+    expect_eq!(rt; several(NO_PAIRS, false, 0, other, other), Some(0));
+    expect_eq!(rt; several(NO_WIDE_PAIRS, true, 0, other, other), Some(0));
 }

@@ -4,7 +4,7 @@ use crate::tests::archives::{
     one_great_number, one_long_number, one_number_twice, one_wide_great_number,
     one_wide_long_number, two_long_numbers,
 };
-use crate::tests::support::{GREAT, outcome_of};
+use crate::tests::support::{GREAT, expect_outcome, expect_permitted, outcome_of};
 use ffi_calls::building::Built;
 use ffi_calls::form::{Form, LONG, SHORT, WIDE, WIDE_LONG};
 use ffi_calls::number_items::build_numbers;
@@ -75,99 +75,137 @@ fn write_two_long(alloc: Global, form: Form, first: u64, second: u64, bytes: &[u
     write(alloc, &items, form, bytes)
 }
 
-// Returns whether the result is that of the archive, or of an allocation that fails.
-fn is_permitted(written: (u32, bool)) -> bool {
-    written == (0, true) || written == (12, true)
-}
-
 #[test]
 fn one_pair_has_its_bytes_or_no_memory(rt: HostRuntime) {
-    assert!(rt; is_permitted(write_one(rt.alloc(), SHORT, &one_number())));
-    assert!(rt; is_permitted(write_one(rt.alloc(), LONG, &one_long_number())));
-    assert!(rt; is_permitted(write_one(rt.alloc(), WIDE, &one_wide_number())));
-    assert!(rt; is_permitted(write_one(rt.alloc(), WIDE_LONG, &one_wide_long_number())));
+    expect_permitted(&rt, write_one(rt.alloc(), SHORT, &one_number()));
+    expect_permitted(&rt, write_one(rt.alloc(), LONG, &one_long_number()));
+    expect_permitted(&rt, write_one(rt.alloc(), WIDE, &one_wide_number()));
+    expect_permitted(
+        &rt,
+        write_one(rt.alloc(), WIDE_LONG, &one_wide_long_number()),
+    );
 }
 
 #[test]
 fn one_pair_succeeds(rt: HostRuntime) {
-    expect_eq!(rt; write_one(rt.alloc(), SHORT, &one_number()), (0, true));
-    expect_eq!(rt; write_one(rt.alloc(), LONG, &one_long_number()), (0, true));
-    expect_eq!(rt; write_one(rt.alloc(), WIDE, &one_wide_number()), (0, true));
-    expect_eq!(rt;
+    expect_outcome(&rt, write_one(rt.alloc(), SHORT, &one_number()), (0, true));
+    expect_outcome(
+        &rt,
+        write_one(rt.alloc(), LONG, &one_long_number()),
+        (0, true),
+    );
+    expect_outcome(
+        &rt,
+        write_one(rt.alloc(), WIDE, &one_wide_number()),
+        (0, true),
+    );
+    expect_outcome(
+        &rt,
         write_one(rt.alloc(), WIDE_LONG, &one_wide_long_number()),
-        (0, true)
+        (0, true),
     );
 }
 
 #[test]
 fn one_long_pair_has_its_bytes_or_no_memory(rt: HostRuntime) {
     let alloc = rt.alloc();
-    assert!(rt; is_permitted(write_long(alloc, SHORT, 1, 2, &one_long_number())));
-    assert!(rt; is_permitted(write_long(alloc, WIDE_LONG, GREAT, 2, &one_wide_great_number())));
+    expect_permitted(&rt, write_long(alloc, SHORT, 1, 2, &one_long_number()));
+    expect_permitted(
+        &rt,
+        write_long(alloc, WIDE_LONG, GREAT, 2, &one_wide_great_number()),
+    );
 }
 
 #[test]
 fn one_long_pair_succeeds(rt: HostRuntime) {
     let alloc = rt.alloc();
     let done = (0, true);
-    expect_eq!(rt; write_long(alloc, SHORT, 1, 2, &one_long_number()), done);
-    expect_eq!(rt; write_long(alloc, LONG, 1, 2, &one_long_number()), done);
-    expect_eq!(rt;
+    expect_outcome(
+        &rt,
+        write_long(alloc, SHORT, 1, 2, &one_long_number()),
+        done,
+    );
+    expect_outcome(&rt, write_long(alloc, LONG, 1, 2, &one_long_number()), done);
+    expect_outcome(
+        &rt,
         write_long(alloc, WIDE, 1, 2, &one_wide_long_number()),
-        done
+        done,
     );
-    expect_eq!(rt;
+    expect_outcome(
+        &rt,
         write_long(alloc, WIDE_LONG, 1, 2, &one_wide_long_number()),
-        done
+        done,
     );
-    expect_eq!(rt;
+    expect_outcome(
+        &rt,
         write_long(alloc, SHORT, GREAT, 2, &one_great_number()),
-        done
+        done,
     );
-    expect_eq!(rt;
+    expect_outcome(
+        &rt,
         write_long(alloc, WIDE, GREAT, 2, &one_wide_great_number()),
-        done
+        done,
     );
 }
 
 #[test]
 fn a_write_of_two_pairs_succeeds(rt: HostRuntime) {
     let alloc = rt.alloc();
-    expect_eq!(rt;
+    expect_outcome(
+        &rt,
         write_two(alloc, SHORT, 2, 9, &one_number_twice()),
-        (0, true)
+        (0, true),
     );
-    expect_eq!(rt;
+    expect_outcome(
+        &rt,
         write_two_long(alloc, LONG, 2, 9, &two_long_numbers()),
-        (0, true)
+        (0, true),
     );
 }
 
 #[test]
 fn no_pair_succeeds(rt: HostRuntime) {
-    expect_eq!(rt;
+    expect_outcome(
+        &rt,
         write::<u32>(rt.alloc(), &[], SHORT, &no_items()),
-        (0, true)
+        (0, true),
     );
-    expect_eq!(rt; write::<u32>(rt.alloc(), &[], LONG, &no_items()), (0, true));
+    expect_outcome(
+        &rt,
+        write::<u32>(rt.alloc(), &[], LONG, &no_items()),
+        (0, true),
+    );
     let mut wide = [0; 24];
     wide[0] = 1;
-    expect_eq!(rt; write::<u32>(rt.alloc(), &[], WIDE, &wide), (0, true));
-    expect_eq!(rt; write::<u32>(rt.alloc(), &[], WIDE_LONG, &wide), (0, true));
-    expect_eq!(rt;
-        write::<u64>(rt.alloc(), &[], SHORT, &no_items()),
-        (0, true)
+    expect_outcome(&rt, write::<u32>(rt.alloc(), &[], WIDE, &wide), (0, true));
+    expect_outcome(
+        &rt,
+        write::<u32>(rt.alloc(), &[], WIDE_LONG, &wide),
+        (0, true),
     );
-    expect_eq!(rt; write::<u64>(rt.alloc(), &[], WIDE_LONG, &wide), (0, true));
+    expect_outcome(
+        &rt,
+        write::<u64>(rt.alloc(), &[], SHORT, &no_items()),
+        (0, true),
+    );
+    expect_outcome(
+        &rt,
+        write::<u64>(rt.alloc(), &[], WIDE_LONG, &wide),
+        (0, true),
+    );
 }
 
 #[test]
 fn a_rejection_of_a_large_value_succeeds(rt: HostRuntime) {
     let alloc = rt.alloc();
     let large = 0x1_0000_0000u64;
-    expect_eq!(rt; write_two(alloc, SHORT, large, 2, &[]), (3, true));
-    expect_eq!(rt; write_two(alloc, SHORT, 2, u64::MAX, &[]), (3, true));
-    expect_eq!(rt; write_two(alloc, WIDE, 0xffff_ffff, large, &[]), (3, true));
-    expect_eq!(rt; write_two_long(alloc, SHORT, 2, large, &[]), (3, true));
-    expect_eq!(rt; write_long(alloc, WIDE, 1, large, &[]), (3, true));
+    expect_outcome(&rt, write_two(alloc, SHORT, large, 2, &[]), (3, true));
+    expect_outcome(&rt, write_two(alloc, SHORT, 2, u64::MAX, &[]), (3, true));
+    expect_outcome(
+        &rt,
+        write_two(alloc, WIDE, 0xffff_ffff, large, &[]),
+        (3, true),
+    );
+    expect_outcome(&rt, write_two_long(alloc, SHORT, 2, large, &[]), (3, true));
+    expect_outcome(&rt, write_long(alloc, WIDE, 1, large, &[]), (3, true));
 }

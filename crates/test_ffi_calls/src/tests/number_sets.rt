@@ -4,7 +4,10 @@ ghost use Rattle.std.specs.Prelude.{IsTrue};
 ghost use Rattle.ffi_calls.specs.{IsNumberSet};
 
 use crate::tests::archives::{HEADER, HEADER_OF_TWO, WIDE_HEADER};
-use crate::tests::support::{GREAT, Numbers, numbers_of, outcome_of, with_byte};
+use crate::tests::expect_equal;
+use crate::tests::support::{
+    GREAT, Numbers, expect_outcome, expect_permitted, numbers_of, outcome_of, with_byte,
+};
 use ffi_calls::building::Built;
 use ffi_calls::number_sets::{
     build_number_set, contains_number, decode_number_set, explain_number_set, next_number_members,
@@ -14,16 +17,17 @@ use ffi_calls::pairs::{Pair, Step};
 use ffi_calls::reading::NumberKey;
 use ffi_calls::status::DONE;
 use std::alloc::Global;
+use std::process::Abort;
 use test_support::archives::{archive, no_items};
 
 // The buckets of the set of 1, with 64 bits, and the first control bytes.
-const LONG_BUCKETS: [u8; 20] = [
+const LONG_BUCKETS: &[u8; 20] = &[
     1, 0, 0, 0, 0, 0, 0, 0, 0, 0, 0, 0, 0, 0, 0, 0, 0xff, 0x28, 0xff, 0x28,
 ];
 
 /// Returns the set of 1. Buckets from 0 on, controls from 8 on, header at 40.
 fn one() -> [u8; 52] {
-    archive(&[1, 0, 0, 0, 0, 0, 0, 0, 0xff, 0x28, 0xff, 0x28], &HEADER)
+    archive(&[1, 0, 0, 0, 0, 0, 0, 0, 0xff, 0x28, 0xff, 0x28], HEADER)
 }
 
 /// Returns the set of 1, inserted twice. Buckets from 0 on, controls from 12 on, header at 44.
@@ -31,25 +35,25 @@ fn one_twice() -> [u8; 56] {
     let front = [
         0, 0, 0, 0, 1, 0, 0, 0, 1, 0, 0, 0, 0x28, 0x28, 0xff, 0x28, 0x28,
     ];
-    archive(&front, &HEADER_OF_TWO)
+    archive(&front, HEADER_OF_TWO)
 }
 
 /// Returns the wide set of 1. Buckets from 0 on, controls from 8 on, header at 40.
 fn wide_one() -> [u8; 64] {
     archive(
         &[1, 0, 0, 0, 0, 0, 0, 0, 0xff, 0x28, 0xff, 0x28],
-        &WIDE_HEADER,
+        WIDE_HEADER,
     )
 }
 
 /// Returns the set of 1, with 64 bits. Buckets from 0 on, controls from 16 on, header at 48.
 fn long_one() -> [u8; 60] {
-    archive(&LONG_BUCKETS, &HEADER)
+    archive(LONG_BUCKETS, HEADER)
 }
 
 /// Returns the wide set of 1, with 64 bits. Buckets, controls and header are as above.
 fn wide_long_one() -> [u8; 72] {
-    archive(&LONG_BUCKETS, &WIDE_HEADER)
+    archive(LONG_BUCKETS, WIDE_HEADER)
 }
 
 /// Returns the set of 4,294,967,297, whose tag is 3c. Buckets, controls and header are as above.
@@ -107,45 +111,99 @@ const LONG_NINE: Step<Pair<u64, ()>> = Step {
     pair: Pair { value: (), key: 9 },
 };
 
-// Returns how many items are stored over one, from a bucket on, and the next bucket and the item.
-// They are 9 at first.
-fn step(archive: &[u8], wide: bool, from: u64) -> Option<(usize, u64, u32)> {
+// Fails the test unless a set has this number of items, and a lookup this status.
+fn expect_found(rt: &impl Abort, archive: &[u8], wide: bool, item: u32, expected: (usize, u32)) {
+    expect_equal(rt, found(archive, wide, item), Some(expected));
+}
+
+// Does the same with a number of 64 bits.
+fn expect_long_found(
+    rt: &impl Abort,
+    archive: &[u8],
+    wide: bool,
+    item: u64,
+    expected: (usize, u32),
+) {
+    expect_equal(rt, found(archive, wide, item), Some(expected));
+}
+
+// Fails the test unless this many items are stored over one, from a bucket on, and the next bucket
+// and the item are these. They are 9 at first.
+fn expect_step(
+    rt: &impl Abort,
+    archive: &[u8],
+    wide: bool,
+    from: u64,
+    (count, next, item): (usize, u64, u32),
+) {
     let mut members = [NINE];
-    let count = walk(archive, wide, from, &mut members)?;
-    Some((count, members[0].next, members[0].pair.key))
+    let stored = walk(archive, wide, from, &mut members);
+    let found = (stored, members[0].next, members[0].pair.key);
+    expect_equal(rt, found, (Some(count), next, item));
 }
 
-// Returns the same of a set of numbers of 64 bits.
-fn long_step(archive: &[u8], wide: bool, from: u64) -> Option<(usize, u64, u64)> {
+// Does the same with a set of numbers of 64 bits.
+fn expect_long_step(
+    rt: &impl Abort,
+    archive: &[u8],
+    wide: bool,
+    from: u64,
+    (count, next, item): (usize, u64, u64),
+) {
     let mut members = [LONG_NINE];
-    let count = walk(archive, wide, from, &mut members)?;
-    Some((count, members[0].next, members[0].pair.key))
+    let stored = walk(archive, wide, from, &mut members);
+    let found = (stored, members[0].next, members[0].pair.key);
+    expect_equal(rt, found, (Some(count), next, item));
 }
 
-// Returns how many items are stored over two, and the items, which are 9 at first.
-fn several(archive: &[u8], wide: bool, from: u64) -> Option<(usize, u32, u32)> {
+// Fails the test unless this many items are stored over two, from a bucket on, and the items are
+// these. They are 9 at first.
+fn expect_several(
+    rt: &impl Abort,
+    archive: &[u8],
+    wide: bool,
+    from: u64,
+    (count, first, second): (usize, u32, u32),
+) {
     let mut members = [NINE; 2];
-    let count = walk(archive, wide, from, &mut members)?;
-    Some((count, members[0].pair.key, members[1].pair.key))
+    let stored = walk(archive, wide, from, &mut members);
+    let found = (stored, members[0].pair.key, members[1].pair.key);
+    expect_equal(rt, found, (Some(count), first, second));
 }
 
-// Returns the same of a set of numbers of 64 bits.
-fn several_long(archive: &[u8], wide: bool, from: u64) -> Option<(usize, u64, u64)> {
+// Does the same with a set of numbers of 64 bits.
+fn expect_long_several(
+    rt: &impl Abort,
+    archive: &[u8],
+    wide: bool,
+    from: u64,
+    (count, first, second): (usize, u64, u64),
+) {
     let mut members = [LONG_NINE; 2];
-    let count = walk(archive, wide, from, &mut members)?;
-    Some((count, members[0].pair.key, members[1].pair.key))
+    let stored = walk(archive, wide, from, &mut members);
+    let found = (stored, members[0].pair.key, members[1].pair.key);
+    expect_equal(rt, found, (Some(count), first, second));
 }
 
-// Explains the set of 1 with another byte at `pos`.
-fn one_with(pos: usize, byte: u8) -> Numbers {
+// Fails the test unless the set of 1 with another byte at `pos` has this explanation.
+fn expect_one_with(rt: &impl Abort, pos: usize, byte: u8, expected: Numbers) {
     let bytes = with_byte(one(), pos, byte);
-    numbers_of(explain_number_set::<u32>(&bytes, false))
+    expect_equal(
+        rt,
+        numbers_of(explain_number_set::<u32>(&bytes, false)),
+        expected,
+    );
 }
 
-// Explains the wide set of 1, with 64 bits, with another byte at `pos`.
-fn long_with(pos: usize, byte: u8) -> Numbers {
+// Fails the test unless the wide set of 1, with 64 bits, with another byte at `pos`, has this
+// explanation.
+fn expect_long_with(rt: &impl Abort, pos: usize, byte: u8, expected: Numbers) {
     let bytes = with_byte(wide_long_one(), pos, byte);
-    numbers_of(explain_number_set::<u64>(&bytes, true))
+    expect_equal(
+        rt,
+        numbers_of(explain_number_set::<u64>(&bytes, true)),
+        expected,
+    );
 }
 
 // Returns the status of a write of a set, and whether `built` has `bytes` if it is 0.
@@ -157,73 +215,65 @@ fn write<K: NumberKey>(alloc: Global, items: &[K], wide: bool, bytes: &[u8]) -> 
     outcome_of(status, built, bytes)
 }
 
-// Returns whether the result is that of the archive, or of an allocation that fails.
-fn is_permitted(written: (u32, bool)) -> bool {
-    written == (0, true) || written == (12, true)
-}
-
 #[test]
 fn lookups_find_the_items_alone(rt: HostRuntime) {
-    expect_eq!(rt; found(&one(), false, 1u32), Some((1, 0)));
-    expect_eq!(rt; found(&one(), false, 2u32), Some((1, 1)));
-    expect_eq!(rt; found(&wide_one(), true, 1u32), Some((1, 0)));
-    expect_eq!(rt; found(&wide_one(), true, 0u32), Some((1, 1)));
-    expect_eq!(rt; found(&no_items(), false, 1u32), Some((0, 1)));
+    expect_found(&rt, &one(), false, 1, (1, 0));
+    expect_found(&rt, &one(), false, 2, (1, 1));
+    expect_found(&rt, &wide_one(), true, 1, (1, 0));
+    expect_found(&rt, &wide_one(), true, 0, (1, 1));
+    expect_found(&rt, &no_items(), false, 1, (0, 1));
 }
 
 #[test]
 fn lookups_of_long_numbers_compare_all_64_bits(rt: HostRuntime) {
-    expect_eq!(rt; found(&long_one(), false, 1u64), Some((1, 0)));
-    expect_eq!(rt; found(&long_one(), false, GREAT), Some((1, 1)));
-    expect_eq!(rt; found(&great(), false, GREAT), Some((1, 0)));
-    expect_eq!(rt; found(&great(), false, 1u64), Some((1, 1)));
-    expect_eq!(rt; found(&wide_long_one(), true, 1u64), Some((1, 0)));
-    expect_eq!(rt; found(&wide_long_one(), true, u64::MAX), Some((1, 1)));
-    expect_eq!(rt; found(&no_items(), false, 1u64), Some((0, 1)));
+    expect_long_found(&rt, &long_one(), false, 1, (1, 0));
+    expect_long_found(&rt, &long_one(), false, GREAT, (1, 1));
+    expect_long_found(&rt, &great(), false, GREAT, (1, 0));
+    expect_long_found(&rt, &great(), false, 1, (1, 1));
+    expect_long_found(&rt, &wide_long_one(), true, 1, (1, 0));
+    expect_long_found(&rt, &wide_long_one(), true, u64::MAX, (1, 1));
+    expect_long_found(&rt, &no_items(), false, 1, (0, 1));
 }
 
 #[test]
 fn walks_visit_the_item_and_end(rt: HostRuntime) {
-    expect_eq!(rt; step(&one(), false, 0), Some((1, 2, 1)));
-    expect_eq!(rt; step(&one(), false, 2), Some((0, 9, 9)));
-    expect_eq!(rt; step(&wide_one(), true, 1), Some((1, 2, 1)));
+    expect_step(&rt, &one(), false, 0, (1, 2, 1));
+    expect_step(&rt, &one(), false, 2, (0, 9, 9));
+    expect_step(&rt, &wide_one(), true, 1, (1, 2, 1));
 }
 
 #[test]
 fn walks_visit_the_long_number_and_end(rt: HostRuntime) {
-    expect_eq!(rt; long_step(&long_one(), false, 0), Some((1, 2, 1)));
-    expect_eq!(rt; long_step(&great(), false, 1), Some((1, 2, GREAT)));
-    expect_eq!(rt; long_step(&great(), false, 2), Some((0, 9, 9)));
-    expect_eq!(rt; long_step(&wide_long_one(), true, 0), Some((1, 2, 1)));
-    expect_eq!(rt;
-        long_step(&wide_long_one(), true, u64::MAX),
-        Some((0, 9, 9))
-    );
+    expect_long_step(&rt, &long_one(), false, 0, (1, 2, 1));
+    expect_long_step(&rt, &great(), false, 1, (1, 2, GREAT));
+    expect_long_step(&rt, &great(), false, 2, (0, 9, 9));
+    expect_long_step(&rt, &wide_long_one(), true, 0, (1, 2, 1));
+    expect_long_step(&rt, &wide_long_one(), true, u64::MAX, (0, 9, 9));
 }
 
 #[test]
 fn walks_of_two_items_go_on(rt: HostRuntime) {
-    expect_eq!(rt; step(&one_twice(), false, 0), Some((1, 1, 1)));
-    expect_eq!(rt; step(&one_twice(), false, 1), Some((1, 2, 1)));
-    expect_eq!(rt; step(&one_twice(), false, 2), Some((0, 9, 9)));
-    expect_eq!(rt; several(&one_twice(), false, 0), Some((2, 1, 1)));
+    expect_step(&rt, &one_twice(), false, 0, (1, 1, 1));
+    expect_step(&rt, &one_twice(), false, 1, (1, 2, 1));
+    expect_step(&rt, &one_twice(), false, 2, (0, 9, 9));
+    expect_several(&rt, &one_twice(), false, 0, (2, 1, 1));
 }
 
 #[test]
 fn several_items_are_stored_at_once(rt: HostRuntime) {
-    expect_eq!(rt; several(&one(), false, 0), Some((1, 1, 9)));
-    expect_eq!(rt; several(&wide_one(), true, 2), Some((0, 9, 9)));
-    expect_eq!(rt; several_long(&great(), false, 0), Some((1, GREAT, 9)));
-    expect_eq!(rt; several_long(&wide_long_one(), true, 2), Some((0, 9, 9)));
+    expect_several(&rt, &one(), false, 0, (1, 1, 9));
+    expect_several(&rt, &wide_one(), true, 2, (0, 9, 9));
+    expect_long_several(&rt, &great(), false, 0, (1, GREAT, 9));
+    expect_long_several(&rt, &wide_long_one(), true, 2, (0, 9, 9));
 }
 
 #[test]
 fn damaged_archives_are_explained(rt: HostRuntime) {
-    expect_eq!(rt; one_with(0, 2), (0, 0, 0, 0));
-    expect_eq!(rt; one_with(40, 0xe1), (17, 1, 4, 0));
-    expect_eq!(rt; one_with(44, 2), (18, 0, 2, 2));
-    expect_eq!(rt; one_with(9, 0xff), (19, 0, 1, 0));
-    expect_eq!(rt; one_with(11, 0xff), (20, 0, 3, 0));
+    expect_one_with(&rt, 0, 2, (0, 0, 0, 0));
+    expect_one_with(&rt, 40, 0xe1, (17, 1, 4, 0));
+    expect_one_with(&rt, 44, 2, (18, 0, 2, 2));
+    expect_one_with(&rt, 9, 0xff, (19, 0, 1, 0));
+    expect_one_with(&rt, 11, 0xff, (20, 0, 3, 0));
     let wide = explain_number_set::<u32>(&[0; 23], true);
     expect_eq!(rt; numbers_of(wide), (16, -1, 24, 0));
     assert!(rt; !is_set::<u32>(&[], false) && !is_set::<u32>(&[0; 23], true));
@@ -231,11 +281,11 @@ fn damaged_archives_are_explained(rt: HostRuntime) {
 
 #[test]
 fn damaged_archives_of_long_numbers_are_explained(rt: HostRuntime) {
-    expect_eq!(rt; long_with(0, 2), (0, 0, 0, 0));
-    expect_eq!(rt; long_with(48, 0xe1), (17, 1, 8, 0));
-    expect_eq!(rt; long_with(56, 2), (18, 0, 2, 2));
-    expect_eq!(rt; long_with(17, 0xff), (19, 0, 1, 0));
-    expect_eq!(rt; long_with(19, 0xff), (20, 0, 3, 0));
+    expect_long_with(&rt, 0, 2, (0, 0, 0, 0));
+    expect_long_with(&rt, 48, 0xe1, (17, 1, 8, 0));
+    expect_long_with(&rt, 56, 2, (18, 0, 2, 2));
+    expect_long_with(&rt, 17, 0xff, (19, 0, 1, 0));
+    expect_long_with(&rt, 19, 0xff, (20, 0, 3, 0));
     let narrow = explain_number_set::<u64>(&[0; 11], false);
     expect_eq!(rt; numbers_of(narrow), (16, -1, 12, 0));
     assert!(rt; !is_set::<u64>(&[], false) && !is_set::<u64>(&[0; 23], true));
@@ -245,26 +295,26 @@ fn damaged_archives_of_long_numbers_are_explained(rt: HostRuntime) {
 #[test]
 fn sets_have_their_bytes_or_no_memory(rt: HostRuntime) {
     let alloc = rt.alloc();
-    assert!(rt; is_permitted(write(alloc, &[1u32], false, &one())));
-    assert!(rt; is_permitted(write(alloc, &[GREAT], false, &great())));
+    expect_permitted(&rt, write(alloc, &[1u32], false, &one()));
+    expect_permitted(&rt, write(alloc, &[GREAT], false, &great()));
 }
 
 #[test]
 fn a_write_of_numbers_succeeds(rt: HostRuntime) {
     let alloc = rt.alloc();
     let done = (0, true);
-    expect_eq!(rt; write(alloc, &[1u32], false, &one()), done);
-    expect_eq!(rt; write(alloc, &[1u32], true, &wide_one()), done);
-    expect_eq!(rt; write(alloc, &[1u32, 1], false, &one_twice()), done);
-    expect_eq!(rt; write::<u32>(alloc, &[], false, &no_items()), done);
+    expect_outcome(&rt, write(alloc, &[1u32], false, &one()), done);
+    expect_outcome(&rt, write(alloc, &[1u32], true, &wide_one()), done);
+    expect_outcome(&rt, write(alloc, &[1u32, 1], false, &one_twice()), done);
+    expect_outcome(&rt, write::<u32>(alloc, &[], false, &no_items()), done);
 }
 
 #[test]
 fn a_write_of_long_numbers_succeeds(rt: HostRuntime) {
     let alloc = rt.alloc();
     let done = (0, true);
-    expect_eq!(rt; write(alloc, &[1u64], false, &long_one()), done);
-    expect_eq!(rt; write(alloc, &[GREAT], false, &great()), done);
-    expect_eq!(rt; write(alloc, &[1u64], true, &wide_long_one()), done);
-    expect_eq!(rt; write::<u64>(alloc, &[], false, &no_items()), done);
+    expect_outcome(&rt, write(alloc, &[1u64], false, &long_one()), done);
+    expect_outcome(&rt, write(alloc, &[GREAT], false, &great()), done);
+    expect_outcome(&rt, write(alloc, &[1u64], true, &wide_long_one()), done);
+    expect_outcome(&rt, write::<u64>(alloc, &[], false, &no_items()), done);
 }

@@ -4,11 +4,14 @@ ghost use Rattle.std.specs.Prelude.{IsTrue};
 ghost use Rattle.ffi_calls.specs.{IsNumberArchive};
 
 use crate::tests::archives::{one_long_number, one_number_twice, one_wide_long_number};
+use crate::tests::expect_equal;
+use crate::tests::support::with_bytes;
 use ffi_calls::form::{Form, LONG, SHORT, WIDE, WIDE_LONG};
 use ffi_calls::numbers::{decode_numbers, get_number, next_numbers, open_numbers, set_number};
 use ffi_calls::pairs::{Pair, Step};
 use ffi_calls::reading::NumberKey;
 use ffi_calls::status::DONE;
+use std::process::Abort;
 use test_support::archives::{one_number, one_wide_number};
 
 /// Returns whether the archive is valid in the form.
@@ -93,90 +96,137 @@ const NINE: Step<Pair<u32, u64>> = Step {
     pair: Pair { value: 9, key: 9 },
 };
 
-// Returns how many pairs are stored over one, from the given bucket on, and the one afterwards.
-// It is 9 to 9 at first.
-fn step(archive: &[u8], form: Form, from: u64) -> Option<(usize, (u64, u32, u64))> {
-    let mut pairs = [NINE];
-    let count = walk(archive, form, from, &mut pairs)?;
-    Some((count, numbers_of(pairs[0])))
+// Fails the test unless a lookup has this result.
+fn expect_lookup(
+    rt: &impl Abort,
+    archive: &[u8],
+    form: Form,
+    key: u32,
+    expected: (usize, u32, u64),
+) {
+    expect_equal(rt, lookup(archive, form, key), Some(expected));
 }
 
-// Returns how many pairs are stored over three, from the given bucket on, and the three afterwards.
-// Each is 9 to 9 at first.
-fn several(archive: &[u8], form: Form, from: u64) -> Option<(usize, [(u64, u32, u64); 3])> {
+// Fails the test unless an overwrite has this status.
+fn expect_overwrite(
+    rt: &impl Abort,
+    archive: &mut [u8],
+    form: Form,
+    key: u32,
+    value: u64,
+    status: u32,
+) {
+    expect_equal(rt, overwrite(archive, form, key, value), Some(status));
+}
+
+// Fails the test unless an overwrite succeeds, and changes only the bytes from a position on, to
+// these.
+fn expect_changed<const N: usize>(
+    rt: &impl Abort,
+    archive: [u8; N],
+    form: Form,
+    key: u32,
+    value: u64,
+    (pos, bytes): (usize, &[u8]),
+) {
+    let mut found = archive;
+    expect_overwrite(rt, &mut found, form, key, value, 0);
+    assert!(*rt; found == with_bytes(archive, pos, bytes));
+}
+
+// Fails the test unless this many pairs are stored over one, from the given bucket on, and the one
+// is as expected afterwards. It is 9 to 9 at first.
+fn expect_step(
+    rt: &impl Abort,
+    archive: &[u8],
+    form: Form,
+    from: u64,
+    (count, pair): (usize, (u64, u32, u64)),
+) {
+    let mut pairs = [NINE];
+    let stored = walk(archive, form, from, &mut pairs);
+    expect_equal(rt, (stored, numbers_of(pairs[0])), (Some(count), pair));
+}
+
+// Fails the test unless this many pairs are stored over three, from the given bucket on, and the
+// three are as expected afterwards. Each is 9 to 9 at first.
+fn expect_several(
+    rt: &impl Abort,
+    archive: &[u8],
+    form: Form,
+    from: u64,
+    (count, expected): (usize, [(u64, u32, u64); 3]),
+) {
     let mut pairs = [NINE; 3];
-    let count = walk(archive, form, from, &mut pairs)?;
-    let results = [
+    let stored = walk(archive, form, from, &mut pairs);
+    let found = [
         numbers_of(pairs[0]),
         numbers_of(pairs[1]),
         numbers_of(pairs[2]),
     ];
-    Some((count, results))
+    expect_equal(rt, (stored, found), (Some(count), expected));
 }
 
 #[test]
 fn lookups_find_the_number(rt: HostRuntime) {
-    expect_eq!(rt; lookup(&one_number(), SHORT, 1u32), Some((1, 0, 2)));
-    expect_eq!(rt; lookup(&one_long_number(), LONG, 1u32), Some((1, 0, 2)));
-    expect_eq!(rt; lookup(&one_wide_number(), WIDE, 1u32), Some((1, 0, 2)));
-    expect_eq!(rt;
-        lookup(&one_wide_long_number(), WIDE_LONG, 1u32),
-        Some((1, 0, 2))
-    );
+    expect_lookup(&rt, &one_number(), SHORT, 1, (1, 0, 2));
+    expect_lookup(&rt, &one_long_number(), LONG, 1, (1, 0, 2));
+    expect_lookup(&rt, &one_wide_number(), WIDE, 1, (1, 0, 2));
+    expect_lookup(&rt, &one_wide_long_number(), WIDE_LONG, 1, (1, 0, 2));
 }
 
 #[test]
 fn lookups_find_no_other_number(rt: HostRuntime) {
-    expect_eq!(rt; lookup(&one_number(), SHORT, 2u32), Some((1, 1, 9)));
-    expect_eq!(rt; lookup(&one_long_number(), LONG, 0u32), Some((1, 1, 9)));
-    expect_eq!(rt; lookup(&one_wide_number(), WIDE, 3u32), Some((1, 1, 9)));
-    expect_eq!(rt;
-        lookup(&one_wide_long_number(), WIDE_LONG, u32::MAX),
-        Some((1, 1, 9))
-    );
+    expect_lookup(&rt, &one_number(), SHORT, 2, (1, 1, 9));
+    expect_lookup(&rt, &one_long_number(), LONG, 0, (1, 1, 9));
+    expect_lookup(&rt, &one_wide_number(), WIDE, 3, (1, 1, 9));
+    expect_lookup(&rt, &one_wide_long_number(), WIDE_LONG, u32::MAX, (1, 1, 9));
 }
 
 #[test]
 fn walks_visit_bucket_1(rt: HostRuntime) {
-    let expected = Some((1, (2, 1, 2)));
-    expect_eq!(rt; step(&one_number(), SHORT, 0), expected);
-    expect_eq!(rt; step(&one_long_number(), LONG, 1), expected);
-    expect_eq!(rt; step(&one_wide_number(), WIDE, 0), expected);
-    expect_eq!(rt; step(&one_wide_long_number(), WIDE_LONG, 1), expected);
+    let expected = (1, (2, 1, 2));
+    expect_step(&rt, &one_number(), SHORT, 0, expected);
+    expect_step(&rt, &one_long_number(), LONG, 1, expected);
+    expect_step(&rt, &one_wide_number(), WIDE, 0, expected);
+    expect_step(&rt, &one_wide_long_number(), WIDE_LONG, 1, expected);
 }
 
 #[test]
 fn walks_end_behind_bucket_1(rt: HostRuntime) {
-    let ended = Some((0, (9, 9, 9)));
-    expect_eq!(rt; step(&one_number(), SHORT, 2), ended);
-    expect_eq!(rt; step(&one_long_number(), LONG, 2), ended);
-    expect_eq!(rt; step(&one_wide_number(), WIDE, 2), ended);
-    expect_eq!(rt; step(&one_wide_long_number(), WIDE_LONG, 2), ended);
-    expect_eq!(rt; step(&one_number(), SHORT, u64::MAX), ended);
+    let ended = (0, (9, 9, 9));
+    expect_step(&rt, &one_number(), SHORT, 2, ended);
+    expect_step(&rt, &one_long_number(), LONG, 2, ended);
+    expect_step(&rt, &one_wide_number(), WIDE, 2, ended);
+    expect_step(&rt, &one_wide_long_number(), WIDE_LONG, 2, ended);
+    expect_step(&rt, &one_number(), SHORT, u64::MAX, ended);
 }
 
 #[test]
 fn walks_of_two_pairs_go_on(rt: HostRuntime) {
     let bytes = one_number_twice();
-    expect_eq!(rt; step(&bytes, SHORT, 0), Some((1, (1, 1, 2))));
-    expect_eq!(rt; step(&bytes, SHORT, 1), Some((1, (2, 1, 9))));
-    expect_eq!(rt; step(&bytes, SHORT, 2), Some((0, (9, 9, 9))));
-    expect_eq!(rt;
-        several(&bytes, SHORT, 0),
-        Some((2, [(1, 1, 2), (2, 1, 9), (9, 9, 9)]))
+    expect_step(&rt, &bytes, SHORT, 0, (1, (1, 1, 2)));
+    expect_step(&rt, &bytes, SHORT, 1, (1, (2, 1, 9)));
+    expect_step(&rt, &bytes, SHORT, 2, (0, (9, 9, 9)));
+    expect_several(
+        &rt,
+        &bytes,
+        SHORT,
+        0,
+        (2, [(1, 1, 2), (2, 1, 9), (9, 9, 9)]),
     );
 }
 
 #[test]
 fn several_pairs_are_stored_at_once(rt: HostRuntime) {
     let nine = (9, 9, 9);
-    let one = Some((1, [(2, 1, 2), nine, nine]));
-    let none = Some((0, [nine; 3]));
-    expect_eq!(rt; several(&one_number(), SHORT, 0), one);
-    expect_eq!(rt; several(&one_long_number(), LONG, 1), one);
-    expect_eq!(rt; several(&one_wide_number(), WIDE, 2), none);
-    expect_eq!(rt; several(&one_wide_long_number(), WIDE_LONG, 0), one);
-    expect_eq!(rt; several(&one_number(), SHORT, u64::MAX), none);
+    let one = (1, [(2, 1, 2), nine, nine]);
+    let none = (0, [nine; 3]);
+    expect_several(&rt, &one_number(), SHORT, 0, one);
+    expect_several(&rt, &one_long_number(), LONG, 1, one);
+    expect_several(&rt, &one_wide_number(), WIDE, 2, none);
+    expect_several(&rt, &one_wide_long_number(), WIDE_LONG, 0, one);
+    expect_several(&rt, &one_number(), SHORT, u64::MAX, none);
 }
 
 #[test]
@@ -199,38 +249,37 @@ fn headers_serve_after_overwrites(rt: HostRuntime) {
 fn overwrites_of_32_bits_reject_more(rt: HostRuntime) {
     let mut narrow = one_number();
     let mut wide = one_wide_number();
-    expect_eq!(rt; overwrite(&mut narrow, SHORT, 1u32, 0x1_0000_0000), Some(3));
-    expect_eq!(rt; overwrite(&mut narrow, SHORT, 2u32, u64::MAX), Some(3));
-    expect_eq!(rt; overwrite(&mut narrow, SHORT, 2u32, 0xffff_ffff), Some(1));
-    expect_eq!(rt; overwrite(&mut wide, WIDE, 2u32, 0x1_0000_0000), Some(3));
-    expect_eq!(rt; overwrite(&mut wide, WIDE, 2u32, 3), Some(1));
+    expect_overwrite(&rt, &mut narrow, SHORT, 1, 0x1_0000_0000, 3);
+    expect_overwrite(&rt, &mut narrow, SHORT, 2, u64::MAX, 3);
+    expect_overwrite(&rt, &mut narrow, SHORT, 2, 0xffff_ffff, 1);
+    expect_overwrite(&rt, &mut wide, WIDE, 2, 0x1_0000_0000, 3);
+    expect_overwrite(&rt, &mut wide, WIDE, 2, 3, 1);
     assert!(rt; narrow == one_number() && wide == one_wide_number());
-    expect_eq!(rt; overwrite(&mut narrow, SHORT, 1u32, 0xffff_fffe), Some(0));
-    expect_eq!(rt; overwrite(&mut wide, WIDE, 1u32, 0x0405), Some(0));
-    let mut bytes = one_number();
-    bytes[4..8].copy_from_slice(&[0xfe, 0xff, 0xff, 0xff]);
-    assert!(rt; narrow == bytes);
-    let mut bytes = one_wide_number();
-    bytes[4..8].copy_from_slice(&[5, 4, 0, 0]);
-    assert!(rt; wide == bytes);
+    expect_changed(
+        &rt,
+        one_number(),
+        SHORT,
+        1,
+        0xffff_fffe,
+        (4, &[0xfe, 0xff, 0xff, 0xff]),
+    );
+    expect_changed(&rt, one_wide_number(), WIDE, 1, 0x0405, (4, &[5, 4, 0, 0]));
 }
 
 #[test]
 fn overwrites_of_64_bits_take_all(rt: HostRuntime) {
     let mut narrow = one_long_number();
     let mut wide = one_wide_long_number();
-    expect_eq!(rt; overwrite(&mut narrow, LONG, 2u32, u64::MAX), Some(1));
-    expect_eq!(rt; overwrite(&mut wide, WIDE_LONG, 0u32, 3), Some(1));
+    expect_overwrite(&rt, &mut narrow, LONG, 2, u64::MAX, 1);
+    expect_overwrite(&rt, &mut wide, WIDE_LONG, 0, 3, 1);
     assert!(rt; narrow == one_long_number() && wide == one_wide_long_number());
-    expect_eq!(rt; overwrite(&mut narrow, LONG, 1u32, u64::MAX), Some(0));
-    expect_eq!(rt;
-        overwrite(&mut wide, WIDE_LONG, 1u32, 0x1_0000_0000),
-        Some(0)
+    expect_changed(&rt, one_long_number(), LONG, 1, u64::MAX, (8, &[0xff; 8]));
+    expect_changed(
+        &rt,
+        one_wide_long_number(),
+        WIDE_LONG,
+        1,
+        0x1_0000_0000,
+        (8, &[0, 0, 0, 0, 1, 0, 0, 0]),
     );
-    let mut bytes = one_long_number();
-    bytes[8..16].copy_from_slice(&[0xff; 8]);
-    assert!(rt; narrow == bytes);
-    let mut bytes = one_wide_long_number();
-    bytes[8..16].copy_from_slice(&[0, 0, 0, 0, 1, 0, 0, 0]);
-    assert!(rt; wide == bytes);
 }

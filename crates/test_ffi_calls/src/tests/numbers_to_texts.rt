@@ -3,6 +3,7 @@
 ghost use Rattle.std.specs.Prelude.{IsTrue};
 ghost use Rattle.ffi_calls.specs.{IsNumberTextArchive};
 
+use crate::tests::expect_equal;
 use crate::tests::support::{GREAT, Numbers, numbers_of, with_byte};
 use crate::tests::text_archives::{
     great_to_wide_text, long_to_tea, long_to_two_texts, one_to_tea, one_to_two_texts,
@@ -15,6 +16,7 @@ use ffi_calls::numbers_to_texts::{
 use ffi_calls::pairs::{Pair, Step};
 use ffi_calls::reading::NumberKey;
 use ffi_calls::status::DONE;
+use std::process::Abort;
 use test_support::archives::no_items;
 
 // Returns whether the archive is valid.
@@ -126,69 +128,78 @@ fn several_long(
     right.then_some(count)
 }
 
-// Returns the status of the map of 1 to two texts with another byte at `pos`, and its explanation.
-fn status_with(pos: usize, byte: u8) -> (u32, Numbers) {
+// Fails the test unless the map of 1 to two texts with another byte at `pos` has this status and
+// this explanation.
+fn expect_status(rt: &impl Abort, pos: usize, byte: u8, expected: (u32, Numbers)) {
     let bytes = with_byte(one_to_two_texts(), pos, byte);
-    (
-        open_numbers_to_texts::<u32>(&bytes, false),
-        numbers_of(explain_numbers_to_texts::<u32>(&bytes, false)),
-    )
+    let status = open_numbers_to_texts::<u32>(&bytes, false);
+    let explanation = numbers_of(explain_numbers_to_texts::<u32>(&bytes, false));
+    expect_equal(rt, (status, explanation), expected);
 }
 
 // Does the same for the map of 1 and 4,294,967,297 to two texts.
-fn long_status_with(pos: usize, byte: u8) -> (u32, Numbers) {
+fn expect_long_status(rt: &impl Abort, pos: usize, byte: u8, expected: (u32, Numbers)) {
     let bytes = with_byte(long_to_two_texts(), pos, byte);
-    (
-        open_numbers_to_texts::<u64>(&bytes, false),
-        numbers_of(explain_numbers_to_texts::<u64>(&bytes, false)),
-    )
+    let status = open_numbers_to_texts::<u64>(&bytes, false);
+    let explanation = numbers_of(explain_numbers_to_texts::<u64>(&bytes, false));
+    expect_equal(rt, (status, explanation), expected);
+}
+
+// Fails the test unless a lookup has this result, and the value is `value` afterwards.
+fn expect_lookup(
+    rt: &impl Abort,
+    archive: &[u8],
+    wide: bool,
+    key: u32,
+    value: &[u8],
+    expected: (usize, u32),
+) {
+    expect_equal(rt, lookup(archive, wide, key, value), Some(expected));
+}
+
+// Does the same with a key of 64 bits.
+fn expect_long_lookup(
+    rt: &impl Abort,
+    archive: &[u8],
+    wide: bool,
+    key: u64,
+    value: &[u8],
+    expected: (usize, u32),
+) {
+    expect_equal(rt, lookup(archive, wide, key, value), Some(expected));
 }
 
 #[test]
 fn lookups_find_the_text_of_the_first_pair(rt: HostRuntime) {
-    expect_eq!(rt; lookup(&one_to_tea(), false, 1u32, b"tea"), Some((1, 0)));
-    expect_eq!(rt;
-        lookup(&one_to_two_texts(), false, 1u32, b"wonderful"),
-        Some((2, 0))
-    );
-    expect_eq!(rt;
-        lookup(&one_to_wide_text(), true, 1u32, b"wonderful"),
-        Some((1, 0))
-    );
+    expect_lookup(&rt, &one_to_tea(), false, 1, b"tea", (1, 0));
+    expect_lookup(&rt, &one_to_two_texts(), false, 1, b"wonderful", (2, 0));
+    expect_lookup(&rt, &one_to_wide_text(), true, 1, b"wonderful", (1, 0));
 }
 
 #[test]
 fn lookups_find_no_other_number(rt: HostRuntime) {
-    expect_eq!(rt; lookup(&one_to_tea(), false, 2u32, b"?"), Some((1, 1)));
-    expect_eq!(rt; lookup(&one_to_wide_text(), true, 0u32, b"?"), Some((1, 1)));
-    expect_eq!(rt; lookup(&no_items(), false, 1u32, b"?"), Some((0, 1)));
+    expect_lookup(&rt, &one_to_tea(), false, 2, b"?", (1, 1));
+    expect_lookup(&rt, &one_to_wide_text(), true, 0, b"?", (1, 1));
+    expect_lookup(&rt, &no_items(), false, 1, b"?", (0, 1));
 }
 
 #[test]
 fn lookups_of_long_numbers_compare_all_64_bits(rt: HostRuntime) {
-    expect_eq!(rt; lookup(&long_to_tea(), false, 1u64, b"tea"), Some((1, 0)));
-    expect_eq!(rt; lookup(&long_to_tea(), false, GREAT, b"?"), Some((1, 1)));
-    expect_eq!(rt;
-        lookup(&long_to_two_texts(), false, 1u64, b"wonderful"),
-        Some((2, 0))
+    expect_long_lookup(&rt, &long_to_tea(), false, 1, b"tea", (1, 0));
+    expect_long_lookup(&rt, &long_to_tea(), false, GREAT, b"?", (1, 1));
+    expect_long_lookup(&rt, &long_to_two_texts(), false, 1, b"wonderful", (2, 0));
+    expect_long_lookup(&rt, &long_to_two_texts(), false, GREAT, b"x", (2, 0));
+    expect_long_lookup(&rt, &one_to_wide_text(), true, 1, b"wonderful", (1, 0));
+    expect_long_lookup(
+        &rt,
+        &great_to_wide_text(),
+        true,
+        GREAT,
+        b"wonderful",
+        (1, 0),
     );
-    expect_eq!(rt;
-        lookup(&long_to_two_texts(), false, GREAT, b"x"),
-        Some((2, 0))
-    );
-    expect_eq!(rt;
-        lookup(&one_to_wide_text(), true, 1u64, b"wonderful"),
-        Some((1, 0))
-    );
-    expect_eq!(rt;
-        lookup(&great_to_wide_text(), true, GREAT, b"wonderful"),
-        Some((1, 0))
-    );
-    expect_eq!(rt;
-        lookup(&great_to_wide_text(), true, 1u64, b"?"),
-        Some((1, 1))
-    );
-    expect_eq!(rt; lookup(&no_items(), false, 1u64, b"?"), Some((0, 1)));
+    expect_long_lookup(&rt, &great_to_wide_text(), true, 1, b"?", (1, 1));
+    expect_long_lookup(&rt, &no_items(), false, 1, b"?", (0, 1));
 }
 
 #[test]
@@ -265,27 +276,27 @@ fn several_pairs_of_long_numbers_are_stored_at_once(rt: HostRuntime) {
 
 #[test]
 fn damaged_archives_have_statuses(rt: HostRuntime) {
-    expect_eq!(rt; status_with(0, b'W'), (0, (0, 0, 0, 0)));
-    expect_eq!(rt; status_with(8, 0xc3), (22, (22, 40, 0, 0)));
-    expect_eq!(rt; status_with(28, 0xc3), (22, (22, 28, 0, 0)));
-    expect_eq!(rt; status_with(40, 0x88), (22, (22, 40, 0, 0)));
-    expect_eq!(rt; status_with(44, 0xd7), (16, (16, -1, 9, 0)));
-    expect_eq!(rt; status_with(84, 3), (18, (18, 0, 3, 3)));
-    expect_eq!(rt; status_with(84, 1), (19, (19, 0, 1, 2)));
-    expect_eq!(rt; status_with(78, 0), (20, (20, 0, 30, 0)));
-    expect_eq!(rt; status_with(80, 0xe1), (17, (17, 13, 4, 0)));
+    expect_status(&rt, 0, b'W', (0, (0, 0, 0, 0)));
+    expect_status(&rt, 8, 0xc3, (22, (22, 40, 0, 0)));
+    expect_status(&rt, 28, 0xc3, (22, (22, 28, 0, 0)));
+    expect_status(&rt, 40, 0x88, (22, (22, 40, 0, 0)));
+    expect_status(&rt, 44, 0xd7, (16, (16, -1, 9, 0)));
+    expect_status(&rt, 84, 3, (18, (18, 0, 3, 3)));
+    expect_status(&rt, 84, 1, (19, (19, 0, 1, 2)));
+    expect_status(&rt, 78, 0, (20, (20, 0, 30, 0)));
+    expect_status(&rt, 80, 0xe1, (17, (17, 13, 4, 0)));
 }
 
 #[test]
 fn damaged_archives_of_long_numbers_have_statuses(rt: HostRuntime) {
-    expect_eq!(rt; long_status_with(0, b'W'), (0, (0, 0, 0, 0)));
-    expect_eq!(rt; long_status_with(8, 0xc3), (22, (22, 56, 0, 0)));
-    expect_eq!(rt; long_status_with(40, 0xc3), (22, (22, 40, 0, 0)));
-    expect_eq!(rt; long_status_with(60, 0xc7), (16, (16, -1, 9, 0)));
-    expect_eq!(rt; long_status_with(100, 3), (18, (18, 0, 3, 3)));
-    expect_eq!(rt; long_status_with(100, 1), (19, (19, 0, 1, 2)));
-    expect_eq!(rt; long_status_with(94, 0), (20, (20, 0, 30, 0)));
-    expect_eq!(rt; long_status_with(96, 0xe1), (17, (17, 17, 8, 0)));
+    expect_long_status(&rt, 0, b'W', (0, (0, 0, 0, 0)));
+    expect_long_status(&rt, 8, 0xc3, (22, (22, 56, 0, 0)));
+    expect_long_status(&rt, 40, 0xc3, (22, (22, 40, 0, 0)));
+    expect_long_status(&rt, 60, 0xc7, (16, (16, -1, 9, 0)));
+    expect_long_status(&rt, 100, 3, (18, (18, 0, 3, 3)));
+    expect_long_status(&rt, 100, 1, (19, (19, 0, 1, 2)));
+    expect_long_status(&rt, 94, 0, (20, (20, 0, 30, 0)));
+    expect_long_status(&rt, 96, 0xe1, (17, (17, 17, 8, 0)));
 }
 
 #[test]

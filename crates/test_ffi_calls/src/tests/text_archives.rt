@@ -14,7 +14,7 @@ pub fn one_to_tea() -> [u8; 68] {
         0, 0, 0, 0, 0, 0, 0, 0, 0, 0, 0, 0, // bucket 0
         0xff, 0x28, 0xff, 0x28,
     ];
-    archive(&front, &HEADER)
+    archive(&front, HEADER)
 }
 
 /// Returns the map of the pairs 1 and `wonderful`, and 1 and `x`.
@@ -29,7 +29,7 @@ pub fn one_to_two_texts() -> [u8; 92] {
         1, 0, 0, 0, 0x89, 0, 0, 0, 0xd8, 0xff, 0xff, 0xff, // bucket 0: 9 bytes, 40 before 40
         0x28, 0x28, 0xff, 0x28, 0x28,
     ];
-    archive(&front, &HEADER_OF_TWO)
+    archive(&front, HEADER_OF_TWO)
 }
 
 /// Returns the map of 1 to the inline text `tea`, with a key of 64 bits.
@@ -41,7 +41,7 @@ pub fn long_to_tea() -> [u8; 76] {
         0, 0, 0, 0, 0, 0, 0, 0, 0, 0, 0, 0, 0, 0, 0, 0, // bucket 0
         0xff, 0x28, 0xff, 0x28,
     ];
-    archive(&front, &HEADER)
+    archive(&front, HEADER)
 }
 
 /// Returns the map of 1 to `wonderful` and of 4,294,967,297 to `x`, with keys of 64 bits.
@@ -57,7 +57,7 @@ pub fn long_to_two_texts() -> [u8; 108] {
         0x89, 0, 0, 0, 0xc8, 0xff, 0xff, 0xff, // value of bucket 0: 9 bytes, 56 before 56
         0x28, 0x3c, 0xff, 0x28, 0x3c,
     ];
-    archive(&front, &HEADER_OF_TWO)
+    archive(&front, HEADER_OF_TWO)
 }
 
 /// Returns the wide map of 1 to `wonderful`, which is inline in a wide archive.
@@ -73,7 +73,7 @@ pub fn one_to_wide_text() -> [u8; 104] {
         0, 0, 0, 0, 0, 0, 0, 0, 0, 0, 0, 0, 0, 0, 0, 0, 0, 0, 0, 0, 0, 0, 0, 0, // bucket 0
         0xff, 0x28, 0xff, 0x28,
     ];
-    archive(&front, &WIDE_HEADER)
+    archive(&front, WIDE_HEADER)
 }
 
 /// Returns the wide map of 4,294,967,297 to `wonderful`, whose tag is 3c, likewise.
@@ -96,7 +96,7 @@ pub fn empty_to_text() -> [u8; 88] {
         0, 0, 0, 0, 0, 0, 0, 0, 0, 0, 0, 0, 0, 0, 0, 0, // bucket 0
         0xff, 0x15, 0xff, 0x15,
     ];
-    archive(&front, &HEADER)
+    archive(&front, HEADER)
 }
 
 /// Returns the map of the pairs of the empty text and `wonderful`, and of the empty text and `x`.
@@ -113,7 +113,7 @@ pub fn empty_to_two_texts() -> [u8; 104] {
         0x89, 0, 0, 0, 0xcc, 0xff, 0xff, 0xff, // value of bucket 0: 9 bytes, 52 before 52
         0x15, 0x15, 0xff, 0x15, 0x15,
     ];
-    archive(&front, &HEADER_OF_TWO)
+    archive(&front, HEADER_OF_TWO)
 }
 
 /// Returns the wide map of the empty text to a text of 17 bytes.
@@ -130,5 +130,5 @@ pub fn empty_to_wide_text() -> [u8; 144] {
         0, 0, // bucket 0
         0xff, 0x15, 0xff, 0x15,
     ];
-    archive(&front, &WIDE_HEADER)
+    archive(&front, WIDE_HEADER)
 }

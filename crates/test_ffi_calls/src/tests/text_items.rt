@@ -1,7 +1,7 @@
 //! Tests of archives of pairs of texts and numbers.
 
 use crate::tests::archives::{empty_text, empty_wide_text};
-use crate::tests::support::outcome_of;
+use crate::tests::support::{expect_outcome, expect_permitted, outcome_of};
 use ffi_calls::building::Built;
 use ffi_calls::form::{Form, LONG, SHORT, WIDE, WIDE_LONG};
 use ffi_calls::pairs::Pair;
@@ -38,46 +38,48 @@ fn write_two(alloc: Global, form: Form, keys: [&[u8]; 2], values: [u64; 2]) -> (
     write(alloc, &items, form, &[])
 }
 
-// Returns whether the result is that of the archive, or of an allocation that fails.
-fn is_permitted(written: (u32, bool)) -> bool {
-    written == (0, true) || written == (12, true)
-}
-
 #[test]
 fn one_pair_has_its_bytes_or_no_memory(rt: HostRuntime) {
     let alloc = rt.alloc();
-    assert!(rt; is_permitted(write_one(alloc, SHORT, b"", 7, &empty_text())));
-    assert!(rt; is_permitted(write_one(alloc, LONG, b"main", 4096, &one_symbol())));
-    assert!(rt; is_permitted(write_one(alloc, WIDE, b"", 7, &empty_wide_text())));
-    assert!(rt; is_permitted(write_one(alloc, WIDE_LONG, b"", 7, &empty_wide_text())));
+    expect_permitted(&rt, write_one(alloc, SHORT, b"", 7, &empty_text()));
+    expect_permitted(&rt, write_one(alloc, LONG, b"main", 4096, &one_symbol()));
+    expect_permitted(&rt, write_one(alloc, WIDE, b"", 7, &empty_wide_text()));
+    expect_permitted(&rt, write_one(alloc, WIDE_LONG, b"", 7, &empty_wide_text()));
 }
 
 #[test]
 fn one_pair_succeeds(rt: HostRuntime) {
     let alloc = rt.alloc();
-    expect_eq!(rt; write_one(alloc, SHORT, b"", 7, &empty_text()), (0, true));
-    expect_eq!(rt;
+    expect_outcome(
+        &rt,
+        write_one(alloc, SHORT, b"", 7, &empty_text()),
+        (0, true),
+    );
+    expect_outcome(
+        &rt,
         write_one(alloc, LONG, b"main", 4096, &one_symbol()),
-        (0, true)
+        (0, true),
     );
-    expect_eq!(rt;
+    expect_outcome(
+        &rt,
         write_one(alloc, WIDE, b"", 7, &empty_wide_text()),
-        (0, true)
+        (0, true),
     );
-    expect_eq!(rt;
+    expect_outcome(
+        &rt,
         write_one(alloc, WIDE_LONG, b"", 7, &empty_wide_text()),
-        (0, true)
+        (0, true),
     );
 }
 
 #[test]
 fn no_pair_succeeds(rt: HostRuntime) {
-    expect_eq!(rt; write(rt.alloc(), &[], SHORT, &no_items()), (0, true));
-    expect_eq!(rt; write(rt.alloc(), &[], LONG, &no_items()), (0, true));
+    expect_outcome(&rt, write(rt.alloc(), &[], SHORT, &no_items()), (0, true));
+    expect_outcome(&rt, write(rt.alloc(), &[], LONG, &no_items()), (0, true));
     let mut wide = [0; 24];
     wide[0] = 1;
-    expect_eq!(rt; write(rt.alloc(), &[], WIDE, &wide), (0, true));
-    expect_eq!(rt; write(rt.alloc(), &[], WIDE_LONG, &wide), (0, true));
+    expect_outcome(&rt, write(rt.alloc(), &[], WIDE, &wide), (0, true));
+    expect_outcome(&rt, write(rt.alloc(), &[], WIDE_LONG, &wide), (0, true));
 }
 
 #[test]
@@ -86,25 +88,34 @@ fn the_rejection_of_the_first_that_does_not_fit_succeeds(rt: HostRuntime) {
     let large = 0x1_0000_0000u64;
     let text: &[u8] = b"main";
     let other: &[u8] = &[0x80];
-    expect_eq!(rt;
+    expect_outcome(
+        &rt,
         write_two(alloc, SHORT, [text, other], [large, 1]),
-        (3, true)
+        (3, true),
     );
-    expect_eq!(rt;
+    expect_outcome(
+        &rt,
         write_two(alloc, SHORT, [other, text], [1, large]),
-        (4, true)
+        (4, true),
     );
-    expect_eq!(rt;
+    expect_outcome(
+        &rt,
         write_two(alloc, WIDE, [other, text], [large, 1]),
-        (4, true)
+        (4, true),
     );
-    expect_eq!(rt; write_two(alloc, WIDE, [text, text], [1, large]), (3, true));
-    expect_eq!(rt;
+    expect_outcome(
+        &rt,
+        write_two(alloc, WIDE, [text, text], [1, large]),
+        (3, true),
+    );
+    expect_outcome(
+        &rt,
         write_two(alloc, LONG, [text, other], [u64::MAX, 1]),
-        (4, true)
+        (4, true),
     );
-    expect_eq!(rt;
+    expect_outcome(
+        &rt,
         write_two(alloc, WIDE_LONG, [other, other], [large, large]),
-        (4, true)
+        (4, true),
     );
 }

@@ -4,7 +4,10 @@ ghost use Rattle.std.specs.Prelude.{IsTrue};
 ghost use Rattle.ffi_calls.specs.{IsTextSet};
 
 use crate::tests::archives::{HEADER, HEADER_OF_TWO, WIDE_HEADER};
-use crate::tests::support::{Numbers, numbers_of, outcome_of, with_byte};
+use crate::tests::expect_equal;
+use crate::tests::support::{
+    Numbers, expect_outcome, expect_permitted, numbers_of, outcome_of, with_byte,
+};
 use ffi_calls::building::Built;
 use ffi_calls::pairs::{Pair, Step};
 use ffi_calls::status::DONE;
@@ -13,6 +16,7 @@ use ffi_calls::text_sets::{
     contains_text, decode_text_set, explain_text_set, next_text_members, open_text_set,
 };
 use std::alloc::Global;
+use std::process::Abort;
 use test_support::archives::{archive, no_items};
 
 /// Returns the set of the empty text. Buckets from 0 on, controls from 16 on, header at 48.
@@ -21,7 +25,7 @@ fn empty_text() -> [u8; 60] {
         0xff, 0xff, 0xff, 0xff, 0xff, 0xff, 0xff, 0xff, 0, 0, 0, 0, 0, 0, 0, 0, 0xff, 0x15, 0xff,
         0x15,
     ];
-    archive(&front, &HEADER)
+    archive(&front, HEADER)
 }
 
 /// Returns the wide set of the empty text. Buckets from 0 on, controls from 32 on, header at 64.
@@ -30,7 +34,7 @@ fn wide_empty_text() -> [u8; 88] {
         0xff, 0xff, 0xff, 0xff, 0xff, 0xff, 0xff, 0xff, 0xff, 0xff, 0xff, 0xff, 0xff, 0xff, 0xff,
         0xff, 0, 0, 0, 0, 0, 0, 0, 0, 0, 0, 0, 0, 0, 0, 0, 0, 0xff, 0x15, 0xff, 0x15,
     ];
-    archive(&front, &WIDE_HEADER)
+    archive(&front, WIDE_HEADER)
 }
 
 /// Returns the set of the empty text, inserted twice.
@@ -43,7 +47,7 @@ fn empty_text_twice() -> [u8; 68] {
         0xff, 0xff, 0xff, 0xff, 0xff, 0xff, 0xff, 0xff, // bucket 0
         0x15, 0x15, 0xff, 0x15, 0x15,
     ];
-    archive(&front, &HEADER_OF_TWO)
+    archive(&front, HEADER_OF_TWO)
 }
 
 // Returns whether the archive is a valid set.
@@ -98,6 +102,36 @@ fn several(archive: &[u8], wide: bool, from: u64) -> Option<(usize, usize, usize
     Some((count, members[0].pair.key.len(), members[1].pair.key.len()))
 }
 
+// Fails the test unless a set has this number of items, and a lookup this status.
+fn expect_found(rt: &impl Abort, archive: &[u8], wide: bool, item: &[u8], expected: (usize, u32)) {
+    expect_equal(rt, found(archive, wide, item), Some(expected));
+}
+
+// Fails the test unless this many texts are stored over one, from a bucket on, the next bucket is
+// this, and the item is or is not `item`. They are 9 and `?` at first.
+fn expect_step(
+    rt: &impl Abort,
+    archive: &[u8],
+    wide: bool,
+    from: u64,
+    item: &[u8],
+    expected: (usize, u64, bool),
+) {
+    expect_equal(rt, step(archive, wide, from, item), Some(expected));
+}
+
+// Fails the test unless this many items are stored over two, and have these lengths, which are 1
+// at first.
+fn expect_several(
+    rt: &impl Abort,
+    archive: &[u8],
+    wide: bool,
+    from: u64,
+    expected: (usize, usize, usize),
+) {
+    expect_equal(rt, several(archive, wide, from), Some(expected));
+}
+
 // Explains the set of the empty text with another byte at `pos`.
 fn with(pos: usize, byte: u8) -> Numbers {
     let bytes = with_byte(empty_text(), pos, byte);
@@ -124,45 +158,37 @@ fn write_two(alloc: Global, texts: [&[u8]; 2], bytes: &[u8]) -> (u32, bool) {
     write(alloc, &items, false, bytes)
 }
 
-// Returns whether the result is that of the archive, or of an allocation that fails.
-fn is_permitted(written: (u32, bool)) -> bool {
-    written == (0, true) || written == (12, true)
-}
-
 #[test]
 fn lookups_find_the_items_alone(rt: HostRuntime) {
-    expect_eq!(rt; found(&empty_text(), false, b""), Some((1, 0)));
-    expect_eq!(rt; found(&empty_text(), false, b"a"), Some((1, 1)));
-    expect_eq!(rt; found(&wide_empty_text(), true, b""), Some((1, 0)));
-    expect_eq!(rt; found(&wide_empty_text(), true, &[0xc3]), Some((1, 4)));
-    expect_eq!(rt; found(&no_items(), false, b""), Some((0, 1)));
+    expect_found(&rt, &empty_text(), false, b"", (1, 0));
+    expect_found(&rt, &empty_text(), false, b"a", (1, 1));
+    expect_found(&rt, &wide_empty_text(), true, b"", (1, 0));
+    expect_found(&rt, &wide_empty_text(), true, &[0xc3], (1, 4));
+    expect_found(&rt, &no_items(), false, b"", (0, 1));
 }
 
 #[test]
 fn walks_visit_the_item_and_end(rt: HostRuntime) {
-    expect_eq!(rt; step(&empty_text(), false, 0, b""), Some((1, 2, true)));
-    expect_eq!(rt; step(&empty_text(), false, 2, b"?"), Some((0, 9, true)));
-    expect_eq!(rt; step(&wide_empty_text(), true, 0, b""), Some((1, 2, true)));
-    expect_eq!(rt;
-        step(&wide_empty_text(), true, u64::MAX, b"?"),
-        Some((0, 9, true))
-    );
+    expect_step(&rt, &empty_text(), false, 0, b"", (1, 2, true));
+    expect_step(&rt, &empty_text(), false, 2, b"?", (0, 9, true));
+    expect_step(&rt, &wide_empty_text(), true, 0, b"", (1, 2, true));
+    expect_step(&rt, &wide_empty_text(), true, u64::MAX, b"?", (0, 9, true));
 }
 
 #[test]
 fn walks_of_two_items_go_on(rt: HostRuntime) {
     let bytes = empty_text_twice();
-    expect_eq!(rt; step(&bytes, false, 0, b""), Some((1, 1, true)));
-    expect_eq!(rt; step(&bytes, false, 1, b""), Some((1, 2, true)));
-    expect_eq!(rt; step(&bytes, false, 2, b"?"), Some((0, 9, true)));
-    expect_eq!(rt; several(&bytes, false, 0), Some((2, 0, 0)));
+    expect_step(&rt, &bytes, false, 0, b"", (1, 1, true));
+    expect_step(&rt, &bytes, false, 1, b"", (1, 2, true));
+    expect_step(&rt, &bytes, false, 2, b"?", (0, 9, true));
+    expect_several(&rt, &bytes, false, 0, (2, 0, 0));
 }
 
 #[test]
 fn several_items_are_stored_at_once(rt: HostRuntime) {
-    expect_eq!(rt; several(&empty_text(), false, 0), Some((1, 0, 1)));
-    expect_eq!(rt; several(&wide_empty_text(), true, 0), Some((1, 0, 1)));
-    expect_eq!(rt; several(&wide_empty_text(), true, 2), Some((0, 1, 1)));
+    expect_several(&rt, &empty_text(), false, 0, (1, 0, 1));
+    expect_several(&rt, &wide_empty_text(), true, 0, (1, 0, 1));
+    expect_several(&rt, &wide_empty_text(), true, 2, (0, 1, 1));
 }
 
 #[test]
@@ -177,17 +203,17 @@ fn damaged_archives_are_explained(rt: HostRuntime) {
 #[test]
 fn sets_have_their_bytes_or_no_memory(rt: HostRuntime) {
     let alloc = rt.alloc();
-    assert!(rt; is_permitted(write_text(alloc, b"", true, &wide_empty_text())));
+    expect_permitted(&rt, write_text(alloc, b"", true, &wide_empty_text()));
 }
 
 #[test]
 fn a_write_of_texts_succeeds(rt: HostRuntime) {
     let alloc = rt.alloc();
     let done = (0, true);
-    expect_eq!(rt; write_text(alloc, b"", false, &empty_text()), done);
-    expect_eq!(rt; write_text(alloc, b"", true, &wide_empty_text()), done);
-    expect_eq!(rt; write_two(alloc, [b"", b""], &empty_text_twice()), done);
-    expect_eq!(rt; write(alloc, &[], false, &no_items()), done);
-    expect_eq!(rt; write_text(alloc, &[0x80], false, &[]), (4, true));
-    expect_eq!(rt; write_two(alloc, [b"x", &[0x80]], &[]), (4, true));
+    expect_outcome(&rt, write_text(alloc, b"", false, &empty_text()), done);
+    expect_outcome(&rt, write_text(alloc, b"", true, &wide_empty_text()), done);
+    expect_outcome(&rt, write_two(alloc, [b"", b""], &empty_text_twice()), done);
+    expect_outcome(&rt, write(alloc, &[], false, &no_items()), done);
+    expect_outcome(&rt, write_text(alloc, &[0x80], false, &[]), (4, true));
+    expect_outcome(&rt, write_two(alloc, [b"x", &[0x80]], &[]), (4, true));
 }

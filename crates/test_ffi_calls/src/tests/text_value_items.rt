@@ -1,6 +1,6 @@
 //! Tests of archives of pairs with texts as values.
 
-use crate::tests::support::{GREAT, outcome_of};
+use crate::tests::support::{GREAT, expect_outcome, expect_permitted, outcome_of};
 use crate::tests::text_archives::{
     empty_to_text, empty_to_two_texts, empty_to_wide_text, great_to_wide_text, long_to_tea,
     long_to_two_texts, one_to_tea, one_to_two_texts, one_to_wide_text,
@@ -101,30 +101,37 @@ fn write_two_texts(alloc: Global, wide: bool, values: [&[u8]; 2], bytes: &[u8]) 
     write_texts(alloc, &items, wide, bytes)
 }
 
-// Returns whether the result is that of the archive, or of an allocation that fails.
-fn is_permitted(written: (u32, bool)) -> bool {
-    written == (0, true) || written == (12, true)
-}
-
 #[test]
 fn pairs_have_their_bytes_or_no_memory(rt: HostRuntime) {
     let alloc = rt.alloc();
-    assert!(rt; is_permitted(write_one(alloc, false, b"tea", &one_to_tea())));
-    assert!(rt; is_permitted(write_long(alloc, true, 1, b"wonderful", &one_to_wide_text())));
-    assert!(rt; is_permitted(write_text(alloc, false, b"", b"wonderful", &empty_to_text())));
+    expect_permitted(&rt, write_one(alloc, false, b"tea", &one_to_tea()));
+    expect_permitted(
+        &rt,
+        write_long(alloc, true, 1, b"wonderful", &one_to_wide_text()),
+    );
+    expect_permitted(
+        &rt,
+        write_text(alloc, false, b"", b"wonderful", &empty_to_text()),
+    );
 }
 
 #[test]
 fn a_write_of_numbers_succeeds(rt: HostRuntime) {
     let alloc = rt.alloc();
-    expect_eq!(rt; write_one(alloc, false, b"tea", &one_to_tea()), (0, true));
-    expect_eq!(rt;
-        write_two(alloc, false, [b"wonderful", b"x"], &one_to_two_texts()),
-        (0, true)
+    expect_outcome(
+        &rt,
+        write_one(alloc, false, b"tea", &one_to_tea()),
+        (0, true),
     );
-    expect_eq!(rt;
+    expect_outcome(
+        &rt,
+        write_two(alloc, false, [b"wonderful", b"x"], &one_to_two_texts()),
+        (0, true),
+    );
+    expect_outcome(
+        &rt,
         write_one(alloc, true, b"wonderful", &one_to_wide_text()),
-        (0, true)
+        (0, true),
     );
 }
 
@@ -132,41 +139,51 @@ fn a_write_of_numbers_succeeds(rt: HostRuntime) {
 fn a_write_of_long_numbers_succeeds(rt: HostRuntime) {
     let alloc = rt.alloc();
     let done = (0, true);
-    expect_eq!(rt; write_long(alloc, false, 1, b"tea", &long_to_tea()), done);
-    expect_eq!(rt;
+    expect_outcome(
+        &rt,
+        write_long(alloc, false, 1, b"tea", &long_to_tea()),
+        done,
+    );
+    expect_outcome(
+        &rt,
         write_two_long(alloc, false, [b"wonderful", b"x"], &long_to_two_texts()),
-        done
+        done,
     );
-    expect_eq!(rt;
+    expect_outcome(
+        &rt,
         write_long(alloc, true, 1, b"wonderful", &one_to_wide_text()),
-        done
+        done,
     );
-    expect_eq!(rt;
+    expect_outcome(
+        &rt,
         write_long(alloc, true, GREAT, b"wonderful", &great_to_wide_text()),
-        done
+        done,
     );
 }
 
 #[test]
 fn a_write_of_texts_succeeds(rt: HostRuntime) {
     let alloc = rt.alloc();
-    expect_eq!(rt;
+    expect_outcome(
+        &rt,
         write_text(alloc, false, b"", b"wonderful", &empty_to_text()),
-        (0, true)
+        (0, true),
     );
-    expect_eq!(rt;
+    expect_outcome(
+        &rt,
         write_text(
             alloc,
             true,
             b"",
             b"a text of 17 byte",
-            &empty_to_wide_text()
+            &empty_to_wide_text(),
         ),
-        (0, true)
+        (0, true),
     );
-    expect_eq!(rt;
+    expect_outcome(
+        &rt,
         write_two_texts(alloc, false, [b"wonderful", b"x"], &empty_to_two_texts()),
-        (0, true)
+        (0, true),
     );
 }
 
@@ -175,33 +192,45 @@ fn no_pair_succeeds(rt: HostRuntime) {
     let alloc = rt.alloc();
     let mut wide = [0; 24];
     wide[0] = 1;
-    expect_eq!(rt;
+    expect_outcome(
+        &rt,
         write_numbers::<u32>(alloc, &[], false, &no_items()),
-        (0, true)
+        (0, true),
     );
-    expect_eq!(rt; write_numbers::<u32>(alloc, &[], true, &wide), (0, true));
-    expect_eq!(rt;
+    expect_outcome(
+        &rt,
+        write_numbers::<u32>(alloc, &[], true, &wide),
+        (0, true),
+    );
+    expect_outcome(
+        &rt,
         write_numbers::<u64>(alloc, &[], false, &no_items()),
-        (0, true)
+        (0, true),
     );
-    expect_eq!(rt; write_numbers::<u64>(alloc, &[], true, &wide), (0, true));
-    expect_eq!(rt; write_texts(alloc, &[], false, &no_items()), (0, true));
-    expect_eq!(rt; write_texts(alloc, &[], true, &wide), (0, true));
+    expect_outcome(
+        &rt,
+        write_numbers::<u64>(alloc, &[], true, &wide),
+        (0, true),
+    );
+    expect_outcome(&rt, write_texts(alloc, &[], false, &no_items()), (0, true));
+    expect_outcome(&rt, write_texts(alloc, &[], true, &wide), (0, true));
 }
 
 #[test]
 fn the_rejection_of_other_bytes_succeeds(rt: HostRuntime) {
     let alloc = rt.alloc();
-    expect_eq!(rt; write_one(alloc, false, &[0x80], &[]), (4, true));
-    expect_eq!(rt; write_two(alloc, true, [b"x", &[0xc3]], &[]), (4, true));
-    expect_eq!(rt; write_long(alloc, true, GREAT, &[0x80], &[]), (4, true));
-    expect_eq!(rt;
+    expect_outcome(&rt, write_one(alloc, false, &[0x80], &[]), (4, true));
+    expect_outcome(&rt, write_two(alloc, true, [b"x", &[0xc3]], &[]), (4, true));
+    expect_outcome(&rt, write_long(alloc, true, GREAT, &[0x80], &[]), (4, true));
+    expect_outcome(
+        &rt,
         write_two_long(alloc, false, [b"x", &[0xc3]], &[]),
-        (4, true)
+        (4, true),
     );
-    expect_eq!(rt; write_text(alloc, false, &[0x80], b"x", &[]), (4, true));
-    expect_eq!(rt;
+    expect_outcome(&rt, write_text(alloc, false, &[0x80], b"x", &[]), (4, true));
+    expect_outcome(
+        &rt,
         write_text(alloc, true, b"x", &[0x61, 0xff], &[]),
-        (4, true)
+        (4, true),
     );
 }

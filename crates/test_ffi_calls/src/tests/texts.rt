@@ -4,10 +4,13 @@ ghost use Rattle.std.specs.Prelude.{IsTrue};
 ghost use Rattle.ffi_calls.specs.{IsTextArchive};
 
 use crate::tests::archives::{empty_text, empty_text_twice, empty_wide_text};
+use crate::tests::expect_equal;
+use crate::tests::support::with_bytes;
 use ffi_calls::form::{Form, LONG, SHORT, WIDE, WIDE_LONG};
 use ffi_calls::pairs::{Pair, Step};
 use ffi_calls::status::DONE;
 use ffi_calls::texts::{decode_texts, get_text, is_text, next_texts, open_texts, set_text};
+use std::process::Abort;
 use test_support::archives::one_symbol;
 
 // Returns whether the archive is valid in the form.
@@ -104,6 +107,44 @@ fn overwrite_and_get(
     Some((status, again, found))
 }
 
+// Fails the test unless a lookup has this result.
+fn expect_lookup(
+    rt: &impl Abort,
+    archive: &[u8],
+    form: Form,
+    key: &[u8],
+    expected: (usize, u32, u64),
+) {
+    expect_equal(rt, lookup(archive, form, key), Some(expected));
+}
+
+// Fails the test unless an overwrite has this status.
+fn expect_overwrite(
+    rt: &impl Abort,
+    archive: &mut [u8],
+    form: Form,
+    key: &[u8],
+    value: u64,
+    status: u32,
+) {
+    expect_equal(rt, overwrite(archive, form, key, value), Some(status));
+}
+
+// Fails the test unless an overwrite succeeds, and changes only the bytes from a position on, to
+// these.
+fn expect_changed<const N: usize>(
+    rt: &impl Abort,
+    archive: [u8; N],
+    form: Form,
+    key: &[u8],
+    value: u64,
+    (pos, bytes): (usize, &[u8]),
+) {
+    let mut found = archive;
+    expect_overwrite(rt, &mut found, form, key, value, 0);
+    assert!(*rt; found == with_bytes(archive, pos, bytes));
+}
+
 #[test]
 fn texts_are_utf8(rt: HostRuntime) {
     assert!(rt; is_text(b"") && is_text(b"main") && is_text(&[0xc3, 0xa9]));
@@ -112,24 +153,18 @@ fn texts_are_utf8(rt: HostRuntime) {
 
 #[test]
 fn lookups_find_the_text(rt: HostRuntime) {
-    expect_eq!(rt; lookup(&empty_text(), SHORT, b""), Some((1, 0, 7)));
-    expect_eq!(rt; lookup(&one_symbol(), LONG, b"main"), Some((1, 0, 4096)));
-    expect_eq!(rt; lookup(&empty_wide_text(), WIDE, b""), Some((1, 0, 7)));
-    expect_eq!(rt; lookup(&empty_wide_text(), WIDE_LONG, b""), Some((1, 0, 7)));
+    expect_lookup(&rt, &empty_text(), SHORT, b"", (1, 0, 7));
+    expect_lookup(&rt, &one_symbol(), LONG, b"main", (1, 0, 4096));
+    expect_lookup(&rt, &empty_wide_text(), WIDE, b"", (1, 0, 7));
+    expect_lookup(&rt, &empty_wide_text(), WIDE_LONG, b"", (1, 0, 7));
 }
 
 #[test]
 fn lookups_find_no_other_text(rt: HostRuntime) {
-    expect_eq!(rt; lookup(&empty_text(), SHORT, b"a"), Some((1, 1, 9)));
-    expect_eq!(rt; lookup(&one_symbol(), LONG, b"mai"), Some((1, 1, 9)));
-    expect_eq!(rt;
-        lookup(&empty_wide_text(), WIDE, &[0x61, 0xff]),
-        Some((1, 4, 9))
-    );
-    expect_eq!(rt;
-        lookup(&empty_wide_text(), WIDE_LONG, &[0xc3]),
-        Some((1, 4, 9))
-    );
+    expect_lookup(&rt, &empty_text(), SHORT, b"a", (1, 1, 9));
+    expect_lookup(&rt, &one_symbol(), LONG, b"mai", (1, 1, 9));
+    expect_lookup(&rt, &empty_wide_text(), WIDE, &[0x61, 0xff], (1, 4, 9));
+    expect_lookup(&rt, &empty_wide_text(), WIDE_LONG, &[0xc3], (1, 4, 9));
 }
 
 #[test]
@@ -199,41 +234,28 @@ fn headers_serve_after_overwrites(rt: HostRuntime) {
 fn overwrites_reject_keys_and_values(rt: HostRuntime) {
     let mut narrow = empty_text();
     let mut wide = empty_wide_text();
-    expect_eq!(rt;
-        overwrite(&mut narrow, SHORT, &[0x80], 0x1_0000_0000),
-        Some(4)
-    );
-    expect_eq!(rt; overwrite(&mut narrow, SHORT, b"", 0x1_0000_0000), Some(3));
-    expect_eq!(rt; overwrite(&mut narrow, SHORT, b"a", 0x1_0000_0000), Some(3));
-    expect_eq!(rt; overwrite(&mut narrow, SHORT, b"a", 8), Some(1));
-    expect_eq!(rt; overwrite(&mut wide, WIDE, b"a", u64::MAX), Some(3));
-    expect_eq!(rt; overwrite(&mut wide, WIDE_LONG, b"a", u64::MAX), Some(1));
-    expect_eq!(rt; overwrite(&mut wide, WIDE_LONG, &[0x80], 8), Some(4));
+    expect_overwrite(&rt, &mut narrow, SHORT, &[0x80], 0x1_0000_0000, 4);
+    expect_overwrite(&rt, &mut narrow, SHORT, b"", 0x1_0000_0000, 3);
+    expect_overwrite(&rt, &mut narrow, SHORT, b"a", 0x1_0000_0000, 3);
+    expect_overwrite(&rt, &mut narrow, SHORT, b"a", 8, 1);
+    expect_overwrite(&rt, &mut wide, WIDE, b"a", u64::MAX, 3);
+    expect_overwrite(&rt, &mut wide, WIDE_LONG, b"a", u64::MAX, 1);
+    expect_overwrite(&rt, &mut wide, WIDE_LONG, &[0x80], 8, 4);
     assert!(rt; narrow == empty_text() && wide == empty_wide_text());
 }
 
 #[test]
 fn overwrites_change_the_value_alone(rt: HostRuntime) {
-    let mut narrow = empty_text();
-    let mut long = one_symbol();
-    let mut wide = empty_wide_text();
-    let mut wide_long = empty_wide_text();
-    expect_eq!(rt; overwrite(&mut narrow, SHORT, b"", 0x0405), Some(0));
-    expect_eq!(rt; overwrite(&mut long, LONG, b"main", 0x1_0000_0002), Some(0));
-    expect_eq!(rt; overwrite(&mut wide, WIDE, b"", 0xffff_ffff), Some(0));
-    expect_eq!(rt;
-        overwrite(&mut wide_long, WIDE_LONG, b"", u64::MAX),
-        Some(0)
+    let wide = empty_wide_text();
+    expect_changed(&rt, empty_text(), SHORT, b"", 0x0405, (8, &[5, 4, 0, 0]));
+    expect_changed(
+        &rt,
+        one_symbol(),
+        LONG,
+        b"main",
+        0x1_0000_0002,
+        (24, &[2, 0, 0, 0, 1, 0, 0, 0]),
     );
-    let mut bytes = empty_text();
-    bytes[8..12].copy_from_slice(&[5, 4, 0, 0]);
-    assert!(rt; narrow == bytes);
-    let mut bytes = one_symbol();
-    bytes[24..32].copy_from_slice(&[2, 0, 0, 0, 1, 0, 0, 0]);
-    assert!(rt; long == bytes);
-    let mut bytes = empty_wide_text();
-    bytes[16..20].copy_from_slice(&[0xff; 4]);
-    assert!(rt; wide == bytes);
-    bytes[20..24].copy_from_slice(&[0xff; 4]);
-    assert!(rt; wide_long == bytes);
+    expect_changed(&rt, wide, WIDE, b"", 0xffff_ffff, (16, &[0xff; 4]));
+    expect_changed(&rt, wide, WIDE_LONG, b"", u64::MAX, (16, &[0xff; 8]));
 }

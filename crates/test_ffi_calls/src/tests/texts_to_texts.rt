@@ -3,6 +3,7 @@
 ghost use Rattle.std.specs.Prelude.{IsTrue};
 ghost use Rattle.ffi_calls.specs.{IsTextTextArchive};
 
+use crate::tests::expect_equal;
 use crate::tests::support::{Numbers, numbers_of, with_byte};
 use crate::tests::text_archives::{empty_to_text, empty_to_two_texts, empty_to_wide_text};
 use ffi_calls::pairs::{Pair, Step};
@@ -11,6 +12,7 @@ use ffi_calls::texts_to_texts::{
     decode_texts_to_texts, explain_texts_to_texts, get_text_of_text, next_text_texts,
     open_texts_to_texts,
 };
+use std::process::Abort;
 use test_support::archives::no_items;
 
 // Returns whether the archive is valid.
@@ -74,43 +76,47 @@ fn several(archive: &[u8], wide: bool, from: u64, next: u64, pair: [&[u8]; 2]) -
     (is_step(pairs[0], next, pair) && is_step(pairs[1], 9, [b"!", b"?"])).then_some(count)
 }
 
-// Returns the status of the map of the empty text with another byte at `pos`, and its explanation.
-fn status_with(pos: usize, byte: u8) -> (u32, Numbers) {
+// Fails the test unless the map of the empty text with another byte at `pos` has this status and
+// this explanation.
+fn expect_status(rt: &impl Abort, pos: usize, byte: u8, expected: (u32, Numbers)) {
     let bytes = with_byte(empty_to_text(), pos, byte);
-    (
-        open_texts_to_texts(&bytes, false),
-        numbers_of(explain_texts_to_texts(&bytes, false)),
-    )
+    let status = open_texts_to_texts(&bytes, false);
+    let explanation = numbers_of(explain_texts_to_texts(&bytes, false));
+    expect_equal(rt, (status, explanation), expected);
+}
+
+// Fails the test unless a lookup has this result, and the value is `value` afterwards.
+fn expect_lookup(
+    rt: &impl Abort,
+    archive: &[u8],
+    wide: bool,
+    key: &[u8],
+    value: &[u8],
+    expected: (usize, u32),
+) {
+    expect_equal(rt, lookup(archive, wide, key, value), Some(expected));
 }
 
 #[test]
 fn lookups_find_the_text(rt: HostRuntime) {
-    expect_eq!(rt;
-        lookup(&empty_to_text(), false, b"", b"wonderful"),
-        Some((1, 0))
-    );
-    expect_eq!(rt;
-        lookup(&empty_to_wide_text(), true, b"", b"a text of 17 byte"),
-        Some((1, 0))
+    expect_lookup(&rt, &empty_to_text(), false, b"", b"wonderful", (1, 0));
+    expect_lookup(
+        &rt,
+        &empty_to_wide_text(),
+        true,
+        b"",
+        b"a text of 17 byte",
+        (1, 0),
     );
 }
 
 #[test]
 fn lookups_find_no_other_text(rt: HostRuntime) {
-    expect_eq!(rt; lookup(&empty_to_text(), false, b"a", b"?"), Some((1, 1)));
-    expect_eq!(rt;
-        lookup(&empty_to_text(), false, &[0xc3], b"?"),
-        Some((1, 4))
-    );
-    expect_eq!(rt;
-        lookup(&empty_to_wide_text(), true, b"wonderful", b"?"),
-        Some((1, 1))
-    );
-    expect_eq!(rt;
-        lookup(&empty_to_wide_text(), true, &[0x80], b"?"),
-        Some((1, 4))
-    );
-    expect_eq!(rt; lookup(&no_items(), false, b"", b"?"), Some((0, 1)));
+    expect_lookup(&rt, &empty_to_text(), false, b"a", b"?", (1, 1));
+    expect_lookup(&rt, &empty_to_text(), false, &[0xc3], b"?", (1, 4));
+    expect_lookup(&rt, &empty_to_wide_text(), true, b"wonderful", b"?", (1, 1));
+    expect_lookup(&rt, &empty_to_wide_text(), true, &[0x80], b"?", (1, 4));
+    expect_lookup(&rt, &no_items(), false, b"", b"?", (0, 1));
 }
 
 #[test]
@@ -166,12 +172,12 @@ fn several_pairs_are_stored_at_once(rt: HostRuntime) {
 
 #[test]
 fn damaged_archives_have_statuses(rt: HostRuntime) {
-    expect_eq!(rt; status_with(0, b'W'), (0, (0, 0, 0, 0)));
-    expect_eq!(rt; status_with(8, 0xc3), (22, (22, 20, 0, 0)));
-    expect_eq!(rt; status_with(12, 0xc3), (22, (22, 12, 0, 0)));
-    expect_eq!(rt; status_with(20, 0x88), (22, (22, 20, 0, 0)));
-    expect_eq!(rt; status_with(24, 0xf0), (16, (16, 4, 9, 0)));
-    expect_eq!(rt; status_with(45, 0xff), (19, (19, 0, 1, 0)));
+    expect_status(&rt, 0, b'W', (0, (0, 0, 0, 0)));
+    expect_status(&rt, 8, 0xc3, (22, (22, 20, 0, 0)));
+    expect_status(&rt, 12, 0xc3, (22, (22, 12, 0, 0)));
+    expect_status(&rt, 20, 0x88, (22, (22, 20, 0, 0)));
+    expect_status(&rt, 24, 0xf0, (16, (16, 4, 9, 0)));
+    expect_status(&rt, 45, 0xff, (19, (19, 0, 1, 0)));
 }
 
 #[test]
