@@ -50,8 +50,18 @@ fn root<V: Serialize<VecWriter, Narrow>>(alloc: Global, value: &V, bytes: &[u8])
     (ending, fits(ending, &writer, bytes))
 }
 
-// Writes the table of a text under the hash 0, and returns the same.
-fn table(alloc: Global, text: &str, bytes: &[u8]) -> (Ending, bool) {
+// Writes the number 7 as a root, and returns the same.
+fn root_of_number(alloc: Global) -> (Ending, bool) {
+    root(alloc, &7u32, &[7, 0, 0, 0])
+}
+
+// Writes the text wonderful as a root, and returns the same.
+fn root_of_text(alloc: Global) -> (Ending, bool) {
+    root(alloc, &"wonderful", &wonderful())
+}
+
+// Writes the table of the text wonderful under the hash 0, and returns the same.
+fn table_of_text(alloc: Global) -> (Ending, bool) {
     let mut writer = VecWriter::new(alloc);
     let ending = ending_of(ArchivedHashTable::<_, Narrow>::serialize_from_iter::<
         VecWriter,
@@ -61,13 +71,13 @@ fn table(alloc: Global, text: &str, bytes: &[u8]) -> (Ending, bool) {
         _,
     >(
         alloc,
-        [text].into_iter(),
+        ["wonderful"].into_iter(),
         [0u64].into_iter(),
         1,
         (7, 8),
         &mut writer,
     ));
-    (ending, fits(ending, &writer, bytes))
+    (ending, fits(ending, &writer, &table_of_wonderful()))
 }
 
 // Returns the archive of the text wonderful.
@@ -87,46 +97,47 @@ fn table_of_wonderful() -> [u8; 59] {
 
 #[test]
 fn writer_state_matches_the_outcome(rt: HostRuntime) {
-    let (_, right) = root(rt.alloc(), &7u32, &[7, 0, 0, 0]);
+    let (_, right) = root_of_number(rt.alloc());
     assert!(rt; right);
 }
 
 #[test]
 fn a_root_succeeds(rt: HostRuntime) {
-    assert_eq!(rt;
-        root(rt.alloc(), &7u32, &[7, 0, 0, 0]),
-        (Ending::Written, true)
-    );
+    expect_eq!(rt; root_of_number(rt.alloc()), (Ending::Written, true));
 }
 
 #[test]
 fn root_allocates_before_writing_its_text(rt: HostRuntime) {
-    let (_, right) = root(rt.alloc(), &"wonderful", &wonderful());
+    let (_, right) = root_of_text(rt.alloc());
     assert!(rt; right);
 }
 
 #[test]
 fn the_root_of_a_text_succeeds(rt: HostRuntime) {
-    let written = root(rt.alloc(), &"wonderful", &wonderful());
-    assert_eq!(rt; written, (Ending::Written, true));
+    expect_eq!(rt; root_of_text(rt.alloc()), (Ending::Written, true));
 }
 
 #[test]
 fn table_allocates_before_writing_its_parts(rt: HostRuntime) {
-    let (_, right) = table(rt.alloc(), "wonderful", &table_of_wonderful());
+    let (_, right) = table_of_text(rt.alloc());
     assert!(rt; right);
 }
 
 #[test]
 fn a_table_of_a_text_succeeds(rt: HostRuntime) {
-    let written = table(rt.alloc(), "wonderful", &table_of_wonderful());
-    assert_eq!(rt; written, (Ending::Written, true));
+    expect_eq!(rt; table_of_text(rt.alloc()), (Ending::Written, true));
+}
+
+// Archives the text wonderful, and returns whether the archive is as expected.
+fn archives_text(alloc: Global) -> Result<bool, WriteError<NoMemory>> {
+    let bytes = to_bytes(alloc, &"wonderful")?;
+    Ok(bytes.as_slice() == wonderful().as_slice())
 }
 
 #[test]
 fn archive_is_complete_or_fails_to_allocate(rt: HostRuntime) {
-    let right = match to_bytes(rt.alloc(), &"wonderful") {
-        Ok(bytes) => bytes.as_slice() == wonderful().as_slice(),
+    let right = match archives_text(rt.alloc()) {
+        Ok(whole) => whole,
         Err(WriteError::Memory | WriteError::Writer(NoMemory)) => true,
         Err(_) => false,
     };
@@ -135,14 +146,10 @@ fn archive_is_complete_or_fails_to_allocate(rt: HostRuntime) {
 
 #[test]
 fn the_archive_of_a_text_succeeds(rt: HostRuntime) {
-    let whole = match to_bytes(rt.alloc(), &"wonderful") {
-        Ok(bytes) => bytes.as_slice() == wonderful().as_slice(),
-        Err(_) => false,
-    };
-    assert!(rt; whole);
+    expect_eq!(rt; archives_text(rt.alloc()), Ok(true));
 }
 
 #[test]
 fn the_unit_value_needs_no_memory(rt: HostRuntime) {
-    assert_eq!(rt; root(rt.alloc(), &(), &[]), (Ending::Written, true));
+    expect_eq!(rt; root(rt.alloc(), &(), &[]), (Ending::Written, true));
 }

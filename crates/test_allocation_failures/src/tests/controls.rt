@@ -47,5 +47,5 @@ fn control_bytes_are_written_or_unchanged(rt: HostRuntime) {
 
 #[test]
 fn placing_two_items_succeeds(rt: HostRuntime) {
-    assert_eq!(rt; two_placed(rt.alloc()), Ok((true, true)));
+    expect_eq!(rt; two_placed(rt.alloc()), Ok((true, true)));
 }

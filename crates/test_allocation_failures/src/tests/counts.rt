@@ -31,9 +31,9 @@ fn new_writers(alloc: Global) -> usize {
 }
 
 // Writes the table of an item under the hash 0, and returns whether it is written.
-fn writes_table<U: Serialize<VecWriter, Narrow>>(alloc: Global, items: &[U]) -> bool {
+fn writes_table(alloc: Global, items: &[u8]) -> bool {
     let mut writer = VecWriter::new(alloc);
-    ArchivedHashTable::<U::Archived, Narrow>::serialize_from_iter::<VecWriter, U, &U, _, _>(
+    ArchivedHashTable::<u8, Narrow>::serialize_from_iter::<VecWriter, u8, &u8, _, _>(
         alloc,
         items.iter(),
         [0u64].into_iter().take(items.len()),
@@ -64,10 +64,15 @@ fn fails_to_write_table<U: Serialize<BrokenWriter, Narrow>>(alloc: Global, item:
     matches!(outcome, Err(WriteError::Writer(Broken))) && writer.failures() == 1
 }
 
+// Archives a text, and returns whether that succeeds.
+fn archives_text(alloc: Global, text: &str) -> bool {
+    to_bytes(alloc, &text).is_ok()
+}
+
 #[test]
 fn a_new_writer_makes_no_allocation_and_succeeds(rt: HostRuntime) {
     let made = new_writers(rt.alloc());
-    assert_eq!(rt; (made, allocates(rt.alloc(), 8)), (20, true));
+    expect_eq!(rt; (made, allocates(rt.alloc(), 8)), (20, true));
 }
 
 #[test]
@@ -86,14 +91,14 @@ fn a_number_makes_two_allocations_and_succeeds(rt: HostRuntime) {
 #[test]
 fn an_inline_text_makes_two_allocations_and_succeeds(rt: HostRuntime) {
     let ready = allocates(rt.alloc(), 6);
-    assert!(rt; ready && to_bytes(rt.alloc(), &"hello").is_ok());
+    assert!(rt; ready && archives_text(rt.alloc(), "hello"));
 }
 
 // The writer makes one for each of its three pieces: 9, 3 and 8 bytes, and doubles what it has.
 #[test]
 fn an_out_of_line_text_makes_four_allocations_and_succeeds(rt: HostRuntime) {
     let ready = allocates(rt.alloc(), 4);
-    assert!(rt; ready && to_bytes(rt.alloc(), &"wonderful").is_ok());
+    assert!(rt; ready && archives_text(rt.alloc(), "wonderful"));
 }
 
 // The allocation is that for the fixed bytes of the root.
@@ -125,11 +130,11 @@ fn a_table_of_texts_makes_as_many_and_succeeds(rt: HostRuntime) {
 #[test]
 fn a_table_in_memory_makes_five_allocations_and_succeeds(rt: HostRuntime) {
     let ready = allocates(rt.alloc(), 3);
-    assert!(rt; ready && writes_table(rt.alloc(), &[7u8]));
+    assert!(rt; ready && writes_table(rt.alloc(), &[7]));
 }
 
 #[test]
 fn a_table_of_no_items_makes_no_allocation_and_succeeds(rt: HostRuntime) {
-    let written = writes_table::<u8>(rt.alloc(), &[]);
+    let written = writes_table(rt.alloc(), &[]);
     assert!(rt; written && allocates(rt.alloc(), 8));
 }

@@ -108,7 +108,7 @@ fn map_allocates_before_writing(rt: HostRuntime) {
 
 #[test]
 fn a_map_behind_a_byte_succeeds(rt: HostRuntime) {
-    assert_eq!(rt; behind_a_nine(rt.alloc()), Some((true, true)));
+    expect_eq!(rt; behind_a_nine(rt.alloc()), Some((true, true)));
 }
 
 // Returns whether the four pairs are read back from their archive, or the error.
@@ -151,9 +151,9 @@ fn lists_are_read_back_or_fail_to_allocate(rt: HostRuntime) {
 
 #[test]
 fn reading_lists_back_succeeds(rt: HostRuntime) {
-    let pairs = matches!(pairs_back(rt.alloc()), Ok(Ok(true)));
-    let items = matches!(items_back(rt.alloc()), Ok(Ok(true)));
-    assert!(rt; pairs && items);
+    let pairs = pairs_back(rt.alloc());
+    let items = items_back(rt.alloc());
+    expect_eq!(rt; (pairs, items), (Ok(Ok(true)), Ok(Ok(true))));
 }
 
 // Returns the index map of hello to a wonderful text, and of wonderful to world.
@@ -209,6 +209,5 @@ fn list_of_texts_is_read_back_or_fails_to_allocate(rt: HostRuntime) {
 
 #[test]
 fn reading_a_list_of_texts_back_succeeds(rt: HostRuntime) {
-    let whole = matches!(texts_back(rt.alloc()), Ok(Ok(true)));
-    assert!(rt; whole);
+    expect_eq!(rt; texts_back(rt.alloc()), Ok(Ok(true)));
 }

@@ -117,10 +117,7 @@ fn table_allocates_before_reading_items(rt: HostRuntime) {
 
 #[test]
 fn a_table_succeeds(rt: HostRuntime) {
-    assert_eq!(rt;
-        requests_of_table(rt.alloc(), 2, 2, 2),
-        (Outcome::Written, 3, 3)
-    );
+    expect_eq!(rt; requests_of_table(rt.alloc(), 2, 2, 2), (Outcome::Written, 3, 3));
 }
 
 #[test]
@@ -130,7 +127,7 @@ fn table_allocates_before_reading_pairs(rt: HostRuntime) {
 
 #[test]
 fn a_table_of_pairs_succeeds(rt: HostRuntime) {
-    assert_eq!(rt; requests_of_pairs(rt.alloc(), 2, 2), (Outcome::Written, 3));
+    expect_eq!(rt; requests_of_pairs(rt.alloc(), 2, 2), (Outcome::Written, 3));
 }
 
 #[test]
@@ -140,7 +137,7 @@ fn map_allocates_before_reading_pairs(rt: HostRuntime) {
 
 #[test]
 fn a_map_succeeds(rt: HostRuntime) {
-    assert_eq!(rt; map(rt.alloc()), (Outcome::Written, 3));
+    expect_eq!(rt; map(rt.alloc()), (Outcome::Written, 3));
 }
 
 #[test]
@@ -150,7 +147,7 @@ fn set_allocates_before_reading_keys(rt: HostRuntime) {
 
 #[test]
 fn a_set_succeeds(rt: HostRuntime) {
-    assert_eq!(rt; set(rt.alloc()), (Outcome::Written, 3));
+    expect_eq!(rt; set(rt.alloc()), (Outcome::Written, 3));
 }
 
 #[test]
@@ -160,7 +157,7 @@ fn an_index_map_without_memory_has_taken_no_pair_or_all(rt: HostRuntime) {
 
 #[test]
 fn an_index_map_succeeds(rt: HostRuntime) {
-    assert_eq!(rt; index_map(rt.alloc(), 2), (Outcome::Written, 3));
+    expect_eq!(rt; index_map(rt.alloc(), 2), (Outcome::Written, 3));
 }
 
 #[test]
@@ -170,7 +167,7 @@ fn an_index_set_without_memory_has_taken_no_key_or_all(rt: HostRuntime) {
 
 #[test]
 fn an_index_set_succeeds(rt: HostRuntime) {
-    assert_eq!(rt; index_set(rt.alloc(), 2), (Outcome::Written, 3));
+    expect_eq!(rt; index_set(rt.alloc(), 2), (Outcome::Written, 3));
 }
 
 #[test]
@@ -180,7 +177,7 @@ fn an_index_map_counts_its_pairs_before_it_allocates_its_table(rt: HostRuntime) 
 
 #[test]
 fn the_count_of_an_index_map_succeeds(rt: HostRuntime) {
-    assert_eq!(rt; index_map(rt.alloc(), 3), (Outcome::Mismatch(3, 2), 3));
+    expect_eq!(rt; index_map(rt.alloc(), 3), (Outcome::Mismatch(3, 2), 3));
 }
 
 #[test]
@@ -190,5 +187,5 @@ fn an_index_set_counts_its_keys_before_it_allocates_its_table(rt: HostRuntime) {
 
 #[test]
 fn the_count_of_an_index_set_succeeds(rt: HostRuntime) {
-    assert_eq!(rt; index_set(rt.alloc(), 3), (Outcome::Mismatch(3, 2), 3));
+    expect_eq!(rt; index_set(rt.alloc(), 3), (Outcome::Mismatch(3, 2), 3));
 }

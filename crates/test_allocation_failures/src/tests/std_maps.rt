@@ -13,30 +13,41 @@ use std::hash::BuildHasherDefault;
 use test_support::archives;
 use test_support::archives::{archive, four_pairs};
 
-type Pairs = Hashed<HashMap<(u8, u8), Hashed<HashMap<u16, u16>>>>;
+type Inner = Hashed<HashMap<u16, u16>>;
+
+type Maps = HashMap<(u8, u8), Inner>;
+
+type ArchivedMaps<'a> = ArchivedHashMap<'a, Entry<u8, u8>, HashMapOf<u16, u16>>;
 
 // Returns the map of 1337 to 42.
-fn one_number(alloc: Global) -> Result<Hashed<HashMap<u16, u16>>, AllocError> {
+fn one_number(alloc: Global) -> Result<Inner, AllocError> {
     let mut map = HashMap::new(alloc);
     map.insert(1337, 42)?;
     Ok(Hashed::new(map))
 }
 
 // Returns the map of (1, 2) and (3, 4), each to the map of 1337 to 42.
-fn two_maps(alloc: Global) -> Result<Pairs, AllocError> {
-    let mut pairs = HashMap::new(alloc);
-    pairs.insert((1, 2), one_number(alloc)?)?;
-    pairs.insert((3, 4), one_number(alloc)?)?;
-    Ok(Hashed::new(pairs))
+fn two_maps(alloc: Global) -> Result<Hashed<Maps>, AllocError> {
+    let mut maps = HashMap::new(alloc);
+    maps.insert((1, 2), one_number(alloc)?)?;
+    maps.insert((3, 4), one_number(alloc)?)?;
+    Ok(Hashed::new(maps))
 }
 
-// Returns whether the archive is valid, and its map equals `map`.
-fn is_the_same(bytes: &[u8], map: &Pairs) -> bool {
-    match access::<HashMapOf<Entry<u8, u8>, HashMapOf<u16, u16>>>(bytes) {
-        Ok(root) => {
-            let root = ArchivedHashMap::of(root);
-            root.eq_std::<(u8, u8), Hashed<HashMap<u16, u16>>, _>(map.get())
-        }
+// Validates an archive, and returns its map of maps.
+fn archived_maps(bytes: &[u8]) -> Result<ArchivedMaps<'_>, VerifyError> {
+    Ok(ArchivedHashMap::of(access::<HashMapOf<Entry<u8, u8>, HashMapOf<u16, u16>>>(bytes)?))
+}
+
+// Returns whether an archived map of maps equals one of std.
+fn equals(archived: ArchivedMaps<'_>, maps: &Maps) -> bool {
+    archived.eq_std::<(u8, u8), Inner, _>(maps)
+}
+
+// Returns whether the archive is valid, and its map equals `maps`.
+fn is_the_same(bytes: &[u8], maps: &Maps) -> bool {
+    match archived_maps(bytes) {
+        Ok(archived) => equals(archived, maps),
         Err(_) => false,
     }
 }
@@ -49,7 +60,7 @@ fn written(alloc: Global) -> Option<Result<bool, (WriteError<NoMemory>, u64)>> {
     match write_root(alloc, &map, &mut writer) {
         Ok(_) => {
             let bytes = writer.bytes();
-            Some(Ok(bytes.len() == 172 && is_the_same(bytes, &map)))
+            Some(Ok(bytes.len() == 172 && is_the_same(bytes, map.get())))
         }
         Err(e) => Some(Err((e, writer.failures()))),
     }
@@ -69,8 +80,7 @@ fn archive_is_complete_or_fails_to_allocate(rt: HostRuntime) {
 
 #[test]
 fn an_archive_succeeds(rt: HostRuntime) {
-    let whole = matches!(written(rt.alloc()), Some(Ok(true)));
-    assert!(rt; whole);
+    expect_eq!(rt; written(rt.alloc()), Some(Ok(true)));
 }
 
 // Returns whether the map of std that is read back has the four pairs, or the error.
@@ -104,8 +114,7 @@ fn map_is_read_back_or_fails_to_allocate(rt: HostRuntime) {
 
 #[test]
 fn reading_back_succeeds(rt: HostRuntime) {
-    let whole = matches!(read_back(rt.alloc()), Ok(Ok(true)));
-    assert!(rt; whole);
+    expect_eq!(rt; read_back(rt.alloc()), Ok(Ok(true)));
 }
 
 // Returns the control bytes and the header of a map or a set with the keys hello and wonderful.
@@ -149,8 +158,7 @@ fn map_of_texts_is_read_back_or_fails_to_allocate(rt: HostRuntime) {
 
 #[test]
 fn reading_a_map_of_texts_back_succeeds(rt: HostRuntime) {
-    let whole = matches!(texts_back(rt.alloc()), Ok(Ok(true)));
-    assert!(rt; whole);
+    expect_eq!(rt; texts_back(rt.alloc()), Ok(Ok(true)));
 }
 
 // Returns the set of hello and wonderful.
@@ -186,20 +194,16 @@ fn set_of_texts_is_read_back_or_fails_to_allocate(rt: HostRuntime) {
 
 #[test]
 fn reading_a_set_of_texts_back_succeeds(rt: HostRuntime) {
-    let whole = matches!(words_back(rt.alloc()), Ok(Ok(true)));
-    assert!(rt; whole);
+    expect_eq!(rt; words_back(rt.alloc()), Ok(Ok(true)));
 }
 
 // Returns whether the map of std that is read back has the two maps, or the error.
 fn maps_back(alloc: Global) -> Result<Result<bool, ReadError>, VerifyError> {
     let bytes = archives::two_maps();
-    let root = ArchivedHashMap::of(access::<HashMapOf<Entry<u8, u8>, HashMapOf<u16, u16>>>(
-        &bytes,
-    )?);
-    let back: Result<HashMap<(u8, u8), Hashed<HashMap<u16, u16>>>, ReadError> =
-        root.deserialize_std(alloc, BuildHasherDefault::new());
+    let archived = archived_maps(&bytes)?;
+    let back: Result<Maps, ReadError> = archived.deserialize_std(alloc, BuildHasherDefault::new());
     match back {
-        Ok(map) => Ok(Ok(root.eq_std::<(u8, u8), Hashed<HashMap<u16, u16>>, _>(&map))),
+        Ok(maps) => Ok(Ok(equals(archived, &maps))),
         Err(e) => Ok(Err(e)),
     }
 }
@@ -212,15 +216,14 @@ fn map_of_maps_is_read_back_or_fails_to_allocate(rt: HostRuntime) {
 
 #[test]
 fn reading_a_map_of_maps_back_succeeds(rt: HostRuntime) {
-    let whole = matches!(maps_back(rt.alloc()), Ok(Ok(true)));
-    assert!(rt; whole);
+    expect_eq!(rt; maps_back(rt.alloc()), Ok(Ok(true)));
 }
 
 // Returns the result of the round trip of the map of 1337 to 42.
 // It is `None` if the map fails to allocate.
 fn round_trip(alloc: Global) -> Option<Result<bool, RoundTripError>> {
     let map = one_number(alloc).ok()?;
-    Some(round_trips_equal::<Narrow, Hashed<HashMap<u16, u16>>>(alloc, &map))
+    Some(round_trips_equal::<Narrow, Inner>(alloc, &map))
 }
 
 #[test]
@@ -238,6 +241,5 @@ fn round_trip_is_equal_or_fails_to_allocate(rt: HostRuntime) {
 
 #[test]
 fn a_round_trip_succeeds(rt: HostRuntime) {
-    let same = matches!(round_trip(rt.alloc()), Some(Ok(true)));
-    assert!(rt; same);
+    expect_eq!(rt; round_trip(rt.alloc()), Some(Ok(true)));
 }
