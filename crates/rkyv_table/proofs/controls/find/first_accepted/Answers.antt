@@ -33,3 +33,9 @@ loop-j-preserved g c =
           ∙ head_skipped (λ j. (c.args.at + j) % c.args.cap) accept (g.M.Marks.indices c.loop-j.rest) c.in-Some.j c.in-Some.ensures no
           ∙ ap (λ xs. find accept (map (λ j. (c.args.at + j) % c.args.cap) xs)) (sym c.remove_lowest_bit-rest.ensures);
     }
+
+pub returns-then-cmp-clause-among : goal.returns-then-cmp-clause-among
+returns-then-cmp-clause-among g c = grind (arith, common_steps)
+
+pub remove_lowest_bit-rest-requires : goal.remove_lowest_bit-rest-requires
+remove_lowest_bit-rest-requires g c = grind (arith, common_steps)

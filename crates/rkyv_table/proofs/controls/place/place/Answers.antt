@@ -15,3 +15,9 @@ place_one-bucket-requires-clause-room g c =
 
 pub loop-hash-preserved : goal.loop-hash-preserved
 loop-hash-preserved g c = grind (arith, common_steps, all_fit, take_more, one_more)
+
+pub loop-hash-init : goal.loop-hash-init
+loop-hash-init g c = grind (arith, common_steps)
+
+pub returns-clause-written : goal.returns-clause-written
+returns-clause-written g c = grind (arith, common_steps)

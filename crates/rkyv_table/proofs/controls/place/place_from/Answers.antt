@@ -67,3 +67,6 @@ unreachable-requires g c =
     let w = c.requires.room in
     let same = rw inv.kept at inv.same in
     runs_out c.args.hash c.args.cap w.0 (is_empty_at c.args.controls.now) c.loop-pos.pos-iterator w.1 (le-leb 128 (get_or c.args.controls.now w.0 0) w.2) c.in-None.ensures.steps.0 same
+
+pub returns-else-bucket-controls-clause-after : goal.returns-else-bucket-controls-clause-after
+returns-else-bucket-controls-clause-after g c = grind (arith, common_steps)

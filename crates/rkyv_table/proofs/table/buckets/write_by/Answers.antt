@@ -41,3 +41,6 @@ returns-in_err-append_in-clause-writes g c =
 
 pub loop-above-preserved : goal.loop-above-preserved
 loop-above-preserved g c = grind (arith, common_steps, down_here, down_read, down_step)
+
+pub returns-clause-writes : goal.returns-clause-writes
+returns-clause-writes g c = grind (arith, common_steps)

@@ -76,3 +76,6 @@ returns-in-Some-next_item-3 g c =
       (items_of i.0, omega (arith, n1, i.3, e), inl (omega arith, (_, (_, i.1, c.in-None.ensures.steps)))),
       ((hashes_of i.0 ++ c.in-Some-next_item-3.field-0 ∷ [], omega (arith, m, n0, i.3, e), inr (refl, (_, yields_more g.J.Iterator.next_gives _ _ _ (hashes_of i.0) _ i.2 c.in-Some-next_item-3.ensures.steps))), λ z. omega (arith, z)),
     )
+
+pub returns-in_default : goal.returns-in_default
+returns-in_default g c = grind (arith, common_steps)

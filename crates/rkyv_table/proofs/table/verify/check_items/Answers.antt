@@ -74,3 +74,6 @@ returns-clause-valid g c = grind (arith, common_steps, full_end, checked_end, ch
 
 pub returns-clause-count : goal.returns-clause-count
 returns-clause-count g c = grind (arith, common_steps, full_end, checked_end, checked_same)
+
+pub remove_lowest_bit-marks-requires : goal.remove_lowest_bit-marks-requires
+remove_lowest_bit-marks-requires g c = grind (arith, common_steps)
