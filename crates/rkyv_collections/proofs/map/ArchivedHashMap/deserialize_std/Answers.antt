@@ -1,4 +1,5 @@
-use Rattle.std.proofs.Common.{inl, inr, subst, ◌∙◌, ℕ, List, arith}
+use Rattle.std.proofs.Common.{refl, inl, inr, subst, ◌∙◌, ℕ, List, arith}
+use Rattle.std.proofs.lemmas.Grind.{common_steps}
 use Rattle.std.specs.Borrow.{Bor}
 use Rattle.std.specs.HashMap.{get, keys}
 use Rattle.std.proofs.lemmas.Result.{err_from_is_err_and}
@@ -43,3 +44,8 @@ returns-in_err-insert_read g c =
           c.loop-key.key-iterator c.next.new.self c.in-Some.key.pos (get g.A.PartialEq.eq c.loop-key.map) (keys c.loop-key.map) step.0 on.0 fails error
           (subst (λ (a : Bor (List ℕ)). fails a.now c.in-Some.key.pos error) (step.1.at.0 ∙ on.0.same_archive) part))
     ])
+
+pub returns-in_err-reserve : goal.returns-in_err-reserve
+returns-in_err-reserve g c =
+    let p = err_from_is_err_and c.from_residual.result c.from_residual.ensures.1 in
+    rw (p.1, p.2) (inl (refl, grind (arith, common_steps)))

@@ -1,4 +1,5 @@
-use Rattle.std.proofs.Common.{length, rules, subst}
+use Rattle.std.proofs.Common.{arith, length, rules, subst}
+use Rattle.std.proofs.lemmas.Grind.{common_steps}
 use Rattle.rkyv_keys.specs.{hash_of}
 use Rattle.rkyv_table.specs.{len_at}
 use Rattle.rkyv_collections.specs.{FindsPair, map_bytes, map_pos}
@@ -19,3 +20,9 @@ returns-then-not-finds_equal g c =
     let m = c.args.other.now.entries in
     one_fails P m (len_at g.W.Word.word (map_bytes c.args.self) (map_pos c.args.self)) (length m) (c.in-Some.key.now, c.in-Some.value.now) c.next.new.self
     (subst (Decides P m) c.in-Some.ensures.steps c.loop-key.invariant) c.finds_equal.result c.finds_equal.ensures (search rules)
+
+pub loop-key-init : goal.loop-key-init
+loop-key-init g c = grind (arith, common_steps)
+
+pub returns : goal.returns
+returns g c = grind (arith, common_steps)

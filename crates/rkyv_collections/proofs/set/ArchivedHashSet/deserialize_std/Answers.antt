@@ -1,4 +1,5 @@
-use Rattle.std.proofs.Common.{ap, inl, inr, refl, subst, sym, ◌∙◌, ℕ, List}
+use Rattle.std.proofs.Common.{arith, ap, inl, inr, refl, subst, sym, ◌∙◌, ℕ, List}
+use Rattle.std.proofs.lemmas.Grind.{common_steps}
 use Rattle.std.specs.Borrow.{Bor}
 use Rattle.std.specs.List.{IsDistinct, find}
 use Rattle.std.specs.Map.{keys_of}
@@ -66,3 +67,8 @@ returns g c =
     let unique = subst (λ (ks : List g.row.A.Denot). IsDistinct g.A.PartialEq.eq ks) (sym (keys_with_units c.loop-key.set.keys)) on.1 in
     let stored : (q : g.row.A.Denot) → _ = λ q. ap (find (g.A.PartialEq.eq q)) (keys_with_units c.loop-key.set.keys) ∙ on.0.first_kept q in
     (record { pairs = on.0.pairs; read = read; inserted = (on.0.inserted, unique); stored = stored }, on.2 ∙ c.reserve.ensures.hasher ∙ c.with_hasher-set.ensures.hasher)
+
+pub returns-in_err-reserve : goal.returns-in_err-reserve
+returns-in_err-reserve g c =
+    let p = err_from_is_err_and c.from_residual.result c.from_residual.ensures.1 in
+    rw (p.1, p.2) (inl (refl, grind (arith, common_steps)))

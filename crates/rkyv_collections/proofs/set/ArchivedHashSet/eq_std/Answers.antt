@@ -1,4 +1,5 @@
-use Rattle.std.proofs.Common.{rules, subst}
+use Rattle.std.proofs.Common.{arith, rules, subst}
+use Rattle.std.proofs.lemmas.Grind.{common_steps}
 use Rattle.std.specs.HashSet.{hash_set_len}
 use Rattle.rkyv_keys.specs.{hash_of}
 use Rattle.rkyv_table.specs.{len_at}
@@ -21,3 +22,9 @@ returns-then-not-finds_equal g c =
     let keys = c.args.other.now.keys in
     one_fails P keys (len_at g.W.Word.word (set_bytes c.args.self) (set_pos c.args.self)) (hash_set_len c.args.other.now) c.in-Some.key.now c.next.new.self
     (subst (Decides P keys) c.in-Some.ensures.steps c.loop-key.invariant) c.finds_equal.result c.finds_equal.ensures (search rules)
+
+pub loop-key-init : goal.loop-key-init
+loop-key-init g c = grind (arith, common_steps)
+
+pub returns : goal.returns
+returns g c = grind (arith, common_steps)
