@@ -33,3 +33,9 @@ returns-in_err-back-clause-error g c =
     let here = subst (λ (xs : List ℕ). deserialize_fails xs (length xs - s.size)) c.as_slice.ensures.value there in
     let p = err_from_is_err_and c.from_residual-in_err-back.result c.from_residual-in_err-back.ensures.1 in
     rw (p.1, p.2) (c.in_ok-bytes.bytes.items, c.in_ok-bytes.ensures.2, here)
+
+pub returns-in_err-back-clause-same : goal.returns-in_err-back-clause-same
+returns-in_err-back-clause-same g c = let p = err_from_is_err_and c.from_residual-in_err-back.result c.from_residual-in_err-back.ensures.1 in rw p.1 tt
+
+pub returns-in_err-back-clause-archived : goal.returns-in_err-back-clause-archived
+returns-in_err-back-clause-archived g c = let p = err_from_is_err_and c.from_residual-in_err-back.result c.from_residual-in_err-back.ensures.1 in rw p.1 tt

@@ -99,3 +99,9 @@ loop-at-init g c =
       below = λ h. subst (IndicesBelow w b n) indices h;
       failed = λ x f. subst (λ (qs : List ℕ). FirstNotBelow w b n qs x) indices f;
     }
+
+pub returns-then-index-len-clause-fails : goal.returns-then-index-len-clause-fails
+returns-then-index-len-clause-fails g c = grind (arith, common_steps)
+
+pub returns-clause-below : goal.returns-clause-below
+returns-clause-below g c = grind (arith, common_steps)
