@@ -22,3 +22,9 @@ pub check_out_of_line_utf8-requires : goal.check_out_of_line_utf8-requires
 check_out_of_line_utf8-requires g c =
     let layout = g.met.W.Width.layout in
     grind (arith, common_steps, is_long)
+
+pub out_of_line_len-len-requires : goal.out_of_line_len-len-requires
+out_of_line_len-len-requires g c = grind (arith, common_steps)
+
+pub out_of_line_start-begin-requires : goal.out_of_line_start-begin-requires
+out_of_line_start-begin-requires g c = grind (arith, common_steps)
