@@ -32,34 +32,39 @@ pub(crate) fn first_wrong<'a>(alloc: Global, rows: &[(&'a str, &str)]) -> Option
     None
 }
 
-/// Returns a script of a head, `put K 0` for the keys below `count`, and a tail.
-pub(crate) fn puts(
-    alloc: Global,
+/// Appends a head, `put K 0` for the keys below `count`, and a tail to a script.
+pub(crate) fn push_puts(
+    script: &mut String,
     head: &str,
     count: u32,
     tail: &str,
-) -> Result<String, AllocError> {
-    let mut script = String::new(alloc);
+) -> Result<(), AllocError> {
     script.push_str(head)?;
     for key in 0..count {
         write!(script, "put {key} 0\n")?;
     }
-    script.push_str(tail)?;
-    Ok(script)
+    script.push_str(tail)
 }
 
-/// Returns whether the output of a script from `puts` is `expected`.
-pub(crate) fn puts_output(
+// Returns whether the output of a script of `push_puts` is `expected`.
+fn puts_output(alloc: Global, head: &str, count: u32, tail: &str, expected: &str) -> bool {
+    let mut script = String::new(alloc);
+    push_puts(&mut script, head, count, tail).is_ok() && outputs(alloc, script.as_bytes(), expected)
+}
+
+/// Returns the head and the count of the first row whose output isn't the last text of the row.
+///
+/// The script of a row is that of `push_puts` with the head, the count and the tail.
+pub(crate) fn first_wrong_puts<'a>(
     alloc: Global,
-    head: &str,
-    count: u32,
-    tail: &str,
-    expected: &str,
-) -> bool {
-    match puts(alloc, head, count, tail) {
-        Ok(script) => outputs(alloc, script.as_bytes(), expected),
-        Err(_) => false,
+    rows: &[(&'a str, u32, &str, &str)],
+) -> Option<(&'a str, u32)> {
+    for (head, count, tail, expected) in rows {
+        if !puts_output(alloc, head, *count, tail, expected) {
+            return Some((head, *count));
+        }
     }
+    None
 }
 
 /// Returns the digits of the first row whose output isn't the last text of the row.

@@ -5,6 +5,7 @@ use rkyv_dict::run::{RunError, exit_status, run};
 use std::alloc::{AllocError, Global};
 use std::io;
 use std::io::{Read, Write};
+use std::process::Abort;
 
 /// A reader of at most `most` bytes at a time. It fails once with `kind`, at `fails_at` bytes left.
 #[derive(Drop)]
@@ -89,35 +90,48 @@ fn leaves_a_prefix(alloc: Global, most: usize, left: usize) -> bool {
     }
 }
 
-// Returns the script after `count` empty lines.
-fn behind_empty_lines(alloc: Global, count: u32) -> Result<Vec<u8>, AllocError> {
-    let mut script = Vec::new(alloc);
-    for _ in 0..count {
-        script.push(b'\n')?;
+// Returns the number of bytes of the first run into a failing writer that doesn't write just these.
+fn first_wrong_prefix(alloc: Global, most: usize) -> Option<usize> {
+    for left in 0..EXPECTED_OUTPUT.len() {
+        if !leaves_a_prefix(alloc, most, left) {
+            return Some(left);
+        }
     }
+    None
+}
+
+// Returns the script after `count` empty lines.
+fn behind_empty_lines(alloc: Global, count: usize) -> Result<Vec<u8>, AllocError> {
+    let mut script = vec![in alloc; b'\n'; count]?;
     script.extend_from_slice(SCRIPT)?;
     Ok(script)
 }
 
-// Returns the messages of all errors, and the exit statuses of all outcomes.
-fn messages_and_statuses(alloc: Global) -> Result<(String, [u8; 4]), AllocError> {
+// Returns the messages of all errors.
+fn messages(alloc: Global) -> Result<String, AllocError> {
     let (read, write, memory) = (RunError::Read, RunError::Write, RunError::Memory);
-    let text = format!(in alloc; "{read}, {write}, {memory}")?;
-    let statuses = [
-        exit_status(&Ok(())),
-        exit_status(&Err(read)),
-        exit_status(&Err(write)),
-        exit_status(&Err(memory)),
-    ];
-    Ok((text, statuses))
+    format!(in alloc; "{read}, {write}, {memory}")
+}
+
+// Fails the test unless each of these outcomes has this exit status.
+fn expect_statuses(rt: &impl Abort, rows: &[(Result<(), RunError>, u8)]) {
+    for (outcome, status) in rows {
+        expect_eq!(*rt; exit_status(outcome), *status);
+    }
 }
 
 #[test]
 fn outcomes_have_messages_and_exit_statuses(rt: HostRuntime) -> Result<(), AllocError> {
-    let (text, statuses) = messages_and_statuses(rt.alloc())?;
-    expect_eq!(rt;
-        (text.as_str(), statuses),
-        ("read fault, write fault, no memory", [0, 2, 3, 4])
+    let text = messages(rt.alloc())?;
+    expect_eq!(rt; text.as_str(), "read fault, write fault, no memory");
+    expect_statuses(
+        &rt,
+        &[
+            (Ok(()), 0),
+            (Err(RunError::Read), 2),
+            (Err(RunError::Write), 3),
+            (Err(RunError::Memory), 4),
+        ],
     );
     Ok(())
 }
@@ -152,18 +166,17 @@ fn many_reads_are_made(rt: HostRuntime) -> Result<(), AllocError> {
     };
     let mut out = Vec::new(rt.alloc());
     let status = exit_status(&run(rt.alloc(), &mut reader, &mut out));
-    expect_eq!(rt; (status, out.as_slice()), (0, EXPECTED_OUTPUT.as_bytes()));
+    expect_eq!(rt; status, 0);
+    expect_eq!(rt; out.as_slice(), EXPECTED_OUTPUT.as_bytes());
     Ok(())
 }
 
 #[test]
 fn failed_write_leaves_a_prefix(rt: HostRuntime) {
-    let wrong = (0..EXPECTED_OUTPUT.len()).find(|left| !leaves_a_prefix(rt.alloc(), 7, *left));
+    expect_eq!(rt; first_wrong_prefix(rt.alloc(), 7), None);
     let (whole, all) = write_fails(rt.alloc(), 1, EXPECTED_OUTPUT.len());
-    expect_eq!(rt;
-        (wrong, whole, all.as_slice()),
-        (None, 0, EXPECTED_OUTPUT.as_bytes())
-    );
+    expect_eq!(rt; whole, 0);
+    expect_eq!(rt; all.as_slice(), EXPECTED_OUTPUT.as_bytes());
 }
 
 #[test]

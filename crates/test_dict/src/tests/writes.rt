@@ -6,6 +6,7 @@ use rkyv_dict::run::{RunError, run};
 use std::alloc::{AllocError, Global};
 use std::io;
 use std::io::Write;
+use std::process::Abort;
 
 /// A writer of at most `most` bytes of a piece, of which only one write fails.
 #[derive(Drop)]
@@ -84,14 +85,25 @@ fn writes(most: usize) -> usize
     EXPECTED_OUTPUT.len().div_ceil(most)
 }
 
+// Returns the number of the first write of at most `most` bytes whose failure isn't returned.
+fn first_not_returned(alloc: Global, most: usize) -> Option<usize>
+    requires { 0 < most }
+{
+    for fails_at in 1..writes(most).saturating_add(1) {
+        if !is_returned(alloc, most, fails_at) {
+            return Some(fails_at);
+        }
+    }
+    None
+}
+
 #[test]
 fn a_failed_write_is_returned(rt: HostRuntime) {
-    let alloc = rt.alloc();
     let wrong = [
-        (1..writes(1).saturating_add(1)).find(|n| !is_returned(alloc, 1, *n)),
-        (1..writes(7).saturating_add(1)).find(|n| !is_returned(alloc, 7, *n)),
-        (1..writes(64).saturating_add(1)).find(|n| !is_returned(alloc, 64, *n)),
-        (1..2).find(|n| !is_returned(alloc, 1000, *n)),
+        first_not_returned(rt.alloc(), 1),
+        first_not_returned(rt.alloc(), 7),
+        first_not_returned(rt.alloc(), 64),
+        first_not_returned(rt.alloc(), 1000),
     ];
     expect_eq!(rt; wrong, [None; 4]);
 }
@@ -100,11 +112,9 @@ fn a_failed_write_is_returned(rt: HostRuntime) {
 fn an_interrupted_write_is_returned(rt: HostRuntime) {
     let mut writer = FailsOnce::new(rt.alloc(), 7, 3);
     writer.kind = io::ErrorKind::Interrupted;
-    let outcome = outcome(rt.alloc(), SCRIPT, &mut writer);
-    expect_eq!(rt;
-        (outcome, writer.writes, writer.taken.as_slice()),
-        (Ending::Write, 3, b"built 60\n01000".as_slice())
-    );
+    expect_eq!(rt; outcome(rt.alloc(), SCRIPT, &mut writer), Ending::Write);
+    expect_eq!(rt; writer.writes, 3);
+    expect_eq!(rt; writer.taken.as_slice(), b"built 60\n01000".as_slice());
 }
 
 #[test]
@@ -136,24 +146,25 @@ fn long_outcome(alloc: Global, fails_at: usize) -> Result<(Ending, usize, usize)
     Ok((outcome, writer.writes, writer.taken.len()))
 }
 
+// Fails the test unless the long script has this outcome if the write of this number fails.
+fn expect_long_outcomes(rt: &impl Abort, alloc: Global, rows: &[(usize, (Ending, usize, usize))]) {
+    for (fails_at, expected) in rows {
+        expect_eq!(*rt; long_outcome(alloc, *fails_at), Ok(*expected));
+    }
+}
+
 // `built 60` is a line of 9 bytes, and each `hex` one of 121. So 542 lines of digits are the first
 // that fill a piece, and so do the 542 after them.
 #[test]
-fn nothing_is_written_after_a_failed_write(rt: HostRuntime) -> Result<(), AllocError> {
-    let outcomes = [
-        long_outcome(rt.alloc(), 1)?,
-        long_outcome(rt.alloc(), 2)?,
-        long_outcome(rt.alloc(), 3)?,
-        long_outcome(rt.alloc(), 4)?,
-    ];
-    expect_eq!(rt;
-        outcomes,
-        [
-            (Ending::Write, 1, 0),
-            (Ending::Write, 2, 9 + 542 * 121),
-            (Ending::Write, 3, 9 + 1084 * 121),
-            (Ending::Done, 3, 9 + 1100 * 121)
-        ]
+fn nothing_is_written_after_a_failed_write(rt: HostRuntime) {
+    expect_long_outcomes(
+        &rt,
+        rt.alloc(),
+        &[
+            (1, (Ending::Write, 1, 0)),
+            (2, (Ending::Write, 2, 9 + 542 * 121)),
+            (3, (Ending::Write, 3, 9 + 1084 * 121)),
+            (4, (Ending::Done, 3, 9 + 1100 * 121)),
+        ],
     );
-    Ok(())
 }
