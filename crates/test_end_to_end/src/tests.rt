@@ -12,7 +12,13 @@ use rkyv_end_to_end::{
 };
 use rkyv_table::{ArchivedHashTable, TableOf};
 use std::alloc::{AllocError, Global};
-use std::test::Fail;
+use std::fmt::{Debug, Display};
+use std::process::Abort;
+
+// Fails the test unless the two are equal, and prints both then.
+fn expect_equal<T: PartialEq + Debug + Drop>(rt: &impl Abort, found: T, expected: T) {
+    assert_eq!(*rt; found, expected);
+}
 
 // Returns `true` if the walk, the result and the strides of a lookup are these.
 fn is_report(report: &TableReport, walked: &[u64], found: Option<u64>, strides: u64) -> bool {
@@ -53,7 +59,7 @@ fn a_list_is_found_as_it_was_written(rt: HostRuntime) {
         is_looked_over::<Narrow>(alloc, 48),
         is_looked_over::<Wide>(alloc, 64),
     ];
-    assert_eq!(rt; results, [true; 2]);
+    expect_equal(&rt, results, [true; 2]);
 }
 
 // Does the same with a writer of at most `limit` bytes, and looks over its bytes afterwards.
@@ -99,7 +105,7 @@ fn a_list_is_written_by_any_writer(rt: HostRuntime) {
         is_limited::<Narrow>(alloc, 47),
         is_limited::<Wide>(alloc, 64),
     ];
-    assert_eq!(rt; results, [true, false, true]);
+    expect_equal(&rt, results, [true, false, true]);
 }
 
 // Writes a number over the first item that is accepted under the hash 2. Returns `None` if there
@@ -187,10 +193,8 @@ fn a_changed_list_is_found_with_its_new_item(rt: HostRuntime) {
     written_items_are_replaced::<Narrow, u8, &u8>();
     finds_listed(|item| item.to_native() > 10);
     let alloc = rt.alloc();
-    assert_eq!(rt;
-        [is_changed::<Narrow>(alloc), is_changed::<Wide>(alloc)],
-        [true; 2]
-    );
+    let results = [is_changed::<Narrow>(alloc), is_changed::<Wide>(alloc)];
+    expect_equal(&rt, results, [true; 2]);
 }
 
 // The archive of a table of one pair of numbers, in the second of two buckets.
@@ -207,17 +211,17 @@ fn look(alloc: Global, bytes: &[u8; 60], hash: u64) -> Result<TableReport, LookE
     look_over::<Narrow, Entry<u32, u32>, _>(alloc, bytes, 48, range, hash, |_| true)
 }
 
+// Returns `true` if that lookup has this result, and its walk visits the pair.
+fn finds(alloc: Global, hash: u64, found: Option<u64>) -> bool {
+    match look(alloc, &ONE_PAIR, hash) {
+        Ok(report) => is_report(&report, &[0], found, 1),
+        Err(_) => false,
+    }
+}
+
 #[test]
 fn untrusted_bytes_are_reported_or_rejected(rt: HostRuntime) {
     let alloc = rt.alloc();
-    let found = match look(alloc, &ONE_PAIR, 0x5000_0000_0000_0001) {
-        Ok(report) => is_report(&report, &[0], Some(0), 1),
-        Err(_) => false,
-    };
-    let none = match look(alloc, &ONE_PAIR, 1) {
-        Ok(report) => is_report(&report, &[0], None, 1),
-        Err(_) => false,
-    };
     let mut bytes = ONE_PAIR;
     bytes[52] = 0;
     let failed = matches!(
@@ -227,36 +231,48 @@ fn untrusted_bytes_are_reported_or_rejected(rt: HostRuntime) {
             actual: 1,
         }))
     );
-    assert_eq!(rt; [found, none, failed], [true; 3]);
+    let found = finds(alloc, 0x5000_0000_0000_0001, Some(0));
+    let none = finds(alloc, 1, None);
+    expect_equal(&rt, [found, none, failed], [true; 3]);
+}
+
+// Fails the test unless each of these errors is displayed as the text beside it.
+fn expect_texts<E: Display>(
+    rt: &impl Abort,
+    alloc: Global,
+    rows: &[(E, &str)],
+) -> Result<(), AllocError> {
+    for (error, text) in rows {
+        let shown = format!(in alloc; "{error}")?;
+        expect_equal(rt, shown.as_str(), *text);
+    }
+    Ok(())
 }
 
 #[test]
-fn errors_are_displayed(rt: HostRuntime) -> Result<(), Fail> {
-    let alloc = rt.alloc();
-    let verify = LookError::Verify(VerifyError::UnwrappedControlByte { index: 3 });
-    let write = ListError::Write(WriteError::CapacityTooLarge { len: 7 });
-    let look = ListError::Look(LookError::Memory);
-    let shown = [
-        format!(in alloc; "{}", LookError::Memory)?,
-        format!(in alloc; "{verify}")?,
-        format!(in alloc; "{write}")?,
-        format!(in alloc; "{look}")?,
-    ];
-    assert_eq!(rt;
-        [
-            shown[0].as_str(),
-            shown[1].as_str(),
-            shown[2].as_str(),
-            shown[3].as_str()
+fn errors_are_displayed(rt: HostRuntime) -> Result<(), AllocError> {
+    expect_texts(
+        &rt,
+        rt.alloc(),
+        &[
+            (LookError::Memory, "no memory"),
+            (
+                LookError::Verify(VerifyError::UnwrappedControlByte { index: 3 }),
+                "unwrapped control byte at index 3",
+            ),
         ],
-        [
-            "no memory",
-            "unwrapped control byte at index 3",
-            "capacity too large for length 7",
-            "no memory"
-        ]
-    );
-    Ok(())
+    )?;
+    expect_texts(
+        &rt,
+        rt.alloc(),
+        &[
+            (
+                ListError::Write(WriteError::CapacityTooLarge { len: 7 }),
+                "capacity too large for length 7",
+            ),
+            (ListError::Look(LookError::Memory), "no memory"),
+        ],
+    )
 }
 
 #[test]
@@ -264,16 +280,17 @@ fn errors_are_converted_into_those_of_their_names(rt: HostRuntime) {
     errors_are_converted();
     let fault = VerifyError::UnwrappedControlByte { index: 3 };
     let looked = [LookError::from(fault), LookError::from(AllocError)];
-    assert_eq!(rt; looked, [LookError::Verify(fault), LookError::Memory]);
+    expect_equal(&rt, looked, [LookError::Verify(fault), LookError::Memory]);
     let listed = [
         ListError::from(WriteError::CapacityTooLarge { len: 7 }),
         ListError::from(LookError::Memory),
     ];
-    assert_eq!(rt;
+    expect_equal(
+        &rt,
         listed,
         [
             ListError::Write(WriteError::CapacityTooLarge { len: 7 }),
-            ListError::Look(LookError::Memory)
-        ]
+            ListError::Look(LookError::Memory),
+        ],
     );
 }
