@@ -5,8 +5,8 @@ ghost use Rattle.ffi_calls.specs.{IsNumberIndex};
 
 use crate::tests::expect_equal;
 use crate::tests::index_archives::{
-    NO_PAIRS, NO_WIDE_PAIRS, long_number_twice, one_long_number, one_number, one_number_twice,
-    one_wide_great_number, one_wide_long_number, one_wide_number,
+    LONG_NUMBER_TWICE, NO_PAIRS, NO_WIDE_PAIRS, ONE_LONG_NUMBER, ONE_NUMBER, ONE_NUMBER_TWICE,
+    ONE_WIDE_GREAT_NUMBER, ONE_WIDE_LONG_NUMBER, ONE_WIDE_NUMBER,
 };
 use crate::tests::support::GREAT;
 use ffi_calls::form::{Form, LONG, SHORT, WIDE, WIDE_LONG};
@@ -70,26 +70,21 @@ const NINE: Pair<u32, u64> = Pair { value: 9, key: 9 };
 // A pair that no call stores, with a key of 64 bits.
 const LONG_NINE: Pair<u64, u64> = Pair { value: 9, key: 9 };
 
-// Fails the test unless a lookup has this result.
-fn expect_lookup(
-    rt: &impl Abort,
-    archive: &[u8],
-    form: Form,
-    key: u32,
-    expected: (usize, u32, usize, u64),
-) {
-    expect_equal(rt, lookup(archive, form, key), Some(expected));
+// A lookup: the archive, the form, the key, and the result.
+type Lookup<'a, K> = (&'a [u8], Form, K, (usize, u32, usize, u64));
+
+// Fails the test unless each of these lookups has its result.
+fn expect_lookups(rt: &impl Abort, rows: &[Lookup<'_, u32>]) {
+    for (archive, form, key, expected) in rows {
+        expect_equal(rt, lookup(archive, *form, *key), Some(*expected));
+    }
 }
 
-// Does the same with a key of 64 bits.
-fn expect_long_lookup(
-    rt: &impl Abort,
-    archive: &[u8],
-    form: Form,
-    key: u64,
-    expected: (usize, u32, usize, u64),
-) {
-    expect_equal(rt, lookup(archive, form, key), Some(expected));
+// Does the same with keys of 64 bits.
+fn expect_long_lookups(rt: &impl Abort, rows: &[Lookup<'_, u64>]) {
+    for (archive, form, key, expected) in rows {
+        expect_equal(rt, lookup(archive, *form, *key), Some(*expected));
+    }
 }
 
 // Fails the test unless this many pairs are stored over one, from an index on, and the one is as
@@ -106,140 +101,177 @@ fn expect_pair_at(
     expect_equal(rt, (stored, numbers_of(pairs[0])), (Some(count), pair));
 }
 
-// Fails the test unless this many pairs are stored over two, from an index on, and the two are as
-// expected afterwards. Each is 9 to 9 at first.
-fn expect_several(
-    rt: &impl Abort,
-    archive: &[u8],
-    form: Form,
-    from: usize,
-    (count, expected): (usize, [(u32, u64); 2]),
-) {
-    let mut pairs = [NINE; 2];
-    let stored = read(archive, form, from, &mut pairs);
-    let found = [numbers_of(pairs[0]), numbers_of(pairs[1])];
-    expect_equal(rt, (stored, found), (Some(count), expected));
+// Does the same for each archive, form and index.
+fn expect_pairs_at(rt: &impl Abort, rows: &[(&[u8], Form, usize, (usize, (u32, u64)))]) {
+    for (archive, form, index, expected) in rows {
+        expect_pair_at(rt, archive, *form, *index, *expected);
+    }
+}
+
+// An archive, its form, an index, the number of pairs that are stored from it on, and both pairs.
+type Several<'a, K> = (&'a [u8], Form, usize, usize, (K, u64), (K, u64));
+
+// Fails the test unless for each row this many pairs are stored over two, from an index on, and the
+// two are as expected afterwards. Each is 9 to 9 at first.
+fn expect_several(rt: &impl Abort, rows: &[Several<'_, u32>]) {
+    for (archive, form, from, count, first, second) in rows {
+        let mut pairs = [NINE; 2];
+        let stored = read(archive, *form, *from, &mut pairs);
+        let found = [numbers_of(pairs[0]), numbers_of(pairs[1])];
+        expect_equal(rt, (stored, found), (Some(*count), [*first, *second]));
+    }
 }
 
 // Does the same with keys of 64 bits.
-fn expect_long_several(
-    rt: &impl Abort,
-    archive: &[u8],
-    form: Form,
-    from: usize,
-    (count, expected): (usize, [(u64, u64); 2]),
-) {
-    let mut pairs = [LONG_NINE; 2];
-    let stored = read(archive, form, from, &mut pairs);
-    let found = [numbers_of(pairs[0]), numbers_of(pairs[1])];
-    expect_equal(rt, (stored, found), (Some(count), expected));
+fn expect_long_several(rt: &impl Abort, rows: &[Several<'_, u64>]) {
+    for (archive, form, from, count, first, second) in rows {
+        let mut pairs = [LONG_NINE; 2];
+        let stored = read(archive, *form, *from, &mut pairs);
+        let found = [numbers_of(pairs[0]), numbers_of(pairs[1])];
+        expect_equal(rt, (stored, found), (Some(*count), [*first, *second]));
+    }
 }
 
 #[test]
 fn lookups_find_the_number(rt: HostRuntime) {
-    expect_lookup(&rt, &one_number(), SHORT, 1, (1, 0, 0, 2));
-    expect_lookup(&rt, &one_long_number(), LONG, 1, (1, 0, 0, 2));
-    expect_lookup(&rt, &one_wide_number(), WIDE, 1, (1, 0, 0, 2));
-    expect_lookup(&rt, &one_wide_long_number(), WIDE_LONG, 1, (1, 0, 0, 2));
+    expect_lookups(
+        &rt,
+        &[
+            (ONE_NUMBER, SHORT, 1, (1, 0, 0, 2)),
+            (ONE_LONG_NUMBER, LONG, 1, (1, 0, 0, 2)),
+            (ONE_WIDE_NUMBER, WIDE, 1, (1, 0, 0, 2)),
+            (ONE_WIDE_LONG_NUMBER, WIDE_LONG, 1, (1, 0, 0, 2)),
+        ],
+    );
 }
 
 #[test]
 fn lookups_find_no_other_number(rt: HostRuntime) {
-    expect_lookup(&rt, &one_number(), SHORT, 2, (1, 1, 8, 9));
-    expect_lookup(&rt, &one_long_number(), LONG, 0, (1, 1, 8, 9));
-    expect_lookup(&rt, &one_wide_number(), WIDE, u32::MAX, (1, 1, 8, 9));
-    expect_lookup(&rt, &one_wide_long_number(), WIDE_LONG, 2, (1, 1, 8, 9));
+    expect_lookups(
+        &rt,
+        &[
+            (ONE_NUMBER, SHORT, 2, (1, 1, 8, 9)),
+            (ONE_LONG_NUMBER, LONG, 0, (1, 1, 8, 9)),
+            (ONE_WIDE_NUMBER, WIDE, u32::MAX, (1, 1, 8, 9)),
+            (ONE_WIDE_LONG_NUMBER, WIDE_LONG, 2, (1, 1, 8, 9)),
+        ],
+    );
 }
 
 #[test]
 fn lookups_of_long_numbers_compare_all_64_bits(rt: HostRuntime) {
-    let found = (1, 0, 0, 2);
-    let none = (1, 1, 8, 9);
-    expect_long_lookup(&rt, &one_long_number(), SHORT, 1, found);
-    expect_long_lookup(&rt, &one_long_number(), LONG, 1, found);
-    expect_long_lookup(&rt, &one_wide_long_number(), WIDE, 1, found);
-    expect_long_lookup(&rt, &one_wide_long_number(), WIDE_LONG, 1, found);
-    expect_long_lookup(&rt, &one_wide_great_number(), WIDE, GREAT, found);
-    expect_long_lookup(&rt, &one_long_number(), SHORT, GREAT, none);
-    expect_long_lookup(&rt, &one_long_number(), LONG, u64::MAX, none);
-    expect_long_lookup(&rt, &one_wide_great_number(), WIDE, 1, none);
-    expect_long_lookup(&rt, &one_wide_great_number(), WIDE_LONG, 0, none);
+    expect_long_lookups(
+        &rt,
+        &[
+            (ONE_LONG_NUMBER, SHORT, 1, (1, 0, 0, 2)),
+            (ONE_LONG_NUMBER, LONG, 1, (1, 0, 0, 2)),
+            (ONE_WIDE_LONG_NUMBER, WIDE, 1, (1, 0, 0, 2)),
+            (ONE_WIDE_LONG_NUMBER, WIDE_LONG, 1, (1, 0, 0, 2)),
+            (ONE_WIDE_GREAT_NUMBER, WIDE, GREAT, (1, 0, 0, 2)),
+            (ONE_LONG_NUMBER, SHORT, GREAT, (1, 1, 8, 9)),
+            (ONE_LONG_NUMBER, LONG, u64::MAX, (1, 1, 8, 9)),
+            (ONE_WIDE_GREAT_NUMBER, WIDE, 1, (1, 1, 8, 9)),
+            (ONE_WIDE_GREAT_NUMBER, WIDE_LONG, 0, (1, 1, 8, 9)),
+        ],
+    );
 }
 
 #[test]
 fn lookups_in_an_empty_map_find_nothing(rt: HostRuntime) {
-    expect_lookup(&rt, NO_PAIRS, SHORT, 1, (0, 1, 8, 9));
-    expect_lookup(&rt, NO_PAIRS, LONG, 1, (0, 1, 8, 9));
-    expect_lookup(&rt, NO_WIDE_PAIRS, WIDE, 1, (0, 1, 8, 9));
-    expect_lookup(&rt, NO_WIDE_PAIRS, WIDE_LONG, 1, (0, 1, 8, 9));
+    expect_lookups(
+        &rt,
+        &[
+            (NO_PAIRS, SHORT, 1, (0, 1, 8, 9)),
+            (NO_PAIRS, LONG, 1, (0, 1, 8, 9)),
+            (NO_WIDE_PAIRS, WIDE, 1, (0, 1, 8, 9)),
+            (NO_WIDE_PAIRS, WIDE_LONG, 1, (0, 1, 8, 9)),
+        ],
+    );
 }
 
 #[test]
 fn lookups_find_the_first_of_equal_keys(rt: HostRuntime) {
-    let bytes = one_number_twice();
-    expect_lookup(&rt, &bytes, SHORT, 1, (3, 0, 0, 2));
-    expect_lookup(&rt, &bytes, SHORT, 5, (3, 0, 1, 6));
-    let bytes = long_number_twice();
-    expect_long_lookup(&rt, &bytes, SHORT, 1, (3, 0, 0, 2));
-    expect_long_lookup(&rt, &bytes, LONG, GREAT, (3, 0, 1, 6));
+    expect_lookups(
+        &rt,
+        &[
+            (ONE_NUMBER_TWICE, SHORT, 1, (3, 0, 0, 2)),
+            (ONE_NUMBER_TWICE, SHORT, 5, (3, 0, 1, 6)),
+        ],
+    );
+    expect_long_lookups(
+        &rt,
+        &[
+            (LONG_NUMBER_TWICE, SHORT, 1, (3, 0, 0, 2)),
+            (LONG_NUMBER_TWICE, LONG, GREAT, (3, 0, 1, 6)),
+        ],
+    );
 }
 
 #[test]
 fn pairs_are_in_insertion_order(rt: HostRuntime) {
-    let bytes = one_number_twice();
-    expect_pair_at(&rt, &bytes, SHORT, 0, (1, (1, 2)));
-    expect_pair_at(&rt, &bytes, SHORT, 1, (1, (5, 6)));
-    expect_pair_at(&rt, &bytes, SHORT, 2, (1, (1, 9)));
-    expect_pair_at(&rt, &bytes, SHORT, 3, (0, (9, 9)));
+    expect_pairs_at(
+        &rt,
+        &[
+            (ONE_NUMBER_TWICE, SHORT, 0, (1, (1, 2))),
+            (ONE_NUMBER_TWICE, SHORT, 1, (1, (5, 6))),
+            (ONE_NUMBER_TWICE, SHORT, 2, (1, (1, 9))),
+            (ONE_NUMBER_TWICE, SHORT, 3, (0, (9, 9))),
+        ],
+    );
 }
 
 #[test]
 fn pairs_are_read_in_each_form(rt: HostRuntime) {
-    expect_pair_at(&rt, &one_long_number(), LONG, 0, (1, (1, 2)));
-    expect_pair_at(&rt, &one_wide_number(), WIDE, 0, (1, (1, 2)));
-    expect_pair_at(&rt, &one_wide_long_number(), WIDE_LONG, 0, (1, (1, 2)));
-    expect_pair_at(&rt, NO_PAIRS, SHORT, 0, (0, (9, 9)));
-    expect_pair_at(&rt, &one_wide_number(), WIDE, usize::MAX, (0, (9, 9)));
+    expect_pairs_at(
+        &rt,
+        &[
+            (ONE_LONG_NUMBER, LONG, 0, (1, (1, 2))),
+            (ONE_WIDE_NUMBER, WIDE, 0, (1, (1, 2))),
+            (ONE_WIDE_LONG_NUMBER, WIDE_LONG, 0, (1, (1, 2))),
+            (NO_PAIRS, SHORT, 0, (0, (9, 9))),
+            (ONE_WIDE_NUMBER, WIDE, usize::MAX, (0, (9, 9))),
+        ],
+    );
 }
 
 #[test]
 fn several_pairs_are_stored_at_once(rt: HostRuntime) {
-    let bytes = one_number_twice();
-    expect_several(&rt, &bytes, SHORT, 0, (2, [(1, 2), (5, 6)]));
-    expect_several(&rt, &bytes, SHORT, 1, (2, [(5, 6), (1, 9)]));
-    expect_several(&rt, &bytes, SHORT, 2, (1, [(1, 9), (9, 9)]));
-    expect_several(&rt, &bytes, SHORT, 3, (0, [(9, 9), (9, 9)]));
-    expect_several(&rt, &bytes, SHORT, usize::MAX, (0, [(9, 9), (9, 9)]));
+    expect_several(
+        &rt,
+        &[
+            (ONE_NUMBER_TWICE, SHORT, 0, 2, (1, 2), (5, 6)),
+            (ONE_NUMBER_TWICE, SHORT, 1, 2, (5, 6), (1, 9)),
+            (ONE_NUMBER_TWICE, SHORT, 2, 1, (1, 9), (9, 9)),
+            (ONE_NUMBER_TWICE, SHORT, 3, 0, (9, 9), (9, 9)),
+            (ONE_NUMBER_TWICE, SHORT, usize::MAX, 0, (9, 9), (9, 9)),
+        ],
+    );
 }
 
 #[test]
 fn several_pairs_are_stored_in_each_form(rt: HostRuntime) {
-    let one = (1, [(1, 2), (9, 9)]);
-    expect_several(&rt, &one_long_number(), LONG, 0, one);
-    expect_several(&rt, &one_wide_number(), WIDE, 0, one);
-    expect_several(&rt, &one_wide_long_number(), WIDE_LONG, 0, one);
+    expect_several(
+        &rt,
+        &[
+            (ONE_LONG_NUMBER, LONG, 0, 1, (1, 2), (9, 9)),
+            (ONE_WIDE_NUMBER, WIDE, 0, 1, (1, 2), (9, 9)),
+            (ONE_WIDE_LONG_NUMBER, WIDE_LONG, 0, 1, (1, 2), (9, 9)),
+        ],
+    );
 }
 
 #[test]
 fn several_pairs_of_long_numbers_are_stored_at_once(rt: HostRuntime) {
-    let bytes = long_number_twice();
-    expect_long_several(&rt, &bytes, SHORT, 0, (2, [(1, 2), (GREAT, 6)]));
-    expect_long_several(&rt, &bytes, LONG, 1, (2, [(GREAT, 6), (1, 9)]));
-    expect_long_several(&rt, &bytes, LONG, 2, (1, [(1, 9), (9, 9)]));
-    expect_long_several(&rt, &bytes, SHORT, usize::MAX, (0, [(9, 9), (9, 9)]));
     expect_long_several(
         &rt,
-        &one_wide_great_number(),
-        WIDE,
-        0,
-        (1, [(GREAT, 2), (9, 9)]),
+        &[
+            (LONG_NUMBER_TWICE, SHORT, 0, 2, (1, 2), (GREAT, 6)),
+            (LONG_NUMBER_TWICE, LONG, 1, 2, (GREAT, 6), (1, 9)),
+            (LONG_NUMBER_TWICE, LONG, 2, 1, (1, 9), (9, 9)),
+            (LONG_NUMBER_TWICE, SHORT, usize::MAX, 0, (9, 9), (9, 9)),
+            (ONE_WIDE_GREAT_NUMBER, WIDE, 0, 1, (GREAT, 2), (9, 9)),
+            (ONE_WIDE_LONG_NUMBER, WIDE_LONG, 0, 1, (1, 2), (9, 9)),
+            (NO_WIDE_PAIRS, WIDE, 0, 0, (9, 9), (9, 9)),
+        ],
     );
-    expect_long_several(
-        &rt,
-        &one_wide_long_number(),
-        WIDE_LONG,
-        0,
-        (1, [(1, 2), (9, 9)]),
-    );
-    expect_long_several(&rt, NO_WIDE_PAIRS, WIDE, 0, (0, [(9, 9), (9, 9)]));
 }

@@ -6,8 +6,8 @@ ghost use Rattle.ffi_calls.specs.{IsNumberTextIndex};
 use crate::tests::expect_equal;
 use crate::tests::index_archives::{NO_PAIRS, NO_WIDE_PAIRS};
 use crate::tests::index_text_archives::{
-    great_to_wide_text, long_to_tea, long_to_two_texts, one_to_tea, one_to_two_texts,
-    one_to_wide_text,
+    GREAT_TO_WIDE_TEXT, LONG_TO_TEA, LONG_TO_TWO_TEXTS, ONE_TO_TEA, ONE_TO_TWO_TEXTS,
+    ONE_TO_WIDE_TEXT,
 };
 use crate::tests::support::GREAT;
 use ffi_calls::index_numbers_to_texts::{
@@ -107,120 +107,138 @@ fn several_long(
     right.then_some(count)
 }
 
-// Fails the test unless a lookup has this result, and the value is `value` afterwards.
-fn expect_lookup(
-    rt: &impl Abort,
-    archive: &[u8],
-    wide: bool,
-    key: u32,
-    value: &[u8],
-    expected: (usize, u32, usize),
-) {
-    expect_equal(rt, lookup(archive, wide, key, value), Some(expected));
+// A lookup: the archive, whether it is wide, the key, the value afterwards, and the result.
+type Lookup<'a, K> = (&'a [u8], bool, K, &'a [u8], (usize, u32, usize));
+
+// Fails the test unless each of these lookups has its result, and the value is as expected
+// afterwards.
+fn expect_lookups(rt: &impl Abort, rows: &[Lookup<'_, u32>]) {
+    for (archive, wide, key, value, expected) in rows {
+        expect_equal(rt, lookup(archive, *wide, *key, value), Some(*expected));
+    }
 }
 
-// Does the same with a key of 64 bits.
-fn expect_long_lookup(
-    rt: &impl Abort,
-    archive: &[u8],
-    wide: bool,
-    key: u64,
-    value: &[u8],
-    expected: (usize, u32, usize),
-) {
-    expect_equal(rt, lookup(archive, wide, key, value), Some(expected));
+// Does the same with keys of 64 bits.
+fn expect_long_lookups(rt: &impl Abort, rows: &[Lookup<'_, u64>]) {
+    for (archive, wide, key, value, expected) in rows {
+        expect_equal(rt, lookup(archive, *wide, *key, value), Some(*expected));
+    }
+}
+
+// An archive, whether it is wide, an index, the keys and the values of two pairs afterwards, and
+// how many are stored.
+type Several<'a, K> = (&'a [u8], bool, usize, K, &'a [u8], K, &'a [u8], usize);
+
+// Fails the test unless `several` returns the number of each row.
+fn expect_several(rt: &impl Abort, rows: &[Several<'_, u32>]) {
+    for (archive, wide, from, key, value, other_key, other, count) in rows {
+        let found = several(archive, *wide, *from, (*key, value), (*other_key, other));
+        expect_equal(rt, found, Some(*count));
+    }
+}
+
+// Fails the test unless `several_long` returns the number of each row.
+fn expect_several_long(rt: &impl Abort, rows: &[Several<'_, u64>]) {
+    for (archive, wide, from, key, value, other_key, other, count) in rows {
+        let found = several_long(archive, *wide, *from, (*key, value), (*other_key, other));
+        expect_equal(rt, found, Some(*count));
+    }
 }
 
 #[test]
 fn lookups_find_the_text_of_the_first_pair(rt: HostRuntime) {
-    expect_lookup(&rt, &one_to_tea(), false, 1, b"tea", (1, 0, 0));
-    expect_lookup(&rt, &one_to_two_texts(), false, 1, b"wonderful", (3, 0, 0));
-    expect_lookup(&rt, &one_to_two_texts(), false, 5, b"x", (3, 0, 1));
-    expect_lookup(&rt, &one_to_wide_text(), true, 1, b"wonderful", (1, 0, 0));
+    expect_lookups(
+        &rt,
+        &[
+            (ONE_TO_TEA, false, 1, b"tea", (1, 0, 0)),
+            (ONE_TO_TWO_TEXTS, false, 1, b"wonderful", (3, 0, 0)),
+            (ONE_TO_TWO_TEXTS, false, 5, b"x", (3, 0, 1)),
+            (ONE_TO_WIDE_TEXT, true, 1, b"wonderful", (1, 0, 0)),
+        ],
+    );
 }
 
 #[test]
 fn lookups_find_no_other_number(rt: HostRuntime) {
-    expect_lookup(&rt, &one_to_tea(), false, 2, b"?", (1, 1, 8));
-    expect_lookup(&rt, &one_to_two_texts(), false, u32::MAX, b"?", (3, 1, 8));
-    expect_lookup(&rt, &one_to_wide_text(), true, 0, b"?", (1, 1, 8));
-    expect_lookup(&rt, NO_PAIRS, false, 1, b"?", (0, 1, 8));
-    expect_lookup(&rt, NO_WIDE_PAIRS, true, 1, b"?", (0, 1, 8));
+    expect_lookups(
+        &rt,
+        &[
+            (ONE_TO_TEA, false, 2, b"?", (1, 1, 8)),
+            (ONE_TO_TWO_TEXTS, false, u32::MAX, b"?", (3, 1, 8)),
+            (ONE_TO_WIDE_TEXT, true, 0, b"?", (1, 1, 8)),
+            (NO_PAIRS, false, 1, b"?", (0, 1, 8)),
+            (NO_WIDE_PAIRS, true, 1, b"?", (0, 1, 8)),
+        ],
+    );
 }
 
 #[test]
 fn lookups_find_the_text_of_a_long_number(rt: HostRuntime) {
-    expect_long_lookup(&rt, &long_to_tea(), false, 1, b"tea", (1, 0, 0));
-    expect_long_lookup(&rt, &long_to_two_texts(), false, 1, b"wonderful", (3, 0, 0));
-    expect_long_lookup(&rt, &long_to_two_texts(), false, GREAT, b"x", (3, 0, 1));
-    expect_long_lookup(&rt, &one_to_wide_text(), true, 1, b"wonderful", (1, 0, 0));
-    expect_long_lookup(
+    expect_long_lookups(
         &rt,
-        &great_to_wide_text(),
-        true,
-        GREAT,
-        b"wonderful",
-        (1, 0, 0),
+        &[
+            (LONG_TO_TEA, false, 1, b"tea", (1, 0, 0)),
+            (LONG_TO_TWO_TEXTS, false, 1, b"wonderful", (3, 0, 0)),
+            (LONG_TO_TWO_TEXTS, false, GREAT, b"x", (3, 0, 1)),
+            (ONE_TO_WIDE_TEXT, true, 1, b"wonderful", (1, 0, 0)),
+            (GREAT_TO_WIDE_TEXT, true, GREAT, b"wonderful", (1, 0, 0)),
+        ],
     );
 }
 
 #[test]
 fn lookups_of_long_numbers_compare_all_64_bits(rt: HostRuntime) {
-    expect_long_lookup(&rt, &long_to_tea(), false, GREAT, b"?", (1, 1, 8));
-    expect_long_lookup(&rt, &great_to_wide_text(), true, 1, b"?", (1, 1, 8));
-    expect_long_lookup(&rt, NO_PAIRS, false, 1, b"?", (0, 1, 8));
-    expect_long_lookup(&rt, NO_WIDE_PAIRS, true, GREAT, b"?", (0, 1, 8));
+    expect_long_lookups(
+        &rt,
+        &[
+            (LONG_TO_TEA, false, GREAT, b"?", (1, 1, 8)),
+            (GREAT_TO_WIDE_TEXT, true, 1, b"?", (1, 1, 8)),
+            (NO_PAIRS, false, 1, b"?", (0, 1, 8)),
+            (NO_WIDE_PAIRS, true, GREAT, b"?", (0, 1, 8)),
+        ],
+    );
 }
 
 #[test]
 fn pairs_are_in_insertion_order(rt: HostRuntime) {
-    let bytes = one_to_two_texts();
-    let x: (u32, &[u8]) = (5, b"x");
-    let tea: (u32, &[u8]) = (1, b"tea");
-    let nine: (u32, &[u8]) = (9, b"?");
-    expect_eq!(rt; several(&bytes, false, 0, (1, b"wonderful"), x), Some(2));
-    expect_eq!(rt; several(&bytes, false, 1, x, tea), Some(2));
-    expect_eq!(rt; several(&bytes, false, 2, tea, nine), Some(1));
-    expect_eq!(rt; several(&bytes, false, 3, nine, nine), Some(0));
-    expect_eq!(rt; several(&bytes, false, usize::MAX, nine, nine), Some(0));
+    expect_several(
+        &rt,
+        &[
+            (ONE_TO_TWO_TEXTS, false, 0, 1, b"wonderful", 5, b"x", 2),
+            (ONE_TO_TWO_TEXTS, false, 1, 5, b"x", 1, b"tea", 2),
+            (ONE_TO_TWO_TEXTS, false, 2, 1, b"tea", 9, b"?", 1),
+            (ONE_TO_TWO_TEXTS, false, 3, 9, b"?", 9, b"?", 0),
+            (ONE_TO_TWO_TEXTS, false, usize::MAX, 9, b"?", 9, b"?", 0),
+        ],
+    );
 }
 
 #[test]
 fn pairs_are_read_in_each_form(rt: HostRuntime) {
-    let nine: (u32, &[u8]) = (9, b"?");
-    expect_eq!(rt;
-        several(&one_to_tea(), false, 0, (1, b"tea"), nine),
-        Some(1)
+    expect_several(
+        &rt,
+        &[
+            (ONE_TO_TEA, false, 0, 1, b"tea", 9, b"?", 1),
+            (ONE_TO_WIDE_TEXT, true, 0, 1, b"wonderful", 9, b"?", 1),
+            (ONE_TO_WIDE_TEXT, true, 1, 9, b"?", 9, b"?", 0),
+            (NO_PAIRS, false, 0, 9, b"?", 9, b"?", 0),
+            (NO_WIDE_PAIRS, true, 0, 9, b"?", 9, b"?", 0),
+        ],
     );
-    expect_eq!(rt;
-        several(&one_to_wide_text(), true, 0, (1, b"wonderful"), nine),
-        Some(1)
-    );
-    expect_eq!(rt; several(&one_to_wide_text(), true, 1, nine, nine), Some(0));
-    expect_eq!(rt; several(NO_PAIRS, false, 0, nine, nine), Some(0));
-    expect_eq!(rt; several(NO_WIDE_PAIRS, true, 0, nine, nine), Some(0));
 }
 
 #[test]
 fn pairs_of_long_numbers_are_in_insertion_order(rt: HostRuntime) {
-    let bytes = long_to_two_texts();
-    let x: (u64, &[u8]) = (GREAT, b"x");
-    let tea: (u64, &[u8]) = (1, b"tea");
-    let nine: (u64, &[u8]) = (9, b"?");
-    expect_eq!(rt;
-        several_long(&bytes, false, 0, (1, b"wonderful"), x),
-        Some(2)
-    );
-    expect_eq!(rt; several_long(&bytes, false, 1, x, tea), Some(2));
-    expect_eq!(rt; several_long(&bytes, false, 2, tea, nine), Some(1));
-    expect_eq!(rt; several_long(&bytes, false, 3, nine, nine), Some(0));
-    expect_eq!(rt; several_long(&long_to_tea(), false, 0, tea, nine), Some(1));
-    expect_eq!(rt;
-        several_long(&great_to_wide_text(), true, 0, (GREAT, b"wonderful"), nine),
-        Some(1)
-    );
-    expect_eq!(rt;
-        several_long(&great_to_wide_text(), true, usize::MAX, nine, nine),
-        Some(0)
+    expect_several_long(
+        &rt,
+        &[
+            (LONG_TO_TWO_TEXTS, false, 0, 1, b"wonderful", GREAT, b"x", 2),
+            (LONG_TO_TWO_TEXTS, false, 1, GREAT, b"x", 1, b"tea", 2),
+            (LONG_TO_TWO_TEXTS, false, 2, 1, b"tea", 9, b"?", 1),
+            (LONG_TO_TWO_TEXTS, false, 3, 9, b"?", 9, b"?", 0),
+            (LONG_TO_TEA, false, 0, 1, b"tea", 9, b"?", 1),
+            (GREAT_TO_WIDE_TEXT, true, 0, GREAT, b"wonderful", 9, b"?", 1),
+            (GREAT_TO_WIDE_TEXT, true, usize::MAX, 9, b"?", 9, b"?", 0),
+        ],
     );
 }

@@ -1,9 +1,9 @@
 //! Tests of overwrites in index maps of numbers and of texts.
 
 use crate::tests::index_archives::{
-    NO_PAIRS, empty_text, empty_wide_text, long_number_twice, one_long_number, one_number,
-    one_number_twice, one_symbol, one_wide_great_number, one_wide_long_number, one_wide_number,
-    two_texts,
+    EMPTY_TEXT, EMPTY_WIDE_TEXT, LONG_NUMBER_TWICE, NO_PAIRS, ONE_LONG_NUMBER, ONE_NUMBER,
+    ONE_NUMBER_TWICE, ONE_SYMBOL, ONE_WIDE_GREAT_NUMBER, ONE_WIDE_LONG_NUMBER, ONE_WIDE_NUMBER,
+    TWO_TEXTS,
 };
 use crate::tests::support::{GREAT, with_bytes};
 use crate::tests::{expect_equal, index_numbers, index_texts};
@@ -73,33 +73,26 @@ fn text_and_get(
     Some((status, again, found.index, found.value))
 }
 
-// Fails the test unless an overwrite has this status.
-fn expect_number(
-    rt: &impl Abort,
-    archive: &mut [u8],
-    form: Form,
-    key: u32,
-    value: u64,
-    status: u32,
-) {
-    expect_equal(rt, number(archive, form, key, value), Some(status));
+// Fails the test unless each of these overwrites has its status: the form, the key, the value and
+// the status.
+fn expect_numbers(rt: &impl Abort, archive: &mut [u8], rows: &[(Form, u32, u64, u32)]) {
+    for (form, key, value, status) in rows {
+        expect_equal(rt, number(archive, *form, *key, *value), Some(*status));
+    }
 }
 
-// Does the same for a key of 64 bits.
-fn expect_long(rt: &impl Abort, archive: &mut [u8], form: Form, key: u64, value: u64, status: u32) {
-    expect_equal(rt, number(archive, form, key, value), Some(status));
+// Does the same for keys of 64 bits.
+fn expect_long_numbers(rt: &impl Abort, archive: &mut [u8], rows: &[(Form, u64, u64, u32)]) {
+    for (form, key, value, status) in rows {
+        expect_equal(rt, number(archive, *form, *key, *value), Some(*status));
+    }
 }
 
-// Does the same for a key that is a text.
-fn expect_text(
-    rt: &impl Abort,
-    archive: &mut [u8],
-    form: Form,
-    key: &[u8],
-    value: u64,
-    status: u32,
-) {
-    expect_equal(rt, text(archive, form, key, value), Some(status));
+// Does the same for keys that are texts.
+fn expect_texts(rt: &impl Abort, archive: &mut [u8], rows: &[(Form, &[u8], u64, u32)]) {
+    for (form, key, value, status) in rows {
+        expect_equal(rt, text(archive, *form, key, *value), Some(*status));
+    }
 }
 
 // Fails the test unless an overwrite succeeds, and changes only the bytes from a position on, to
@@ -113,7 +106,7 @@ fn expect_number_changed<const N: usize>(
     (pos, bytes): (usize, &[u8]),
 ) {
     let mut found = archive;
-    expect_number(rt, &mut found, form, key, value, 0);
+    expect_equal(rt, number(&mut found, form, key, value), Some(0));
     assert!(*rt; found == with_bytes(archive, pos, bytes));
 }
 
@@ -127,7 +120,7 @@ fn expect_long_changed<const N: usize>(
     (pos, bytes): (usize, &[u8]),
 ) {
     let mut found = archive;
-    expect_long(rt, &mut found, form, key, value, 0);
+    expect_equal(rt, number(&mut found, form, key, value), Some(0));
     assert!(*rt; found == with_bytes(archive, pos, bytes));
 }
 
@@ -141,64 +134,79 @@ fn expect_text_changed<const N: usize>(
     (pos, bytes): (usize, &[u8]),
 ) {
     let mut found = archive;
-    expect_text(rt, &mut found, form, key, value, 0);
+    expect_equal(rt, text(&mut found, form, key, value), Some(0));
     assert!(*rt; found == with_bytes(archive, pos, bytes));
 }
 
 #[test]
 fn headers_serve_after_overwrites(rt: HostRuntime) {
     expect_eq!(rt;
-        number_and_get(&mut one_number(), SHORT, 1u32, 3),
+        number_and_get(&mut { *ONE_NUMBER }, SHORT, 1u32, 3),
         Some((0, 0, 0, 3))
     );
     expect_eq!(rt;
-        number_and_get(&mut one_wide_great_number(), WIDE_LONG, GREAT, u64::MAX),
+        number_and_get(&mut { *ONE_WIDE_GREAT_NUMBER }, WIDE_LONG, GREAT, u64::MAX),
         Some((0, 0, 0, u64::MAX))
     );
     expect_eq!(rt;
-        number_and_get(&mut long_number_twice(), LONG, GREAT, 3),
+        number_and_get(&mut { *LONG_NUMBER_TWICE }, LONG, GREAT, 3),
         Some((0, 0, 1, 3))
     );
     expect_eq!(rt;
-        text_and_get(&mut two_texts(), SHORT, b"b", 3),
+        text_and_get(&mut { *TWO_TEXTS }, SHORT, b"b", 3),
         Some((0, 0, 1, 3))
     );
     expect_eq!(rt;
-        text_and_get(&mut empty_wide_text(), WIDE, &[0xc3], 3),
+        text_and_get(&mut { *EMPTY_WIDE_TEXT }, WIDE, &[0xc3], 3),
         Some((4, 4, 8, 9))
     );
 }
 
 #[test]
 fn overwrites_under_numbers_have_their_errors(rt: HostRuntime) {
-    let mut narrow = one_number();
-    let mut wide = one_wide_number();
-    expect_number(&rt, &mut narrow, SHORT, 1, 0x1_0000_0000, 3);
-    expect_number(&rt, &mut narrow, SHORT, 2, u64::MAX, 3);
-    expect_number(&rt, &mut narrow, SHORT, 2, 0xffff_ffff, 1);
-    expect_number(&rt, &mut wide, WIDE, 1, 0x1_0000_0000, 3);
-    expect_number(&rt, &mut wide, WIDE, 0, 3, 1);
-    assert!(rt; narrow == one_number() && wide == one_wide_number());
-    let mut narrow = one_long_number();
-    let mut wide = one_wide_great_number();
-    expect_number(&rt, &mut narrow, LONG, 2, u64::MAX, 1);
-    expect_long(&rt, &mut narrow, SHORT, 1, u64::MAX, 3);
-    expect_long(&rt, &mut narrow, LONG, GREAT, 3, 1);
-    expect_long(&rt, &mut wide, WIDE, GREAT, 0x1_0000_0000, 3);
-    expect_long(&rt, &mut wide, WIDE_LONG, 1, 3, 1);
-    assert!(rt; narrow == one_long_number() && wide == one_wide_great_number());
+    let mut narrow = *ONE_NUMBER;
+    let mut wide = *ONE_WIDE_NUMBER;
+    expect_numbers(
+        &rt,
+        &mut narrow,
+        &[
+            (SHORT, 1, 0x1_0000_0000, 3),
+            (SHORT, 2, u64::MAX, 3),
+            (SHORT, 2, 0xffff_ffff, 1),
+        ],
+    );
+    expect_numbers(
+        &rt,
+        &mut wide,
+        &[(WIDE, 1, 0x1_0000_0000, 3), (WIDE, 0, 3, 1)],
+    );
+    assert!(rt; narrow == *ONE_NUMBER && wide == *ONE_WIDE_NUMBER);
+    let mut narrow = *ONE_LONG_NUMBER;
+    let mut wide = *ONE_WIDE_GREAT_NUMBER;
+    expect_numbers(&rt, &mut narrow, &[(LONG, 2, u64::MAX, 1)]);
+    expect_long_numbers(
+        &rt,
+        &mut narrow,
+        &[(SHORT, 1, u64::MAX, 3), (LONG, GREAT, 3, 1)],
+    );
+    expect_long_numbers(
+        &rt,
+        &mut wide,
+        &[(WIDE, GREAT, 0x1_0000_0000, 3), (WIDE_LONG, 1, 3, 1)],
+    );
+    assert!(rt; narrow == *ONE_LONG_NUMBER && wide == *ONE_WIDE_GREAT_NUMBER);
     let mut empty = *NO_PAIRS;
-    expect_number(&rt, &mut empty, SHORT, 1, 3, 1);
+    expect_numbers(&rt, &mut empty, &[(SHORT, 1, 3, 1)]);
     assert!(rt; empty == *NO_PAIRS);
 }
 
 #[test]
 fn overwrites_under_numbers_change_the_value_alone(rt: HostRuntime) {
-    expect_number_changed(&rt, one_number(), SHORT, 1, 0x0405, (44, &[5, 4, 0, 0]));
-    expect_number_changed(&rt, one_long_number(), LONG, 1, u64::MAX, (48, &[0xff; 8]));
+    expect_number_changed(&rt, *ONE_NUMBER, SHORT, 1, 0x0405, (44, &[5, 4, 0, 0]));
+    expect_number_changed(&rt, *ONE_LONG_NUMBER, LONG, 1, u64::MAX, (48, &[0xff; 8]));
     expect_number_changed(
         &rt,
-        one_wide_number(),
+        *ONE_WIDE_NUMBER,
         WIDE,
         1,
         0xffff_fffe,
@@ -206,7 +214,7 @@ fn overwrites_under_numbers_change_the_value_alone(rt: HostRuntime) {
     );
     expect_number_changed(
         &rt,
-        one_wide_long_number(),
+        *ONE_WIDE_LONG_NUMBER,
         WIDE_LONG,
         1,
         0x1_0000_0000,
@@ -216,26 +224,19 @@ fn overwrites_under_numbers_change_the_value_alone(rt: HostRuntime) {
 
 #[test]
 fn overwrites_under_long_numbers_change_the_value_alone(rt: HostRuntime) {
+    expect_long_changed(&rt, *ONE_LONG_NUMBER, SHORT, 1, 0x0405, (48, &[5, 4, 0, 0]));
     expect_long_changed(
         &rt,
-        one_long_number(),
-        SHORT,
-        1,
-        0x0405,
-        (48, &[5, 4, 0, 0]),
-    );
-    expect_long_changed(
-        &rt,
-        long_number_twice(),
+        *LONG_NUMBER_TWICE,
         LONG,
         GREAT,
         u64::MAX,
         (72, &[0xff; 8]),
     );
-    expect_long_changed(&rt, one_wide_long_number(), WIDE, 1, 7, (56, &[7]));
+    expect_long_changed(&rt, *ONE_WIDE_LONG_NUMBER, WIDE, 1, 7, (56, &[7]));
     expect_long_changed(
         &rt,
-        one_wide_great_number(),
+        *ONE_WIDE_GREAT_NUMBER,
         WIDE_LONG,
         GREAT,
         0x1_0000_0000,
@@ -245,28 +246,40 @@ fn overwrites_under_long_numbers_change_the_value_alone(rt: HostRuntime) {
 
 #[test]
 fn overwrites_change_the_first_of_equal_keys(rt: HostRuntime) {
-    expect_number_changed(&rt, one_number_twice(), SHORT, 1, 7, (52, &[7]));
-    expect_long_changed(&rt, long_number_twice(), SHORT, 1, 7, (56, &[7]));
+    expect_number_changed(&rt, *ONE_NUMBER_TWICE, SHORT, 1, 7, (52, &[7]));
+    expect_long_changed(&rt, *LONG_NUMBER_TWICE, SHORT, 1, 7, (56, &[7]));
 }
 
 #[test]
 fn overwrites_under_texts_have_their_errors(rt: HostRuntime) {
-    let mut narrow = empty_text();
-    let mut wide = empty_wide_text();
-    expect_text(&rt, &mut narrow, SHORT, &[0x80], 0x1_0000_0000, 4);
-    expect_text(&rt, &mut narrow, SHORT, b"a", 0x1_0000_0000, 3);
-    expect_text(&rt, &mut narrow, SHORT, b"a", 8, 1);
-    expect_text(&rt, &mut wide, WIDE, b"", u64::MAX, 3);
-    expect_text(&rt, &mut wide, WIDE_LONG, b"a", u64::MAX, 1);
-    expect_text(&rt, &mut wide, WIDE_LONG, &[0x80], 8, 4);
-    assert!(rt; narrow == empty_text() && wide == empty_wide_text());
+    let mut narrow = *EMPTY_TEXT;
+    let mut wide = *EMPTY_WIDE_TEXT;
+    expect_texts(
+        &rt,
+        &mut narrow,
+        &[
+            (SHORT, &[0x80], 0x1_0000_0000, 4),
+            (SHORT, b"a", 0x1_0000_0000, 3),
+            (SHORT, b"a", 8, 1),
+        ],
+    );
+    expect_texts(
+        &rt,
+        &mut wide,
+        &[
+            (WIDE, b"", u64::MAX, 3),
+            (WIDE_LONG, b"a", u64::MAX, 1),
+            (WIDE_LONG, &[0x80], 8, 4),
+        ],
+    );
+    assert!(rt; narrow == *EMPTY_TEXT && wide == *EMPTY_WIDE_TEXT);
 }
 
 #[test]
 fn overwrites_under_texts_change_the_value_alone(rt: HostRuntime) {
-    let wide = empty_wide_text();
-    expect_text_changed(&rt, two_texts(), SHORT, b"b", 0x0405, (84, &[5, 4, 0, 0]));
-    expect_text_changed(&rt, one_symbol(), LONG, b"main", u64::MAX, (48, &[0xff; 8]));
+    let wide = *EMPTY_WIDE_TEXT;
+    expect_text_changed(&rt, *TWO_TEXTS, SHORT, b"b", 0x0405, (84, &[5, 4, 0, 0]));
+    expect_text_changed(&rt, *ONE_SYMBOL, LONG, b"main", u64::MAX, (48, &[0xff; 8]));
     expect_text_changed(&rt, wide, WIDE, b"", 0xffff_ffff, (64, &[0xff; 4]));
     expect_text_changed(&rt, wide, WIDE_LONG, b"", u64::MAX, (64, &[0xff; 8]));
 }

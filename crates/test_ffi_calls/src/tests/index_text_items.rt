@@ -2,8 +2,8 @@
 
 use crate::tests::index_archives::{NO_PAIRS, NO_WIDE_PAIRS};
 use crate::tests::index_text_archives::{
-    empty_to_text, empty_to_wide_text, great_to_wide_text, long_to_tea, long_to_two_texts,
-    one_to_tea, one_to_two_texts, one_to_wide_text, two_texts,
+    EMPTY_TO_TEXT, EMPTY_TO_WIDE_TEXT, GREAT_TO_WIDE_TEXT, LONG_TO_TEA, LONG_TO_TWO_TEXTS,
+    ONE_TO_TEA, ONE_TO_TWO_TEXTS, ONE_TO_WIDE_TEXT, TWO_TEXTS,
 };
 use crate::tests::support::{GREAT, expect_outcome, expect_permitted, outcome_of};
 use ffi_calls::building::Built;
@@ -105,12 +105,12 @@ fn two(alloc: Global, first: [&[u8]; 2], second: [&[u8]; 2], bytes: &[u8]) -> (u
 #[test]
 fn pairs_have_their_bytes_or_no_memory(rt: HostRuntime) {
     let alloc = rt.alloc();
-    expect_permitted(&rt, one(alloc, false, b"tea", &one_to_tea()));
+    expect_permitted(&rt, one(alloc, false, b"tea", ONE_TO_TEA));
     expect_permitted(
         &rt,
-        long(alloc, true, GREAT, b"wonderful", &great_to_wide_text()),
+        long(alloc, true, GREAT, b"wonderful", GREAT_TO_WIDE_TEXT),
     );
-    expect_permitted(&rt, text(alloc, false, b"", b"wonderful", &empty_to_text()));
+    expect_permitted(&rt, text(alloc, false, b"", b"wonderful", EMPTY_TO_TEXT));
 }
 
 #[test]
@@ -118,13 +118,9 @@ fn a_write_of_numbers_succeeds(rt: HostRuntime) {
     let alloc = rt.alloc();
     let done = (0, true);
     let values: [&[u8]; 3] = [b"wonderful", b"x", b"tea"];
-    expect_outcome(&rt, one(alloc, false, b"tea", &one_to_tea()), done);
-    expect_outcome(
-        &rt,
-        one(alloc, true, b"wonderful", &one_to_wide_text()),
-        done,
-    );
-    expect_outcome(&rt, three(alloc, false, values, &one_to_two_texts()), done);
+    expect_outcome(&rt, one(alloc, false, b"tea", ONE_TO_TEA), done);
+    expect_outcome(&rt, one(alloc, true, b"wonderful", ONE_TO_WIDE_TEXT), done);
+    expect_outcome(&rt, three(alloc, false, values, ONE_TO_TWO_TEXTS), done);
 }
 
 #[test]
@@ -132,20 +128,20 @@ fn a_write_of_long_numbers_succeeds(rt: HostRuntime) {
     let alloc = rt.alloc();
     let done = (0, true);
     let values: [&[u8]; 3] = [b"wonderful", b"x", b"tea"];
-    expect_outcome(&rt, long(alloc, false, 1, b"tea", &long_to_tea()), done);
+    expect_outcome(&rt, long(alloc, false, 1, b"tea", LONG_TO_TEA), done);
     expect_outcome(
         &rt,
-        long(alloc, true, 1, b"wonderful", &one_to_wide_text()),
+        long(alloc, true, 1, b"wonderful", ONE_TO_WIDE_TEXT),
         done,
     );
     expect_outcome(
         &rt,
-        long(alloc, true, GREAT, b"wonderful", &great_to_wide_text()),
+        long(alloc, true, GREAT, b"wonderful", GREAT_TO_WIDE_TEXT),
         done,
     );
     expect_outcome(
         &rt,
-        three_long(alloc, false, values, &long_to_two_texts()),
+        three_long(alloc, false, values, LONG_TO_TWO_TEXTS),
         done,
     );
 }
@@ -157,21 +153,17 @@ fn a_write_of_texts_succeeds(rt: HostRuntime) {
     let wide: &[u8] = b"a text of 17 byte";
     expect_outcome(
         &rt,
-        text(alloc, false, b"", b"wonderful", &empty_to_text()),
+        text(alloc, false, b"", b"wonderful", EMPTY_TO_TEXT),
         done,
     );
-    expect_outcome(
-        &rt,
-        text(alloc, true, b"", wide, &empty_to_wide_text()),
-        done,
-    );
+    expect_outcome(&rt, text(alloc, true, b"", wide, EMPTY_TO_WIDE_TEXT), done);
     expect_outcome(
         &rt,
         two(
             alloc,
             [b"a text out of line", b"wonderful"],
             [b"b", b"x"],
-            &two_texts(),
+            TWO_TEXTS,
         ),
         done,
     );

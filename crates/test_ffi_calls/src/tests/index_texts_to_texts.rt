@@ -5,7 +5,7 @@ ghost use Rattle.ffi_calls.specs.{IsTextTextIndex};
 
 use crate::tests::expect_equal;
 use crate::tests::index_archives::{NO_PAIRS, NO_WIDE_PAIRS};
-use crate::tests::index_text_archives::{empty_to_text, empty_to_wide_text, two_texts};
+use crate::tests::index_text_archives::{EMPTY_TO_TEXT, EMPTY_TO_WIDE_TEXT, TWO_TEXTS};
 use ffi_calls::index_texts_to_texts::{
     decode_index_texts_to_texts, get_index_text_of_text, index_text_texts_from,
     open_index_texts_to_texts,
@@ -82,73 +82,88 @@ fn several(
     right.then_some(count)
 }
 
-// Fails the test unless a lookup has this result, and the value is `value` afterwards.
-fn expect_lookup(
-    rt: &impl Abort,
-    archive: &[u8],
-    wide: bool,
-    key: &[u8],
-    value: &[u8],
-    expected: (usize, u32, usize),
-) {
-    expect_equal(rt, lookup(archive, wide, key, value), Some(expected));
+// A lookup: the archive, whether it is wide, the key, the value afterwards, and the result.
+type Lookup<'a> = (&'a [u8], bool, &'a [u8], &'a [u8], (usize, u32, usize));
+
+// Fails the test unless each of these lookups has its result, and the value is as expected
+// afterwards.
+fn expect_lookups(rt: &impl Abort, rows: &[Lookup<'_>]) {
+    for (archive, wide, key, value, expected) in rows {
+        expect_equal(rt, lookup(archive, *wide, key, value), Some(*expected));
+    }
+}
+
+// Fails the test unless `pair_at` returns the number of each row: the archive, whether it is wide,
+// the index, the key and the value of the pair, and the number.
+fn expect_pairs_at(rt: &impl Abort, rows: &[(&[u8], bool, usize, &[u8], &[u8], usize)]) {
+    for (archive, wide, index, key, value, count) in rows {
+        let found = pair_at(archive, *wide, *index, [key, value]);
+        expect_equal(rt, found, Some(*count));
+    }
 }
 
 #[test]
 fn lookups_find_the_text(rt: HostRuntime) {
-    expect_lookup(&rt, &empty_to_text(), false, b"", b"wonderful", (1, 0, 0));
-    expect_lookup(
+    expect_lookups(
         &rt,
-        &two_texts(),
-        false,
-        b"a text out of line",
-        b"wonderful",
-        (2, 0, 0),
-    );
-    expect_lookup(&rt, &two_texts(), false, b"b", b"x", (2, 0, 1));
-    expect_lookup(
-        &rt,
-        &empty_to_wide_text(),
-        true,
-        b"",
-        b"a text of 17 byte",
-        (1, 0, 0),
+        &[
+            (EMPTY_TO_TEXT, false, b"", b"wonderful", (1, 0, 0)),
+            (
+                TWO_TEXTS,
+                false,
+                b"a text out of line",
+                b"wonderful",
+                (2, 0, 0),
+            ),
+            (TWO_TEXTS, false, b"b", b"x", (2, 0, 1)),
+            (
+                EMPTY_TO_WIDE_TEXT,
+                true,
+                b"",
+                b"a text of 17 byte",
+                (1, 0, 0),
+            ),
+        ],
     );
 }
 
 #[test]
 fn lookups_find_no_other_text(rt: HostRuntime) {
-    expect_lookup(&rt, &empty_to_text(), false, b"a", b"?", (1, 1, 8));
-    expect_lookup(&rt, &two_texts(), false, b"a text", b"?", (2, 1, 8));
-    expect_lookup(
+    expect_lookups(
         &rt,
-        &empty_to_wide_text(),
-        true,
-        b"wonderful",
-        b"?",
-        (1, 1, 8),
+        &[
+            (EMPTY_TO_TEXT, false, b"a", b"?", (1, 1, 8)),
+            (TWO_TEXTS, false, b"a text", b"?", (2, 1, 8)),
+            (EMPTY_TO_WIDE_TEXT, true, b"wonderful", b"?", (1, 1, 8)),
+            (NO_PAIRS, false, b"", b"?", (0, 1, 8)),
+            (NO_WIDE_PAIRS, true, b"", b"?", (0, 1, 8)),
+        ],
     );
-    expect_lookup(&rt, NO_PAIRS, false, b"", b"?", (0, 1, 8));
-    expect_lookup(&rt, NO_WIDE_PAIRS, true, b"", b"?", (0, 1, 8));
 }
 
 #[test]
 fn lookups_reject_keys_that_are_no_text(rt: HostRuntime) {
-    expect_lookup(&rt, &empty_to_text(), false, &[0xc3], b"?", (1, 4, 8));
-    expect_lookup(&rt, &empty_to_wide_text(), true, &[0x80], b"?", (1, 4, 8));
-    expect_lookup(&rt, NO_PAIRS, false, &[0x61, 0xff], b"?", (0, 4, 8));
+    expect_lookups(
+        &rt,
+        &[
+            (EMPTY_TO_TEXT, false, &[0xc3], b"?", (1, 4, 8)),
+            (EMPTY_TO_WIDE_TEXT, true, &[0x80], b"?", (1, 4, 8)),
+            (NO_PAIRS, false, &[0x61, 0xff], b"?", (0, 4, 8)),
+        ],
+    );
 }
 
 #[test]
 fn pairs_are_in_insertion_order(rt: HostRuntime) {
-    let bytes = two_texts();
-    expect_eq!(rt;
-        pair_at(&bytes, false, 0, [b"a text out of line", b"wonderful"]),
-        Some(1)
+    expect_pairs_at(
+        &rt,
+        &[
+            (TWO_TEXTS, false, 0, b"a text out of line", b"wonderful", 1),
+            (TWO_TEXTS, false, 1, b"b", b"x", 1),
+            (TWO_TEXTS, false, 2, b"!", b"?", 0),
+            (TWO_TEXTS, false, usize::MAX, b"!", b"?", 0),
+        ],
     );
-    expect_eq!(rt; pair_at(&bytes, false, 1, [b"b", b"x"]), Some(1));
-    expect_eq!(rt; pair_at(&bytes, false, 2, [b"!", b"?"]), Some(0));
-    expect_eq!(rt; pair_at(&bytes, false, usize::MAX, [b"!", b"?"]), Some(0));
 }
 
 #[test]
@@ -157,7 +172,7 @@ fn several_pairs_are_stored_at_once(rt: HostRuntime) {
     let x: [&[u8]; 2] = [b"b", b"x"];
     expect_eq!(rt;
         several(
-            &two_texts(),
+            TWO_TEXTS,
             false,
             0,
             [b"a text out of line", b"wonderful"],
@@ -165,14 +180,14 @@ fn several_pairs_are_stored_at_once(rt: HostRuntime) {
         ),
         Some(2)
     );
-    expect_eq!(rt; several(&two_texts(), false, 1, x, other), Some(1));
+    expect_eq!(rt; several(TWO_TEXTS, false, 1, x, other), Some(1));
     expect_eq!(rt;
-        several(&empty_to_text(), false, 0, [b"", b"wonderful"], other),
+        several(EMPTY_TO_TEXT, false, 0, [b"", b"wonderful"], other),
         Some(1)
     );
     expect_eq!(rt;
         several(
-            &empty_to_wide_text(),
+            EMPTY_TO_WIDE_TEXT,
             true,
             0,
             [b"", b"a text of 17 byte"],
@@ -181,7 +196,7 @@ fn several_pairs_are_stored_at_once(rt: HostRuntime) {
         Some(1)
     );
     expect_eq!(rt;
-        several(&empty_to_wide_text(), true, 1, other, other),
+        several(EMPTY_TO_WIDE_TEXT, true, 1, other, other),
         Some(0)
     );
     expect_eq!(rt; several(NO_PAIRS, false, 0, other, other), Some(0));
