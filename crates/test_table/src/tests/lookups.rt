@@ -14,6 +14,7 @@ use rkyv_table::table::laws;
 use rkyv_table::{ArchivedHashTable, Strides, TableOf};
 use std::alloc::Global;
 use std::cell::Cell;
+use std::process::Abort;
 use test_support::archives::{four_pairs, no_items, one_key_twice, one_number, one_unit};
 
 /// The numbers that a lookup accepts.
@@ -57,6 +58,16 @@ pub(crate) fn counted(
         None => None,
     };
     Ok((number, strides.count()))
+}
+
+/// Fails the test unless each of these lookups has its result.
+///
+/// A row has the hash, the number that is looked up, and the result: the number that is found, and
+/// the number of strides that are read.
+pub(crate) fn expect_counted(rt: &impl Abort, bytes: &[u8], rows: &[(u64, u8, (Option<u8>, u64))]) {
+    for (hash, number, expected) in rows {
+        expect_eq!(*rt; counted(bytes, *hash, Accepted::Only(*number)), Ok(*expected));
+    }
 }
 
 /// Returns the number that is found under a hash.
@@ -195,21 +206,16 @@ fn a_decoded_header_has_the_numbers_of_the_table(rt: HostRuntime) {
 fn the_first_of_two_under_one_hash_is_found(rt: HostRuntime) {
     let archive = two_archived();
     let bytes: &[u8] = &archive;
-    let counted = [
-        counted(bytes, 2, Accepted::Each),
-        counted(bytes, 2, Accepted::Only(10)),
-        counted(bytes, 2, Accepted::Only(20)),
-        counted(bytes, 2, Accepted::Only(30)),
-    ];
     expect_eq!(rt; found(bytes, 2, Accepted::Each), [Ok(Some(10)); 4]);
-    expect_eq!(rt;
-        counted,
-        [
-            Ok((Some(10), 1)),
-            Ok((Some(10), 1)),
-            Ok((Some(20), 1)),
-            Ok((None, 1))
-        ]
+    expect_eq!(rt; counted(bytes, 2, Accepted::Each), Ok((Some(10), 1)));
+    expect_counted(
+        &rt,
+        bytes,
+        &[
+            (2, 10, (Some(10), 1)),
+            (2, 20, (Some(20), 1)),
+            (2, 30, (None, 1)),
+        ],
     );
 }
 
@@ -283,12 +289,15 @@ fn sixteen_buckets_are_one_stride(rt: HostRuntime) {
 fn the_second_stride_is_read_where_the_first_is_full(rt: HostRuntime) {
     let archive = sixteen_archived();
     let bytes: &[u8] = &archive;
-    let counted = [
-        counted(bytes, 16, Accepted::Only(1)),
-        counted(bytes, 16, Accepted::Only(16)),
-        counted(bytes, 16, Accepted::Only(17)),
-    ];
-    expect_eq!(rt; counted, [Ok((Some(1), 1)), Ok((Some(16), 1)), Ok((None, 2))]);
+    expect_counted(
+        &rt,
+        bytes,
+        &[
+            (16, 1, (Some(1), 1)),
+            (16, 16, (Some(16), 1)),
+            (16, 17, (None, 2)),
+        ],
+    );
     expect_eq!(rt; found(bytes, 16, Accepted::Only(9)), [Ok(Some(9)); 4]);
 }
 
@@ -376,7 +385,7 @@ fn items_of_another_hash_may_be_compared(rt: HostRuntime) {
         found(bytes, EVEN_TAG, second),
         [Ok(None), Ok(Some(20)), Ok(None), Ok(Some(20))]
     );
-    expect_eq!(rt; counted(bytes, EVEN_TAG, second), Ok((Some(20), 1)));
+    expect_counted(&rt, bytes, &[(EVEN_TAG, 20, (Some(20), 1))]);
 }
 
 #[test]

@@ -2,13 +2,14 @@
 //! from a start.
 
 use crate::tests::archives::{SIXTEEN, archived};
-use crate::tests::lookups::{Accepted, counted, placed, viewed};
+use crate::tests::lookups::{Accepted, expect_counted, placed, viewed};
 use rkyv_base::{VerifyError, Wide, access_in};
 use rkyv_scan::simd::generic;
 use rkyv_table::controls::place::place_from;
 use rkyv_table::controls::reciprocal::Reciprocal;
 use rkyv_table::controls::wrapped::check_wrapped;
 use rkyv_table::{ArchivedHashTable, Strides, TableOf};
+use std::process::Abort;
 use std::test::Fail;
 
 // One bucket without an item.
@@ -37,16 +38,15 @@ fn wide_counted(bytes: &[u8], hash: u64, expected: u8) -> Result<(Option<u8>, u6
     }
 }
 
-// The number that a lookup finds, and its position.
-type Found = (
-    Result<Option<u8>, VerifyError>,
-    Result<Option<u64>, VerifyError>,
-);
-
-// Returns the number that a lookup of `expected` finds, and its position.
-fn viewed_and_placed(bytes: &[u8], hash: u64, expected: u8) -> Found {
-    let accepted = Accepted::Only(expected);
-    (viewed(bytes, hash, accepted), placed(bytes, hash, accepted))
+// Fails the test unless each of these lookups finds its item. A row has the hash, the number that
+// is looked up, and the position of the item.
+fn expect_placed(rt: &impl Abort, bytes: &[u8], rows: &[(u64, u8, Option<u64>)]) {
+    for (hash, number, pos) in rows {
+        let accepted = Accepted::Only(*number);
+        let found = if pos.is_some() { Some(*number) } else { None };
+        expect_eq!(*rt; viewed(bytes, *hash, accepted), Ok(found));
+        expect_eq!(*rt; placed(bytes, *hash, accepted), Ok(*pos));
+    }
 }
 
 #[test]
@@ -100,35 +100,21 @@ fn an_item_is_placed_from_a_start(rt: HostRuntime) {
 fn items_under_one_hash_are_found(rt: HostRuntime) -> Result<(), Fail> {
     let bytes = archived(rt.alloc(), &SIXTEEN, &[16; 16], (1, 1))?;
     let bytes = bytes.as_slice();
-    let counted = [
-        counted(bytes, 16, Accepted::Only(1)),
-        counted(bytes, 16, Accepted::Only(16)),
-        counted(bytes, 16, Accepted::Only(17)),
-        counted(bytes, 0, Accepted::Only(1)),
-        counted(bytes, 33, Accepted::Only(1)),
-    ];
-    expect_eq!(rt;
-        counted,
-        [
-            Ok((Some(1), 1)),
-            Ok((Some(16), 1)),
-            Ok((None, 2)),
-            Ok((None, 1)),
-            Ok((Some(1), 1))
-        ]
+    expect_counted(
+        &rt,
+        bytes,
+        &[
+            (16, 1, (Some(1), 1)),
+            (16, 16, (Some(16), 1)),
+            (16, 17, (None, 2)),
+            (0, 1, (None, 1)),
+            (33, 1, (Some(1), 1)),
+        ],
     );
-    let placed = [
-        viewed_and_placed(bytes, 16, 1),
-        viewed_and_placed(bytes, 16, 2),
-        viewed_and_placed(bytes, 16, 17),
-    ];
-    expect_eq!(rt;
-        placed,
-        [
-            (Ok(Some(1)), Ok(Some(0))),
-            (Ok(Some(2)), Ok(Some(16))),
-            (Ok(None), Ok(None))
-        ]
+    expect_placed(
+        &rt,
+        bytes,
+        &[(16, 1, Some(0)), (16, 2, Some(16)), (16, 17, None)],
     );
     Ok(())
 }
@@ -137,12 +123,9 @@ fn items_under_one_hash_are_found(rt: HostRuntime) -> Result<(), Fail> {
 fn a_lookup_without_items_reads_nothing(rt: HostRuntime) -> Result<(), Fail> {
     let bytes = archived::<u8>(rt.alloc(), &[], &[], (7, 8))?;
     let bytes = bytes.as_slice();
-    let counted = [
-        counted(bytes, 3, Accepted::Only(0)),
-        counted(&ONE_BUCKET, 3, Accepted::Only(0)),
-    ];
-    expect_eq!(rt; counted, [Ok((None, 0)); 2]);
-    expect_eq!(rt; viewed_and_placed(bytes, 3, 0), (Ok(None), Ok(None)));
+    expect_counted(&rt, bytes, &[(3, 0, (None, 0))]);
+    expect_counted(&rt, &ONE_BUCKET, &[(3, 0, (None, 0))]);
+    expect_placed(&rt, bytes, &[(3, 0, None)]);
     Ok(())
 }
 
