@@ -16,6 +16,7 @@ use rkyv_table::controls::walk::{Walk, next_full};
 use rkyv_table::controls::wrapped::check_wrapped;
 use std::alloc::{AllocError, Global};
 use std::cell::Cell;
+use std::process::Abort;
 
 const NARROW: u64 = 4_294_967_295;
 
@@ -89,79 +90,107 @@ fn hash_of(key: i8) -> u64 {
     hasher.finish()
 }
 
-// Returns the capacity of a narrow archive for the length, under the load factor 7 / 8.
-fn usual(len: usize) -> Result<usize, CapacityError> {
-    capacity(len, (7, 8), NARROW)
+// Fails the test unless each of these capacities is computed. A row has the length, the load
+// factor, the greatest capacity, and the result.
+fn expect_capacities(
+    rt: &impl Abort,
+    rows: &[(usize, (usize, usize), u64, Result<usize, CapacityError>)],
+) {
+    for (len, load_factor, max, expected) in rows {
+        expect_eq!(*rt; capacity(*len, *load_factor, *max), *expected);
+    }
 }
 
 #[test]
 fn capacities_hold_the_items(rt: HostRuntime) {
-    let usual = [usual(0), usual(1), usual(3), usual(5), usual(7), usual(100)];
-    let full = [
-        capacity(15, (1, 1), NARROW),
-        capacity(16, (1, 1), NARROW),
-        capacity(1, (1, 4_294_967_295), NARROW),
-        capacity(4_294_967_294, (1, 1), NARROW),
-        capacity(4_611_686_018_427_387_903, (1, 1), WIDE),
-    ];
-    expect_eq!(rt;
-        (usual, full),
-        (
-            [Ok(0), Ok(2), Ok(4), Ok(6), Ok(8), Ok(114)],
-            [
-                Ok(16),
-                Ok(17),
-                Ok(4_294_967_295),
-                Ok(4_294_967_295),
-                Ok(4_611_686_018_427_387_904)
-            ]
-        )
+    expect_capacities(
+        &rt,
+        &[
+            (0, (7, 8), NARROW, Ok(0)),
+            (1, (7, 8), NARROW, Ok(2)),
+            (3, (7, 8), NARROW, Ok(4)),
+            (5, (7, 8), NARROW, Ok(6)),
+            (7, (7, 8), NARROW, Ok(8)),
+            (100, (7, 8), NARROW, Ok(114)),
+            (15, (1, 1), NARROW, Ok(16)),
+            (16, (1, 1), NARROW, Ok(17)),
+            (1, (1, 4_294_967_295), NARROW, Ok(4_294_967_295)),
+            (4_294_967_294, (1, 1), NARROW, Ok(4_294_967_295)),
+            (
+                4_611_686_018_427_387_903,
+                (1, 1),
+                WIDE,
+                Ok(4_611_686_018_427_387_904),
+            ),
+        ],
     );
 }
 
+// The errors of invalid load factors.
+const ABOVE_ONE: CapacityError = CapacityError::InvalidLoadFactor {
+    numerator: 8,
+    denominator: 7,
+};
+
+const ZERO: CapacityError = CapacityError::InvalidLoadFactor {
+    numerator: 0,
+    denominator: 1,
+};
+
+const BY_ZERO: CapacityError = CapacityError::InvalidLoadFactor {
+    numerator: 1,
+    denominator: 0,
+};
+
 #[test]
 fn rejects_invalid_capacities(rt: HostRuntime) {
-    let factors = [
-        capacity(0, (8, 7), NARROW),
-        capacity(0, (0, 1), NARROW),
-        capacity(0, (1, 0), NARROW),
-        capacity(1, (8, 7), NARROW),
-        capacity(1, (0, 1), NARROW),
-        capacity(1, (1, 0), NARROW),
-    ];
-    let large = [
-        capacity(1, (1, 4_294_967_296), NARROW),
-        capacity(4_294_967_295, (1, 1), NARROW),
-        capacity(usize::MAX, (1, usize::MAX), NARROW),
-        capacity(usize::MAX, (1, 1), u64::MAX),
-        capacity(4_611_686_018_427_387_904, (1, 1), WIDE),
-    ];
-    let invalid = |numerator, denominator| {
-        Err(CapacityError::InvalidLoadFactor {
-            numerator,
-            denominator,
-        })
-    };
-    let too_large = |len| Err(CapacityError::CapacityTooLarge { len });
-    expect_eq!(rt;
-        (factors, large),
-        (
-            [
-                invalid(8, 7),
-                invalid(0, 1),
-                invalid(1, 0),
-                invalid(8, 7),
-                invalid(0, 1),
-                invalid(1, 0)
-            ],
-            [
-                too_large(1),
-                too_large(4_294_967_295),
-                too_large(usize::MAX),
-                too_large(usize::MAX),
-                too_large(4_611_686_018_427_387_904)
-            ]
-        )
+    expect_capacities(
+        &rt,
+        &[
+            (0, (8, 7), NARROW, Err(ABOVE_ONE)),
+            (0, (0, 1), NARROW, Err(ZERO)),
+            (0, (1, 0), NARROW, Err(BY_ZERO)),
+            (1, (8, 7), NARROW, Err(ABOVE_ONE)),
+            (1, (0, 1), NARROW, Err(ZERO)),
+            (1, (1, 0), NARROW, Err(BY_ZERO)),
+        ],
+    );
+    expect_capacities(
+        &rt,
+        &[
+            (
+                1,
+                (1, 4_294_967_296),
+                NARROW,
+                Err(CapacityError::CapacityTooLarge { len: 1 }),
+            ),
+            (
+                4_294_967_295,
+                (1, 1),
+                NARROW,
+                Err(CapacityError::CapacityTooLarge { len: 4_294_967_295 }),
+            ),
+            (
+                usize::MAX,
+                (1, usize::MAX),
+                NARROW,
+                Err(CapacityError::CapacityTooLarge { len: usize::MAX }),
+            ),
+            (
+                usize::MAX,
+                (1, 1),
+                u64::MAX,
+                Err(CapacityError::CapacityTooLarge { len: usize::MAX }),
+            ),
+            (
+                4_611_686_018_427_387_904,
+                (1, 1),
+                WIDE,
+                Err(CapacityError::CapacityTooLarge {
+                    len: 4_611_686_018_427_387_904,
+                }),
+            ),
+        ],
     );
 }
 
@@ -318,22 +347,80 @@ fn one_item_is_placed(rt: HostRuntime) {
     expect_eq!(rt; (bucket, written), (1, true));
 }
 
+// The buckets that a lookup accepts.
+#[derive(Clone, Copy)]
+enum Accepted {
+    Each,
+    Only(usize),
+    Nothing,
+}
+
+// Returns `true` if a lookup accepts the bucket.
+fn is_accepted(bucket: usize, accepted: Accepted) -> bool {
+    match accepted {
+        Accepted::Each => true,
+        Accepted::Only(expected) => bucket == expected,
+        Accepted::Nothing => false,
+    }
+}
+
+// Returns the bucket that a lookup finds, and the number of strides that it reads.
+fn found<G: GroupKind>(table: &Table, hash: u64, accepted: Accepted) -> (Option<usize>, u64) {
+    table.lookup::<G, _>(hash, |bucket| is_accepted(bucket, accepted))
+}
+
+// Returns `true` if each of these lookups has its result, in the table of these hashes. A row has
+// the hash, the accepted buckets and the result.
+fn are_found<G: GroupKind>(
+    alloc: Global,
+    cap: usize,
+    hashes: &[u64],
+    rows: &[(u64, Accepted, (Option<usize>, u64))],
+) -> bool
+    requires room { length hashes.now < cap }
+    requires small { cap < 2 ^ 16 }
+{
+    let table = match Table::written::<G>(alloc, cap, hashes) {
+        Ok(table) => table,
+        Err(_) => return false,
+    };
+    let mut right = true;
+    for (hash, accepted, expected) in rows {
+        right = right && found::<G>(&table, *hash, *accepted) == *expected;
+    }
+    right
+}
+
 // Returns whether lookups in four tables find the expected buckets in the expected strides.
-fn finds<G: GroupKind>(alloc: Global) -> Result<bool, AllocError> {
-    let two = Table::written::<G>(alloc, 3, &[2, 2])?;
-    let wrapped = Table::written::<G>(alloc, 17, &[16; 16])?;
-    let apart = Table::written::<G>(alloc, 3, &[0x5000_0000_0000_0001, 0x5200_0000_0000_0000])?;
-    let empty = Table::written::<G>(alloc, 3, &[])?;
-    Ok(
-        two.lookup::<G, _>(2, |_| true) == (Some(2), 1)
-            && two.lookup::<G, _>(2, |b| b == 0) == (Some(0), 1)
-            && wrapped.lookup::<G, _>(16, |b| b == 16) == (Some(16), 1)
-            && wrapped.lookup::<G, _>(16, |b| b == 14) == (Some(14), 1)
-            && wrapped.lookup::<G, _>(16, |b| b == 7) == (Some(7), 1)
-            && wrapped.lookup::<G, _>(16, |_| false) == (None, 2)
-            && apart.lookup::<G, _>(0x5000_0000_0000_0001, |_| true) == (Some(0), 1)
-            && empty.lookup::<G, _>(2, |_| true) == (None, 0),
-    )
+fn finds<G: GroupKind>(alloc: Global) -> bool {
+    let in_two = are_found::<G>(
+        alloc,
+        3,
+        &[2, 2],
+        &[
+            (2, Accepted::Each, (Some(2), 1)),
+            (2, Accepted::Only(0), (Some(0), 1)),
+        ],
+    );
+    let in_wrapped = are_found::<G>(
+        alloc,
+        17,
+        &[16; 16],
+        &[
+            (16, Accepted::Only(16), (Some(16), 1)),
+            (16, Accepted::Only(14), (Some(14), 1)),
+            (16, Accepted::Only(7), (Some(7), 1)),
+            (16, Accepted::Nothing, (None, 2)),
+        ],
+    );
+    let in_apart = are_found::<G>(
+        alloc,
+        3,
+        &[0x5000_0000_0000_0001, 0x5200_0000_0000_0000],
+        &[(0x5000_0000_0000_0001, Accepted::Each, (Some(0), 1))],
+    );
+    let in_empty = are_found::<G>(alloc, 3, &[], &[(2, Accepted::Each, (None, 0))]);
+    in_two && in_wrapped && in_apart && in_empty
 }
 
 #[test]
@@ -357,11 +444,11 @@ fn finds_a_candidate(rt: HostRuntime) -> Result<(), AllocError> {
 fn finds_by_each_kind(rt: HostRuntime) {
     laws::found_on_written();
     let right = [
-        finds::<bytewise::Group>(rt.alloc()).ok(),
-        finds::<generic::Group>(rt.alloc()).ok(),
-        finds::<lanes::Group>(rt.alloc()).ok(),
+        finds::<bytewise::Group>(rt.alloc()),
+        finds::<generic::Group>(rt.alloc()),
+        finds::<lanes::Group>(rt.alloc()),
     ];
-    expect_eq!(rt; right, [Some(true); 3]);
+    expect_eq!(rt; right, [true; 3]);
 }
 
 // The word of eight controls also marks a tag that differs in the lowest bit, behind an equal one.
@@ -370,9 +457,9 @@ fn finds_by_false_marks(rt: HostRuntime) -> Result<(), AllocError> {
     let hash = 0x5000_0000_0000_0001;
     let table = Table::written::<generic::Group>(rt.alloc(), 3, &[hash, 0x5200_0000_0000_0000])?;
     let found = [
-        table.lookup::<generic::Group, _>(hash, |b| b == 1),
-        table.lookup::<bytewise::Group, _>(hash, |b| b == 1),
-        table.lookup::<lanes::Group, _>(hash, |b| b == 1),
+        found::<generic::Group>(&table, hash, Accepted::Only(1)),
+        found::<bytewise::Group>(&table, hash, Accepted::Only(1)),
+        found::<lanes::Group>(&table, hash, Accepted::Only(1)),
     ];
     expect_eq!(rt; found, [(Some(1), 1), (None, 1), (None, 1)]);
     Ok(())
