@@ -21,39 +21,41 @@ pub(crate) const TEXTS: &[u8; 35] = &[
     1, 2, 3,
 ];
 
-/// Returns the codes of a hash map.
-pub(crate) fn map(key: u8, value: u8, width: u8) -> Codes {
+/// The codes of contents: the kind, the key or item, the value and the width.
+pub(crate) type Contents = (u8, u8, u8, u8);
+
+/// The kind of a hash map.
+pub(crate) const MAP: u8 = 1;
+
+// The kind of a set, whose value is 1.
+const SET: u8 = 2;
+
+// The kind of an index map.
+const INDEX_MAP: u8 = 3;
+
+/// The contents of `TEXTS`.
+pub(crate) const OF_TEXTS: Contents = (MAP, 4, 0x18, 4);
+
+// The contents of an index map of texts to numbers of 64 bits.
+const OF_INDEX: Contents = (INDEX_MAP, 4, 0x18, 4);
+
+// Returns the codes of these contents.
+fn codes((kind, key, value, width): Contents) -> Codes {
     Codes {
-        kind: 1,
+        kind,
         key,
         value,
         width,
     }
 }
 
-// Returns the codes of an index map.
-fn index_map(key: u8, value: u8, width: u8) -> Codes {
-    Codes {
-        kind: 3,
-        ..map(key, value, width)
-    }
-}
-
-// Returns the codes of a set.
-fn set(item: u8, width: u8) -> Codes {
-    Codes {
-        kind: 2,
-        ..map(item, 1, width)
-    }
-}
-
 // Returns the container of the bytes 1, 2, 3 with these contents.
-fn container(codes: Codes) -> [u8; 35] {
+fn container((kind, key, value, width): Contents) -> [u8; 35] {
     let mut bytes = *TEXTS;
-    bytes[10] = codes.kind;
-    bytes[11] = codes.key;
-    bytes[12] = codes.value;
-    bytes[13] = codes.width;
+    bytes[10] = kind;
+    bytes[11] = key;
+    bytes[12] = value;
+    bytes[13] = width;
     bytes
 }
 
@@ -73,43 +75,53 @@ fn cut_header(container: &[u8; 35]) -> &[u8] {
 }
 
 // Returns the status of opening a container, and the length of the archive that is found.
-fn opened(bytes: &[u8], codes: Codes) -> (u32, usize) {
+fn opened(bytes: &[u8], contents: Contents) -> (u32, usize) {
     let mut opened = Opened { archive: &[] };
-    let status = open_container(bytes, codes, &mut opened);
+    let status = open_container(bytes, codes(contents), &mut opened);
     let Opened { archive } = opened;
     (status, archive.len())
 }
 
-// Fails the test unless opening a container has this status, and finds an archive of this length.
-fn expect_opened(rt: &impl Abort, bytes: &[u8], codes: Codes, expected: (u32, usize)) {
-    expect_equal(rt, opened(bytes, codes), expected);
+/// Returns the numbers of the first error of a container that is opened as these contents.
+pub(crate) fn explained(bytes: &[u8], contents: Contents) -> Numbers {
+    numbers_of(explain_container(bytes, codes(contents)))
 }
 
-/// Fails the test unless the first error of a container has this status, this position and these
-/// numbers.
-pub(crate) fn expect_explained(rt: &impl Abort, bytes: &[u8], codes: Codes, expected: Numbers) {
-    expect_equal(rt, numbers_of(explain_container(bytes, codes)), expected);
+// Fails the test unless opening each container as other contents has this status, and finds an
+// archive of this length. A row is the contents, the others, and the result.
+fn expect_opened(rt: &impl Abort, rows: &[(Contents, Contents, (u32, usize))]) {
+    for (contents, others, expected) in rows {
+        expect_equal(rt, opened(&container(*contents), *others), *expected);
+    }
+}
+
+/// Fails the test unless the first error of opening each container as other contents has these
+/// numbers. A row is the contents, the others, and the numbers.
+pub(crate) fn expect_explained(rt: &impl Abort, rows: &[(Contents, Contents, Numbers)]) {
+    for (contents, others, expected) in rows {
+        expect_equal(rt, explained(&container(*contents), *others), *expected);
+    }
 }
 
 // Returns the status of writing a header, and whether the header is then `expected`.
-fn writes(codes: Codes, checked: bool, expected: &[u8]) -> (u32, bool) {
+fn writes(contents: Contents, checked: bool, expected: &[u8]) -> (u32, bool) {
     let mut header = [9; 32];
-    let status = write_header(&[1, 2, 3], codes, checked, &mut header);
+    let status = write_header(&[1, 2, 3], codes(contents), checked, &mut header);
     (status, header.as_slice() == expected)
 }
 
 // Returns the status of writing a header without a checksum, and whether it then has the codes and
 // flags `expected`.
-fn writes_codes(codes: Codes, expected: &[u8]) -> (u32, bool) {
+fn writes_codes(contents: Contents, expected: &[u8]) -> (u32, bool) {
     let mut header = [9; 32];
-    let status = write_header(&[1, 2, 3], codes, false, &mut header);
+    let status = write_header(&[1, 2, 3], codes(contents), false, &mut header);
     (status, &header[10..16] == expected)
 }
 
 // Returns the status of opening the container with another byte at `pos`.
 fn status_with(pos: usize, byte: u8) -> u32 {
     let bytes = with_byte(*TEXTS, pos, byte);
-    opened(&bytes, map(4, 0x18, 4)).0
+    opened(&bytes, OF_TEXTS).0
 }
 
 // Returns the status of updating the container with another byte at `pos`, and the byte at 24.
@@ -126,121 +138,162 @@ fn width_of(bytes: &[u8], before: bool) -> (u32, bool) {
     (status, wide)
 }
 
+// Fails the test unless the header of each of these contents, with a checksum, is that of their
+// container.
+fn expect_headers(rt: &impl Abort, rows: &[Contents]) {
+    for contents in rows {
+        let bytes = container(*contents);
+        expect_equal(rt, writes(*contents, true, header_in(&bytes)), (0, true));
+    }
+}
+
+// Fails the test unless the header of each of these contents, without a checksum, has these codes
+// and flags.
+fn expect_codes(rt: &impl Abort, rows: &[(Contents, &[u8])]) {
+    for (contents, expected) in rows {
+        expect_equal(rt, writes_codes(*contents, expected), (0, true));
+    }
+}
+
+// Fails the test unless opening the container with another byte at a position has this status. A
+// row is the position, the byte and the status.
+fn expect_statuses(rt: &impl Abort, rows: &[(usize, u8, u32)]) {
+    for (pos, byte, status) in rows {
+        expect_equal(rt, status_with(*pos, *byte), *status);
+    }
+}
+
+// Fails the test unless updating the container with another byte at a position has this status,
+// and this is the byte at 24 afterwards. A row is the position, the byte and the result.
+fn expect_updated(rt: &impl Abort, rows: &[(usize, u8, (u32, u8))]) {
+    for (pos, byte, expected) in rows {
+        expect_equal(rt, updated_with(*pos, *byte), *expected);
+    }
+}
+
 #[test]
 fn containers_open_as_their_own_form(rt: HostRuntime) {
-    expect_opened(&rt, TEXTS, map(4, 0x18, 4), (0, 3));
-    expect_opened(&rt, TEXTS, map(0x14, 0x18, 4), (43, 0));
-    expect_opened(&rt, TEXTS, map(4, 0x14, 4), (44, 0));
-    expect_opened(&rt, TEXTS, map(4, 0x18, 8), (45, 0));
-    expect_opened(&rt, TEXTS, map(0x14, 0x14, 8), (43, 0));
-    expect_opened(&rt, TEXTS, map(0x18, 0x18, 4), (43, 0));
+    expect_opened(
+        &rt,
+        &[
+            (OF_TEXTS, (MAP, 4, 0x18, 4), (0, 3)),
+            (OF_TEXTS, (MAP, 0x14, 0x18, 4), (43, 0)),
+            (OF_TEXTS, (MAP, 4, 0x14, 4), (44, 0)),
+            (OF_TEXTS, (MAP, 4, 0x18, 8), (45, 0)),
+            (OF_TEXTS, (MAP, 0x14, 0x14, 8), (43, 0)),
+            (OF_TEXTS, (MAP, 0x18, 0x18, 4), (43, 0)),
+        ],
+    );
 }
 
 #[test]
 fn containers_of_long_numbers_open_as_their_own_form(rt: HostRuntime) {
-    let numbers = container(map(0x18, 0x14, 8));
-    expect_opened(&rt, &numbers, map(0x18, 0x14, 8), (0, 3));
-    expect_opened(&rt, &numbers, map(0x14, 0x14, 8), (43, 0));
-    expect_opened(&rt, &numbers, map(0x18, 0x18, 8), (44, 0));
-    expect_opened(&rt, &numbers, map(0x18, 0x14, 4), (45, 0));
+    expect_opened(
+        &rt,
+        &[
+            ((MAP, 0x18, 0x14, 8), (MAP, 0x18, 0x14, 8), (0, 3)),
+            ((MAP, 0x18, 0x14, 8), (MAP, 0x14, 0x14, 8), (43, 0)),
+            ((MAP, 0x18, 0x14, 8), (MAP, 0x18, 0x18, 8), (44, 0)),
+            ((MAP, 0x18, 0x14, 8), (MAP, 0x18, 0x14, 4), (45, 0)),
+        ],
+    );
 }
 
 #[test]
 fn containers_of_index_maps_open_as_their_own_form(rt: HostRuntime) {
-    let texts = container(index_map(4, 0x18, 4));
-    expect_opened(&rt, &texts, index_map(4, 0x18, 4), (0, 3));
-    expect_opened(&rt, &texts, index_map(0x14, 0x18, 4), (43, 0));
-    expect_opened(&rt, &texts, index_map(4, 0x14, 4), (44, 0));
-    expect_opened(&rt, &texts, index_map(4, 0x18, 8), (45, 0));
-    expect_opened(&rt, cut(&texts), index_map(4, 0x18, 4), (46, 0));
-    expect_opened(&rt, TEXTS, index_map(4, 0x18, 4), (42, 0));
-    expect_opened(&rt, &texts, map(4, 0x18, 4), (42, 0));
+    expect_opened(
+        &rt,
+        &[
+            (OF_INDEX, (INDEX_MAP, 4, 0x18, 4), (0, 3)),
+            (OF_INDEX, (INDEX_MAP, 0x14, 0x18, 4), (43, 0)),
+            (OF_INDEX, (INDEX_MAP, 4, 0x14, 4), (44, 0)),
+            (OF_INDEX, (INDEX_MAP, 4, 0x18, 8), (45, 0)),
+            (OF_TEXTS, (INDEX_MAP, 4, 0x18, 4), (42, 0)),
+            (OF_INDEX, (MAP, 4, 0x18, 4), (42, 0)),
+        ],
+    );
+    expect_eq!(rt; opened(cut(&container(OF_INDEX)), OF_INDEX), (46, 0));
 }
 
 #[test]
 fn containers_to_texts_open_as_their_own_form(rt: HostRuntime) {
-    let texts = container(map(4, 4, 4));
-    let wide = container(map(0x14, 4, 8));
-    expect_opened(&rt, &texts, map(4, 4, 4), (0, 3));
-    expect_opened(&rt, &wide, map(0x14, 4, 8), (0, 3));
-    expect_opened(&rt, &texts, map(0x14, 4, 4), (43, 0));
-    expect_opened(&rt, &texts, map(4, 4, 8), (45, 0));
-    expect_opened(&rt, &wide, map(4, 4, 8), (43, 0));
-    expect_opened(&rt, TEXTS, map(4, 4, 4), (44, 0));
-    expect_opened(&rt, &texts, map(4, 0x18, 4), (44, 0));
+    expect_opened(
+        &rt,
+        &[
+            ((MAP, 4, 4, 4), (MAP, 4, 4, 4), (0, 3)),
+            ((MAP, 0x14, 4, 8), (MAP, 0x14, 4, 8), (0, 3)),
+            ((MAP, 4, 4, 4), (MAP, 0x14, 4, 4), (43, 0)),
+            ((MAP, 4, 4, 4), (MAP, 4, 4, 8), (45, 0)),
+            ((MAP, 0x14, 4, 8), (MAP, 4, 4, 8), (43, 0)),
+            (OF_TEXTS, (MAP, 4, 4, 4), (44, 0)),
+            ((MAP, 4, 4, 4), (MAP, 4, 0x18, 4), (44, 0)),
+        ],
+    );
 }
 
 #[test]
 fn containers_of_sets_open_as_their_own_form(rt: HostRuntime) {
-    let numbers = container(set(0x14, 4));
-    let texts = container(set(4, 8));
-    expect_opened(&rt, &numbers, set(0x14, 4), (0, 3));
-    expect_opened(&rt, &texts, set(4, 8), (0, 3));
-    expect_opened(&rt, &numbers, set(4, 4), (43, 0));
-    expect_opened(&rt, &texts, set(4, 4), (45, 0));
-    expect_opened(&rt, TEXTS, set(4, 4), (42, 0));
-    expect_opened(&rt, &texts, map(4, 0x18, 4), (42, 0));
+    expect_opened(
+        &rt,
+        &[
+            ((SET, 0x14, 1, 4), (SET, 0x14, 1, 4), (0, 3)),
+            ((SET, 4, 1, 8), (SET, 4, 1, 8), (0, 3)),
+            ((SET, 0x14, 1, 4), (SET, 4, 1, 4), (43, 0)),
+            ((SET, 4, 1, 8), (SET, 4, 1, 4), (45, 0)),
+            (OF_TEXTS, (SET, 4, 1, 4), (42, 0)),
+            ((SET, 4, 1, 8), (MAP, 4, 0x18, 4), (42, 0)),
+        ],
+    );
 }
 
 #[test]
 fn errors_have_their_numbers(rt: HostRuntime) {
-    let index = container(index_map(4, 0x18, 4));
-    expect_explained(&rt, &index, index_map(4, 0x18, 4), (0, 0, 0, 0));
-    expect_explained(&rt, TEXTS, index_map(4, 0x18, 4), (42, 0, 3, 1));
-    expect_explained(&rt, &index, index_map(0x14, 0x18, 4), (43, 0, 0x14, 4));
     expect_explained(
         &rt,
-        cut_header(&index),
-        index_map(4, 0x18, 4),
-        (32, 0, 31, 0),
+        &[
+            (OF_INDEX, (INDEX_MAP, 4, 0x18, 4), (0, 0, 0, 0)),
+            (OF_TEXTS, (INDEX_MAP, 4, 0x18, 4), (42, 0, 3, 1)),
+            (OF_INDEX, (INDEX_MAP, 0x14, 0x18, 4), (43, 0, 0x14, 4)),
+            (OF_TEXTS, (SET, 4, 1, 4), (42, 0, 2, 1)),
+        ],
     );
-    expect_explained(&rt, TEXTS, set(4, 4), (42, 0, 2, 1));
+    let index = container(OF_INDEX);
+    expect_eq!(rt; explained(cut_header(&index), OF_INDEX), (32, 0, 31, 0));
 }
 
 #[test]
 fn errors_of_containers_to_texts_have_their_numbers(rt: HostRuntime) {
-    let texts = container(map(4, 4, 4));
-    expect_explained(&rt, &texts, map(4, 4, 4), (0, 0, 0, 0));
-    expect_explained(&rt, &texts, map(0x14, 4, 4), (43, 0, 0x14, 4));
-    expect_explained(&rt, TEXTS, map(4, 4, 4), (44, 0, 4, 0x18));
-    expect_explained(&rt, &texts, map(4, 4, 8), (45, 0, 8, 4));
-    expect_explained(&rt, &TEXTS[..31], map(4, 4, 4), (32, 0, 31, 0));
+    expect_explained(
+        &rt,
+        &[
+            ((MAP, 4, 4, 4), (MAP, 4, 4, 4), (0, 0, 0, 0)),
+            ((MAP, 4, 4, 4), (MAP, 0x14, 4, 4), (43, 0, 0x14, 4)),
+            (OF_TEXTS, (MAP, 4, 4, 4), (44, 0, 4, 0x18)),
+            ((MAP, 4, 4, 4), (MAP, 4, 4, 8), (45, 0, 8, 4)),
+        ],
+    );
+    expect_eq!(rt; explained(&TEXTS[..31], (MAP, 4, 4, 4)), (32, 0, 31, 0));
 }
 
 #[test]
 fn headers_are_those_of_the_format(rt: HostRuntime) {
-    expect_eq!(rt; writes(map(4, 0x18, 4), true, &TEXTS[..32]), (0, true));
-    let index = container(index_map(4, 0x18, 4));
-    expect_eq!(rt;
-        writes(index_map(4, 0x18, 4), true, header_in(&index)),
-        (0, true)
-    );
-    let texts = container(map(4, 4, 4));
-    expect_eq!(rt; writes(map(4, 4, 4), true, header_in(&texts)), (0, true));
-    let set_of_texts = container(set(4, 8));
-    expect_eq!(rt;
-        writes(set(4, 8), true, header_in(&set_of_texts)),
-        (0, true)
-    );
+    expect_eq!(rt; writes(OF_TEXTS, true, &TEXTS[..32]), (0, true));
+    expect_headers(&rt, &[OF_INDEX, (MAP, 4, 4, 4), (SET, 4, 1, 8)]);
 }
 
 #[test]
 fn headers_without_a_checksum_are_those_of_the_format(rt: HostRuntime) {
-    expect_eq!(rt;
-        writes_codes(map(0x14, 0x14, 8), &[1, 0x14, 0x14, 8, 0, 0]),
-        (0, true)
-    );
-    expect_eq!(rt;
-        writes_codes(index_map(0x14, 0x14, 8), &[3, 0x14, 0x14, 8, 0, 0]),
-        (0, true)
-    );
-    expect_eq!(rt;
-        writes_codes(map(0x14, 4, 8), &[1, 0x14, 4, 8, 0, 0]),
-        (0, true)
+    expect_codes(
+        &rt,
+        &[
+            ((MAP, 0x14, 0x14, 8), &[1, 0x14, 0x14, 8, 0, 0]),
+            ((INDEX_MAP, 0x14, 0x14, 8), &[3, 0x14, 0x14, 8, 0, 0]),
+            ((MAP, 0x14, 4, 8), &[1, 0x14, 4, 8, 0, 0]),
+        ],
     );
     let mut header = [9; 32];
     expect_eq!(rt;
-        write_header(&[1, 2, 3], map(0x14, 0x14, 8), false, &mut header),
+        write_header(&[1, 2, 3], codes((MAP, 0x14, 0x14, 8)), false, &mut header),
         0
     );
     expect_eq!(rt;
@@ -253,51 +306,50 @@ fn headers_without_a_checksum_are_those_of_the_format(rt: HostRuntime) {
 fn codes_of_no_contents_have_a_status(rt: HostRuntime) {
     expect_opened(
         &rt,
-        TEXTS,
-        Codes {
-            kind: 0,
-            ..map(4, 0x18, 4)
-        },
-        (7, 0),
+        &[
+            (OF_TEXTS, (0, 4, 0x18, 4), (7, 0)),
+            (OF_TEXTS, (5, 4, 0x18, 4), (7, 0)),
+            (OF_TEXTS, (MAP, 6, 0x18, 4), (7, 0)),
+            (OF_TEXTS, (MAP, 4, 0, 4), (7, 0)),
+            (OF_TEXTS, (MAP, 4, 0x18, 32), (7, 0)),
+        ],
     );
-    expect_opened(
-        &rt,
-        TEXTS,
-        Codes {
-            kind: 5,
-            ..map(4, 0x18, 4)
-        },
-        (7, 0),
-    );
-    expect_opened(&rt, TEXTS, map(6, 0x18, 4), (7, 0));
-    expect_opened(&rt, TEXTS, map(4, 0, 4), (7, 0));
-    expect_opened(&rt, TEXTS, map(4, 0x18, 32), (7, 0));
-    expect_explained(&rt, TEXTS, map(4, 0x18, 0), (7, 0, 0, 0));
-    expect_eq!(rt; writes(map(4, 0x18, 64), true, &[9; 32]), (7, true));
+    expect_explained(&rt, &[(OF_TEXTS, (MAP, 4, 0x18, 0), (7, 0, 0, 0))]);
+    expect_eq!(rt; writes((MAP, 4, 0x18, 64), true, &[9; 32]), (7, true));
 }
 
 #[test]
 fn wrong_headers_have_statuses(rt: HostRuntime) {
-    expect_opened(&rt, &TEXTS[..31], map(4, 0x18, 4), (32, 0));
-    expect_eq!(rt; status_with(0, 0), 33);
-    expect_eq!(rt; status_with(8, 2), 34);
-    expect_eq!(rt; status_with(10, 5), 35);
-    expect_eq!(rt; status_with(11, 6), 36);
-    expect_eq!(rt; status_with(12, 0), 37);
-    expect_eq!(rt; status_with(13, 5), 38);
-    expect_eq!(rt; status_with(14, 2), 39);
-    expect_eq!(rt; status_with(14, 0), 40);
-    expect_eq!(rt; status_with(28, 1), 41);
+    expect_eq!(rt; opened(&TEXTS[..31], OF_TEXTS), (32, 0));
+    expect_statuses(
+        &rt,
+        &[
+            (0, 0, 33),
+            (8, 2, 34),
+            (10, 5, 35),
+            (11, 6, 36),
+            (12, 0, 37),
+            (13, 5, 38),
+            (14, 2, 39),
+            (14, 0, 40),
+            (28, 1, 41),
+        ],
+    );
 }
 
 #[test]
 fn wrong_contents_have_statuses(rt: HostRuntime) {
-    expect_eq!(rt; status_with(10, 2), 42);
-    expect_eq!(rt; status_with(11, 0x14), 43);
-    expect_eq!(rt; status_with(12, 0x14), 44);
-    expect_eq!(rt; status_with(13, 8), 45);
-    expect_eq!(rt; status_with(16, 2), 46);
-    expect_eq!(rt; status_with(34, 2), 47);
+    expect_statuses(
+        &rt,
+        &[
+            (10, 2, 42),
+            (11, 0x14, 43),
+            (12, 0x14, 44),
+            (13, 8, 45),
+            (16, 2, 46),
+            (34, 2, 47),
+        ],
+    );
 }
 
 #[test]
@@ -307,19 +359,21 @@ fn widths_are_read(rt: HostRuntime) {
     wide[13] = 8;
     expect_eq!(rt; width_of(&wide, false), (0, true));
     expect_eq!(rt; width_of(&TEXTS[..31], true), (32, true));
-    expect_eq!(rt;
-        width_of(&container(index_map(4, 0x18, 4)), true),
-        (0, false)
-    );
+    expect_eq!(rt; width_of(&container(OF_INDEX), true), (0, false));
 }
 
 #[test]
 fn updates_correct_the_checksum(rt: HostRuntime) {
-    expect_eq!(rt; updated_with(34, 4), (0, 8));
-    expect_eq!(rt; updated_with(24, 0), (0, 7));
-    expect_eq!(rt; updated_with(16, 2), (46, 7));
-    expect_eq!(rt; updated_with(0, 0), (33, 7));
-    let mut index = container(index_map(4, 0x18, 4));
+    expect_updated(
+        &rt,
+        &[
+            (34, 4, (0, 8)),
+            (24, 0, (0, 7)),
+            (16, 2, (46, 7)),
+            (0, 0, (33, 7)),
+        ],
+    );
+    let mut index = container(OF_INDEX);
     index[34] = 4;
     expect_eq!(rt; update_container(&mut index), 0);
     expect_eq!(rt; (index[10], index[24]), (3, 8));

@@ -3,7 +3,9 @@
 ghost use Rattle.std.specs.Prelude.{IsTrue};
 ghost use Rattle.ffi_calls.specs.{IsNumberArchive};
 
-use crate::tests::archives::{one_long_number, one_number_twice, one_wide_long_number};
+use crate::tests::archives::{
+    ONE_LONG_NUMBER, ONE_NUMBER, ONE_NUMBER_TWICE, ONE_WIDE_LONG_NUMBER, ONE_WIDE_NUMBER,
+};
 use crate::tests::expect_equal;
 use crate::tests::support::with_bytes;
 use ffi_calls::form::{Form, LONG, SHORT, WIDE, WIDE_LONG};
@@ -12,7 +14,6 @@ use ffi_calls::pairs::{Pair, Step};
 use ffi_calls::reading::NumberKey;
 use ffi_calls::status::DONE;
 use std::process::Abort;
-use test_support::archives::{one_number, one_wide_number};
 
 /// Returns whether the archive is valid in the form.
 pub(crate) fn is_map<K: NumberKey>(archive: &[u8], form: Form) -> bool
@@ -90,193 +91,247 @@ pub(crate) fn overwrite_and_get<K: NumberKey>(
     Some((status, again, found))
 }
 
+// The next bucket, the key and the value of a step.
+type Parts = (u64, u32, u64);
+
 // A step that no call stores.
 const NINE: Step<Pair<u32, u64>> = Step {
     next: 9,
     pair: Pair { value: 9, key: 9 },
 };
 
-// Fails the test unless a lookup has this result.
-fn expect_lookup(
-    rt: &impl Abort,
-    archive: &[u8],
-    form: Form,
-    key: u32,
-    expected: (usize, u32, u64),
-) {
-    expect_equal(rt, lookup(archive, form, key), Some(expected));
+// Fails the test unless each lookup of a key has its result.
+fn expect_lookups(rt: &impl Abort, rows: &[(&[u8], Form, u32, (usize, u32, u64))]) {
+    for (archive, form, key, expected) in rows {
+        expect_equal(rt, lookup(archive, *form, *key), Some(*expected));
+    }
 }
 
-// Fails the test unless an overwrite has this status.
-fn expect_overwrite(
-    rt: &impl Abort,
-    archive: &mut [u8],
-    form: Form,
-    key: u32,
-    value: u64,
-    status: u32,
-) {
-    expect_equal(rt, overwrite(archive, form, key, value), Some(status));
+// Fails the test unless each overwrite of the value of a key, one after another, has its status.
+fn expect_overwrites(rt: &impl Abort, archive: &mut [u8], rows: &[(Form, u32, u64, u32)]) {
+    for (form, key, value, status) in rows {
+        let found = overwrite(&mut *archive, *form, *key, *value);
+        expect_equal(rt, found, Some(*status));
+    }
 }
 
 // Fails the test unless an overwrite succeeds, and changes only the bytes from a position on, to
 // these.
 fn expect_changed<const N: usize>(
     rt: &impl Abort,
-    archive: [u8; N],
+    archive: &[u8; N],
     form: Form,
     key: u32,
     value: u64,
     (pos, bytes): (usize, &[u8]),
 ) {
-    let mut found = archive;
-    expect_overwrite(rt, &mut found, form, key, value, 0);
-    assert!(*rt; found == with_bytes(archive, pos, bytes));
+    let mut found = *archive;
+    expect_equal(rt, overwrite(&mut found, form, key, value), Some(0));
+    assert!(*rt; found == with_bytes(*archive, pos, bytes));
 }
 
-// Fails the test unless this many pairs are stored over one, from the given bucket on, and the one
-// is as expected afterwards. It is 9 to 9 at first.
-fn expect_step(
+// Fails the test unless an overwrite, and a lookup by the header from before, have this result.
+fn expect_overwrite_and_get<const N: usize>(
     rt: &impl Abort,
-    archive: &[u8],
+    archive: &[u8; N],
     form: Form,
-    from: u64,
-    (count, pair): (usize, (u64, u32, u64)),
+    rows: &[(u32, u64, (u32, u32, u64))],
 ) {
-    let mut pairs = [NINE];
-    let stored = walk(archive, form, from, &mut pairs);
-    expect_equal(rt, (stored, numbers_of(pairs[0])), (Some(count), pair));
+    for (key, value, expected) in rows {
+        let mut bytes = *archive;
+        let found = overwrite_and_get(&mut bytes, form, *key, *value);
+        expect_equal(rt, found, Some(*expected));
+    }
 }
 
-// Fails the test unless this many pairs are stored over three, from the given bucket on, and the
-// three are as expected afterwards. Each is 9 to 9 at first.
-fn expect_several(
-    rt: &impl Abort,
-    archive: &[u8],
-    form: Form,
-    from: u64,
-    (count, expected): (usize, [(u64, u32, u64); 3]),
-) {
-    let mut pairs = [NINE; 3];
-    let stored = walk(archive, form, from, &mut pairs);
-    let found = [
-        numbers_of(pairs[0]),
-        numbers_of(pairs[1]),
-        numbers_of(pairs[2]),
-    ];
-    expect_equal(rt, (stored, found), (Some(count), expected));
+// Fails the test unless each walk from a bucket stores this many pairs over one, and the one is as
+// expected afterwards. It is 9 to 9 at first.
+fn expect_steps(rt: &impl Abort, rows: &[(&[u8], Form, u64, (usize, Parts))]) {
+    for (archive, form, from, (count, pair)) in rows {
+        let mut pairs = [NINE];
+        let stored = walk(archive, *form, *from, &mut pairs);
+        expect_equal(rt, stored, Some(*count));
+        expect_equal(rt, numbers_of(pairs[0]), *pair);
+    }
+}
+
+// Fails the test unless each walk from a bucket stores this many pairs over three, and the three
+// are as expected afterwards. Each is 9 to 9 at first.
+fn expect_several(rt: &impl Abort, rows: &[(&[u8], Form, u64, usize, Parts, Parts, Parts)]) {
+    for (archive, form, from, count, first, second, third) in rows {
+        let mut pairs = [NINE; 3];
+        let stored = walk(archive, *form, *from, &mut pairs);
+        expect_equal(rt, stored, Some(*count));
+        expect_equal(rt, numbers_of(pairs[0]), *first);
+        expect_equal(rt, numbers_of(pairs[1]), *second);
+        expect_equal(rt, numbers_of(pairs[2]), *third);
+    }
 }
 
 #[test]
 fn lookups_find_the_number(rt: HostRuntime) {
-    expect_lookup(&rt, &one_number(), SHORT, 1, (1, 0, 2));
-    expect_lookup(&rt, &one_long_number(), LONG, 1, (1, 0, 2));
-    expect_lookup(&rt, &one_wide_number(), WIDE, 1, (1, 0, 2));
-    expect_lookup(&rt, &one_wide_long_number(), WIDE_LONG, 1, (1, 0, 2));
+    expect_lookups(
+        &rt,
+        &[
+            (ONE_NUMBER, SHORT, 1, (1, 0, 2)),
+            (ONE_LONG_NUMBER, LONG, 1, (1, 0, 2)),
+            (ONE_WIDE_NUMBER, WIDE, 1, (1, 0, 2)),
+            (ONE_WIDE_LONG_NUMBER, WIDE_LONG, 1, (1, 0, 2)),
+        ],
+    );
 }
 
 #[test]
 fn lookups_find_no_other_number(rt: HostRuntime) {
-    expect_lookup(&rt, &one_number(), SHORT, 2, (1, 1, 9));
-    expect_lookup(&rt, &one_long_number(), LONG, 0, (1, 1, 9));
-    expect_lookup(&rt, &one_wide_number(), WIDE, 3, (1, 1, 9));
-    expect_lookup(&rt, &one_wide_long_number(), WIDE_LONG, u32::MAX, (1, 1, 9));
+    expect_lookups(
+        &rt,
+        &[
+            (ONE_NUMBER, SHORT, 2, (1, 1, 9)),
+            (ONE_LONG_NUMBER, LONG, 0, (1, 1, 9)),
+            (ONE_WIDE_NUMBER, WIDE, 3, (1, 1, 9)),
+            (ONE_WIDE_LONG_NUMBER, WIDE_LONG, u32::MAX, (1, 1, 9)),
+        ],
+    );
 }
 
 #[test]
 fn walks_visit_bucket_1(rt: HostRuntime) {
-    let expected = (1, (2, 1, 2));
-    expect_step(&rt, &one_number(), SHORT, 0, expected);
-    expect_step(&rt, &one_long_number(), LONG, 1, expected);
-    expect_step(&rt, &one_wide_number(), WIDE, 0, expected);
-    expect_step(&rt, &one_wide_long_number(), WIDE_LONG, 1, expected);
+    expect_steps(
+        &rt,
+        &[
+            (ONE_NUMBER, SHORT, 0, (1, (2, 1, 2))),
+            (ONE_LONG_NUMBER, LONG, 1, (1, (2, 1, 2))),
+            (ONE_WIDE_NUMBER, WIDE, 0, (1, (2, 1, 2))),
+            (ONE_WIDE_LONG_NUMBER, WIDE_LONG, 1, (1, (2, 1, 2))),
+        ],
+    );
 }
 
 #[test]
 fn walks_end_behind_bucket_1(rt: HostRuntime) {
-    let ended = (0, (9, 9, 9));
-    expect_step(&rt, &one_number(), SHORT, 2, ended);
-    expect_step(&rt, &one_long_number(), LONG, 2, ended);
-    expect_step(&rt, &one_wide_number(), WIDE, 2, ended);
-    expect_step(&rt, &one_wide_long_number(), WIDE_LONG, 2, ended);
-    expect_step(&rt, &one_number(), SHORT, u64::MAX, ended);
+    expect_steps(
+        &rt,
+        &[
+            (ONE_NUMBER, SHORT, 2, (0, (9, 9, 9))),
+            (ONE_LONG_NUMBER, LONG, 2, (0, (9, 9, 9))),
+            (ONE_WIDE_NUMBER, WIDE, 2, (0, (9, 9, 9))),
+            (ONE_WIDE_LONG_NUMBER, WIDE_LONG, 2, (0, (9, 9, 9))),
+            (ONE_NUMBER, SHORT, u64::MAX, (0, (9, 9, 9))),
+        ],
+    );
 }
 
 #[test]
 fn walks_of_two_pairs_go_on(rt: HostRuntime) {
-    let bytes = one_number_twice();
-    expect_step(&rt, &bytes, SHORT, 0, (1, (1, 1, 2)));
-    expect_step(&rt, &bytes, SHORT, 1, (1, (2, 1, 9)));
-    expect_step(&rt, &bytes, SHORT, 2, (0, (9, 9, 9)));
+    expect_steps(
+        &rt,
+        &[
+            (ONE_NUMBER_TWICE, SHORT, 0, (1, (1, 1, 2))),
+            (ONE_NUMBER_TWICE, SHORT, 1, (1, (2, 1, 9))),
+            (ONE_NUMBER_TWICE, SHORT, 2, (0, (9, 9, 9))),
+        ],
+    );
     expect_several(
         &rt,
-        &bytes,
-        SHORT,
-        0,
-        (2, [(1, 1, 2), (2, 1, 9), (9, 9, 9)]),
+        &[(
+            ONE_NUMBER_TWICE,
+            SHORT,
+            0,
+            2,
+            (1, 1, 2),
+            (2, 1, 9),
+            (9, 9, 9),
+        )],
     );
 }
 
 #[test]
 fn several_pairs_are_stored_at_once(rt: HostRuntime) {
-    let nine = (9, 9, 9);
-    let one = (1, [(2, 1, 2), nine, nine]);
-    let none = (0, [nine; 3]);
-    expect_several(&rt, &one_number(), SHORT, 0, one);
-    expect_several(&rt, &one_long_number(), LONG, 1, one);
-    expect_several(&rt, &one_wide_number(), WIDE, 2, none);
-    expect_several(&rt, &one_wide_long_number(), WIDE_LONG, 0, one);
-    expect_several(&rt, &one_number(), SHORT, u64::MAX, none);
+    expect_several(
+        &rt,
+        &[
+            (ONE_NUMBER, SHORT, 0, 1, (2, 1, 2), (9, 9, 9), (9, 9, 9)),
+            (ONE_LONG_NUMBER, LONG, 1, 1, (2, 1, 2), (9, 9, 9), (9, 9, 9)),
+            (ONE_WIDE_NUMBER, WIDE, 2, 0, (9, 9, 9), (9, 9, 9), (9, 9, 9)),
+            (
+                ONE_WIDE_LONG_NUMBER,
+                WIDE_LONG,
+                0,
+                1,
+                (2, 1, 2),
+                (9, 9, 9),
+                (9, 9, 9),
+            ),
+            (
+                ONE_NUMBER,
+                SHORT,
+                u64::MAX,
+                0,
+                (9, 9, 9),
+                (9, 9, 9),
+                (9, 9, 9),
+            ),
+        ],
+    );
 }
 
 #[test]
 fn headers_serve_after_overwrites(rt: HostRuntime) {
-    expect_eq!(rt;
-        overwrite_and_get(&mut one_number(), SHORT, 1u32, 3),
-        Some((0, 0, 3))
+    expect_overwrite_and_get(
+        &rt,
+        ONE_NUMBER,
+        SHORT,
+        &[(1, 3, (0, 0, 3)), (2, 3, (1, 1, 9))],
     );
-    expect_eq!(rt;
-        overwrite_and_get(&mut one_wide_long_number(), WIDE_LONG, 1u32, u64::MAX),
-        Some((0, 0, u64::MAX))
-    );
-    expect_eq!(rt;
-        overwrite_and_get(&mut one_number(), SHORT, 2u32, 3),
-        Some((1, 1, 9))
+    expect_overwrite_and_get(
+        &rt,
+        ONE_WIDE_LONG_NUMBER,
+        WIDE_LONG,
+        &[(1, u64::MAX, (0, 0, u64::MAX))],
     );
 }
 
 #[test]
 fn overwrites_of_32_bits_reject_more(rt: HostRuntime) {
-    let mut narrow = one_number();
-    let mut wide = one_wide_number();
-    expect_overwrite(&rt, &mut narrow, SHORT, 1, 0x1_0000_0000, 3);
-    expect_overwrite(&rt, &mut narrow, SHORT, 2, u64::MAX, 3);
-    expect_overwrite(&rt, &mut narrow, SHORT, 2, 0xffff_ffff, 1);
-    expect_overwrite(&rt, &mut wide, WIDE, 2, 0x1_0000_0000, 3);
-    expect_overwrite(&rt, &mut wide, WIDE, 2, 3, 1);
-    assert!(rt; narrow == one_number() && wide == one_wide_number());
+    let mut narrow = *ONE_NUMBER;
+    let mut wide = *ONE_WIDE_NUMBER;
+    expect_overwrites(
+        &rt,
+        &mut narrow,
+        &[
+            (SHORT, 1, 0x1_0000_0000, 3),
+            (SHORT, 2, u64::MAX, 3),
+            (SHORT, 2, 0xffff_ffff, 1),
+        ],
+    );
+    expect_overwrites(
+        &rt,
+        &mut wide,
+        &[(WIDE, 2, 0x1_0000_0000, 3), (WIDE, 2, 3, 1)],
+    );
+    assert!(rt; narrow == *ONE_NUMBER && wide == *ONE_WIDE_NUMBER);
     expect_changed(
         &rt,
-        one_number(),
+        ONE_NUMBER,
         SHORT,
         1,
         0xffff_fffe,
         (4, &[0xfe, 0xff, 0xff, 0xff]),
     );
-    expect_changed(&rt, one_wide_number(), WIDE, 1, 0x0405, (4, &[5, 4, 0, 0]));
+    expect_changed(&rt, ONE_WIDE_NUMBER, WIDE, 1, 0x0405, (4, &[5, 4, 0, 0]));
 }
 
 #[test]
 fn overwrites_of_64_bits_take_all(rt: HostRuntime) {
-    let mut narrow = one_long_number();
-    let mut wide = one_wide_long_number();
-    expect_overwrite(&rt, &mut narrow, LONG, 2, u64::MAX, 1);
-    expect_overwrite(&rt, &mut wide, WIDE_LONG, 0, 3, 1);
-    assert!(rt; narrow == one_long_number() && wide == one_wide_long_number());
-    expect_changed(&rt, one_long_number(), LONG, 1, u64::MAX, (8, &[0xff; 8]));
+    let mut narrow = *ONE_LONG_NUMBER;
+    let mut wide = *ONE_WIDE_LONG_NUMBER;
+    expect_overwrites(&rt, &mut narrow, &[(LONG, 2, u64::MAX, 1)]);
+    expect_overwrites(&rt, &mut wide, &[(WIDE_LONG, 0, 3, 1)]);
+    assert!(rt; narrow == *ONE_LONG_NUMBER && wide == *ONE_WIDE_LONG_NUMBER);
+    expect_changed(&rt, ONE_LONG_NUMBER, LONG, 1, u64::MAX, (8, &[0xff; 8]));
     expect_changed(
         &rt,
-        one_wide_long_number(),
+        ONE_WIDE_LONG_NUMBER,
         WIDE_LONG,
         1,
         0x1_0000_0000,
