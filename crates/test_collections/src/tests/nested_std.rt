@@ -5,6 +5,8 @@ ghost use Rattle.rkyv_collections.specs.{IsNarrowWritten, map_bytes, map_pos};
 ghost use Rattle.rkyv_keys.specs.{first_value};
 ghost use Rattle.test_collections.specs.InStdMaps.{has_under, value_beside, value_under};
 
+use crate::tests::std_maps::one_of;
+use crate::tests::std_sets::set_of_one;
 use rkyv_base::access::access;
 use rkyv_base::{Archive, Entry, Narrow, Represents, VerifyError, to_bytes};
 use rkyv_collections::map::laws::lookups_find_listed;
@@ -19,6 +21,7 @@ use rkyv_scan::FxHasher64;
 use std::alloc::Global;
 use std::collections::{HashMap, HashSet};
 use std::hash::{BuildHasherDefault, FoldHasher, RandomState};
+use std::process::Abort;
 use std::test::Fail;
 
 type Fares = HashMapOf<u32, u64>;
@@ -68,29 +71,26 @@ fn fare_of(table: &[u8], city: u32, line: u32) -> Result<Option<u64>, VerifyErro
 
 // Archives the map of 1 to the map of 2 to 3.
 fn write_fare(alloc: Global) -> Result<Vec<u8>, Fail> {
-    let mut fares = HashMap::new(alloc);
-    fares.insert(2, 3)?;
-    let fares: FareMap = Hashed::new(fares);
-    let mut cities = HashMap::new(alloc);
-    cities.insert(1, fares)?;
-    let cities: CityMap = Hashed::new(cities);
+    let fares: FareMap = Hashed::new(one_of(alloc, 2, 3)?);
+    let cities: CityMap = Hashed::new(one_of(alloc, 1, fares)?);
     Ok(to_bytes(alloc, &cities)?)
 }
 
-// Returns the results of lookups under both keys, and under other ones.
-fn fares_found(alloc: Global) -> Result<[Option<u64>; 3], Fail> {
-    let table = write_fare(alloc)?;
-    Ok([
-        fare_of(table.as_slice(), 1, 2)?,
-        fare_of(table.as_slice(), 1, 1)?,
-        fare_of(table.as_slice(), 2, 2)?,
-    ])
+// Compares the fares of cities. A row has the city, the line and the fare.
+fn expect_fares(rt: &impl Abort, table: &[u8], rows: &[(u32, u32, Option<u64>)]) {
+    for (city, line, fare) in rows {
+        expect_eq!(*rt; fare_of(table, *city, *line), Ok(*fare));
+    }
 }
 
 #[test]
 fn a_fare_of_a_city(rt: HostRuntime) -> Result<(), Fail> {
-    let found = fares_found(rt.alloc())?;
-    expect_eq!(rt; found, [Some(3), None, None]);
+    let table = write_fare(rt.alloc())?;
+    expect_fares(
+        &rt,
+        table.as_slice(),
+        &[(1, 2, Some(3)), (1, 1, None), (2, 2, None)],
+    );
     Ok(())
 }
 
@@ -125,29 +125,26 @@ fn has_line(table: &[u8], city: u32, line: u32) -> Result<Option<bool>, VerifyEr
 
 // Archives the map of 1 to the set of 2.
 fn write_line(alloc: Global) -> Result<Vec<u8>, Fail> {
-    let mut lines = HashSet::new(alloc);
-    lines.insert(2)?;
-    let lines: LineSet = Hashed::new(lines);
-    let mut cities = HashMap::new(alloc);
-    cities.insert(1, lines)?;
-    let cities: LineMap = Hashed::new(cities);
+    let lines: LineSet = Hashed::new(set_of_one(alloc, 2)?);
+    let cities: LineMap = Hashed::new(one_of(alloc, 1, lines)?);
     Ok(to_bytes(alloc, &cities)?)
 }
 
-// Returns the results of lookups under both keys, and under other ones.
-fn lines_found(alloc: Global) -> Result<[Option<bool>; 3], Fail> {
-    let table = write_line(alloc)?;
-    Ok([
-        has_line(table.as_slice(), 1, 2)?,
-        has_line(table.as_slice(), 1, 1)?,
-        has_line(table.as_slice(), 2, 2)?,
-    ])
+// Compares whether cities have lines. A row has the city, the line and the result.
+fn expect_lines(rt: &impl Abort, table: &[u8], rows: &[(u32, u32, Option<bool>)]) {
+    for (city, line, found) in rows {
+        expect_eq!(*rt; has_line(table, *city, *line), Ok(*found));
+    }
 }
 
 #[test]
 fn a_line_of_a_city(rt: HostRuntime) -> Result<(), Fail> {
-    let found = lines_found(rt.alloc())?;
-    expect_eq!(rt; found, [Some(true), Some(false), None]);
+    let table = write_line(rt.alloc())?;
+    expect_lines(
+        &rt,
+        table.as_slice(),
+        &[(1, 2, Some(true)), (1, 1, Some(false)), (2, 2, None)],
+    );
     Ok(())
 }
 
@@ -184,29 +181,26 @@ fn season_fare(table: &[u8], season: u32, line: u32) -> Result<Option<u64>, Veri
 
 // Archives the map of 1 to the pair of 90 and the map of 2 to 3.
 fn write_season(alloc: Global) -> Result<Vec<u8>, Fail> {
-    let mut fares = HashMap::new(alloc);
-    fares.insert(2, 3)?;
-    let fares: FareMap = Hashed::new(fares);
-    let mut seasons = HashMap::new(alloc);
-    seasons.insert(1, (90, fares))?;
-    let seasons: SeasonMap = Hashed::new(seasons);
+    let fares: FareMap = Hashed::new(one_of(alloc, 2, 3)?);
+    let seasons: SeasonMap = Hashed::new(one_of(alloc, 1, (90, fares))?);
     Ok(to_bytes(alloc, &seasons)?)
 }
 
-// Returns the results of lookups under both keys, and under other ones.
-fn season_fares_found(alloc: Global) -> Result<[Option<u64>; 3], Fail> {
-    let table = write_season(alloc)?;
-    Ok([
-        season_fare(table.as_slice(), 1, 2)?,
-        season_fare(table.as_slice(), 1, 1)?,
-        season_fare(table.as_slice(), 2, 2)?,
-    ])
+// Compares the fares of seasons. A row has the season, the line and the fare.
+fn expect_season_fares(rt: &impl Abort, table: &[u8], rows: &[(u32, u32, Option<u64>)]) {
+    for (season, line, fare) in rows {
+        expect_eq!(*rt; season_fare(table, *season, *line), Ok(*fare));
+    }
 }
 
 #[test]
 fn a_fare_of_a_season(rt: HostRuntime) -> Result<(), Fail> {
-    let found = season_fares_found(rt.alloc())?;
-    expect_eq!(rt; found, [Some(3), None, None]);
+    let table = write_season(rt.alloc())?;
+    expect_season_fares(
+        &rt,
+        table.as_slice(),
+        &[(1, 2, Some(3)), (1, 1, None), (2, 2, None)],
+    );
     Ok(())
 }
 

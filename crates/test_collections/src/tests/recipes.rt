@@ -18,6 +18,7 @@ use rkyv_collections::{
 use std::alloc::Global;
 use std::collections::{HashMap, HashSet};
 use std::hash::{BuildHasherDefault, RandomState};
+use std::process::Abort;
 use std::test::Fail;
 
 type Ages = HashMap<String, u8>;
@@ -211,12 +212,11 @@ fn price_of(archive: &[u8], name: &str) -> Result<Option<u32>, VerifyError> {
     Ok(prices.get(&name).map(|price| price.to_native()))
 }
 
-fn prices(archive: &[u8]) -> Result<[Option<u32>; 3], VerifyError> {
-    Ok([
-        price_of(archive, "tea")?,
-        price_of(archive, "coffee")?,
-        price_of(archive, "cake")?,
-    ])
+// Compares the price of each name.
+fn expect_prices(rt: &impl Abort, archive: &[u8], rows: &[(&str, Option<u32>)]) {
+    for (name, price) in rows {
+        expect_eq!(*rt; price_of(archive, *name), Ok(*price));
+    }
 }
 
 fn write_prices(alloc: Global) -> Result<Vec<u8>, WriteError<NoMemory>> {
@@ -224,41 +224,41 @@ fn write_prices(alloc: Global) -> Result<Vec<u8>, WriteError<NoMemory>> {
     to_bytes(alloc, &list)
 }
 
-// Writes prices by name. Returns whether each of two names was found, the price of a third before,
+// Writes prices by name. Compares whether each of two names was found, the price of a third before,
 // and all prices.
-fn change_by_name(
-    archive: &mut [u8],
-) -> Result<([bool; 2], Option<u32>, [Option<u32>; 3]), VerifyError> {
-    let found = [
-        set_price(archive, "tea", 2)?,
-        set_price(archive, "milk", 9)?,
-    ];
-    let before = raise_price(archive, "cake")?;
-    Ok((found, before, prices(archive)?))
+fn expect_changes_by_name(rt: &impl Abort, archive: &mut [u8]) {
+    expect_eq!(*rt; set_price(&mut *archive, "tea", 2), Ok(true));
+    expect_eq!(*rt; set_price(&mut *archive, "milk", 9), Ok(false));
+    expect_eq!(*rt; raise_price(&mut *archive, "cake"), Ok(Some(5)));
+    expect_prices(
+        rt,
+        &*archive,
+        &[("tea", Some(2)), ("coffee", Some(4)), ("cake", Some(6))],
+    );
 }
 
-// Writes all prices twice. Returns the prices after each time.
-fn change_all(archive: &mut [u8]) -> Result<[[Option<u32>; 3]; 2], VerifyError> {
-    double_prices(archive)?;
-    let doubled = prices(archive)?;
-    cap_prices(archive, 6, "cake")?;
-    Ok([doubled, prices(archive)?])
+// Writes all prices twice. Compares the prices after each time.
+fn expect_changes_of_all(rt: &impl Abort, archive: &mut [u8]) {
+    expect_eq!(*rt; double_prices(&mut *archive), Ok(()));
+    expect_prices(
+        rt,
+        &*archive,
+        &[("tea", Some(4)), ("coffee", Some(8)), ("cake", Some(12))],
+    );
+    expect_eq!(*rt; cap_prices(&mut *archive, 6, "cake"), Ok(()));
+    expect_prices(
+        rt,
+        &*archive,
+        &[("tea", Some(4)), ("coffee", Some(6)), ("cake", Some(12))],
+    );
 }
 
 #[test]
 fn prices_in_place(rt: HostRuntime) -> Result<(), Fail> {
     let mut archive = write_prices(rt.alloc())?;
-    expect_eq!(rt;
-        change_by_name(archive.as_mut_slice()),
-        Ok(([true, false], Some(5), [Some(2), Some(4), Some(6)]))
-    );
-    expect_eq!(rt;
-        change_all(archive.as_mut_slice()),
-        Ok([
-            [Some(4), Some(8), Some(12)],
-            [Some(4), Some(6), Some(12)]
-        ])
-    );
+    let prices = archive.as_mut_slice();
+    expect_changes_by_name(&rt, &mut *prices);
+    expect_changes_of_all(&rt, &mut *prices);
     Ok(())
 }
 
