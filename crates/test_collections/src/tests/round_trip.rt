@@ -10,7 +10,7 @@ use rkyv_scan::{FxHasher64, FxHasher64Wide};
 use std::alloc::{AllocError, Global};
 use std::collections::{HashMap, HashSet};
 use std::fmt::Debug;
-use std::hash::{BuildHasher, RandomState};
+use std::hash::RandomState;
 use std::test::Fail;
 
 type Ports = Hashed<HashMap<String, u16>>;
@@ -123,25 +123,25 @@ fn hashed_is_compared_as_its_contents(rt: HostRuntime) -> Result<(), Fail> {
 }
 
 // Returns whether an archived set equals `set`, and is read back as `set` with this hash state.
-fn is_read_with<T: BuildHasher + Copy + Drop>(
+fn is_read_with(
     alloc: Global,
     bytes: &[u8],
-    set: &HashSet<String, T>,
-    state: T,
+    set: &HashSet<String, RandomState>,
+    state: RandomState,
 ) -> Result<bool, VerifyError> {
     let root = ArchivedHashSet::of(access::<HashSetOf<Text>>(bytes)?);
-    match root.deserialize_std::<String, T>(alloc, state) {
+    match root.deserialize_std::<String, RandomState>(alloc, state) {
         Ok(back) => Ok(root.eq_std(set) && back == *set),
         Err(_) => Ok(false),
     }
 }
 
 // Returns the set of these words, with this hash state.
-fn words_of<T: BuildHasher + Drop>(
+fn words_of(
     alloc: Global,
     words: &[&str],
-    state: T,
-) -> Result<Hashed<HashSet<String, T>>, AllocError> {
+    state: RandomState,
+) -> Result<Hashed<HashSet<String, RandomState>>, AllocError> {
     let mut set = HashSet::with_hasher(alloc, state);
     for word in words {
         set.insert(String::from_str(alloc, *word)?)?;

@@ -297,9 +297,11 @@ fn wrapped_maps_are_equal_if_the_maps_are(rt: HostRuntime) {
 
 // Returns the map of (1, 2) and (3, 4), each mapped to the map of 1337 to 42.
 fn two_maps(alloc: Global) -> Result<Pairs, AllocError> {
-    let mut pairs = one_of(alloc, (1, 2), Hashed::new(one_of(alloc, 1337, 42)?))?;
-    let inner = one_of(alloc, 1337, 42)?;
-    pairs.insert((3, 4), Hashed::new(inner))?;
+    let mut pairs = HashMap::new(alloc);
+    for key in &[(1, 2), (3, 4)] {
+        let inner = one_of(alloc, 1337, 42)?;
+        pairs.insert(*key, Hashed::new(inner))?;
+    }
     Ok(Hashed::new(pairs))
 }
 
@@ -365,6 +367,30 @@ fn units_to_numbers_and_to_units(rt: HostRuntime) {
     expect_eq!(rt; maps, [Some(true); 2]);
 }
 
+// Returns the number of pairs of an archived map that a map of std's has.
+fn found_in_std(root: ArchivedHashMap<'_, Text, u32>, map: &HashMap<String, u32>) -> usize {
+    let mut count = 0usize;
+    for (key, value) in root.iter() {
+        match map.get(key.as_str()) {
+            Some(number) if *number == value.to_native() => count = count.wrapping_add(1),
+            _ => {}
+        }
+    }
+    count
+}
+
+// Returns the number of pairs of a map of std's that an archived map has.
+fn found_in_archive(root: ArchivedHashMap<'_, Text, u32>, map: &HashMap<String, u32>) -> usize {
+    let mut count = 0usize;
+    for (key, number) in map.iter() {
+        match root.get(key) {
+            Some(value) if value.to_native() == *number => count = count.wrapping_add(1),
+            _ => {}
+        }
+    }
+    count
+}
+
 // Returns the length of the archived map, the number of its pairs that std's map has, and of std's
 // pairs that the archived map has. Then comes whether the two maps are equal.
 fn found_both_ways(
@@ -372,20 +398,12 @@ fn found_both_ways(
     map: &HashMap<String, u32>,
 ) -> Result<([usize; 3], bool), VerifyError> {
     let root = ArchivedHashMap::of(access::<HashMapOf<Text, u32>>(bytes)?);
-    let (mut there, mut back) = (0usize, 0usize);
-    for (key, value) in root.iter() {
-        match map.get(key.as_str()) {
-            Some(number) if *number == value.to_native() => there = there.wrapping_add(1),
-            _ => {}
-        }
-    }
-    for (key, number) in map.iter() {
-        match root.get(key) {
-            Some(value) if value.to_native() == *number => back = back.wrapping_add(1),
-            _ => {}
-        }
-    }
-    Ok(([root.len(), there, back], root.eq_std(map)))
+    let found = [
+        root.len(),
+        found_in_std(root, map),
+        found_in_archive(root, map),
+    ];
+    Ok((found, root.eq_std(map)))
 }
 
 // Returns the results of `found_both_ways` for the hundred texts.
@@ -484,24 +502,24 @@ fn limit_keeps_a_prefix_of_the_archive(rt: HostRuntime) {
 }
 
 // Returns whether an archived map equals `map`, and is read back as `map` with this hash state.
-fn is_read_with<T: BuildHasher + Copy + Drop>(
+fn is_read_with(
     alloc: Global,
     bytes: &[u8],
-    map: &HashMap<i8, i8, T>,
-    state: T,
+    map: &HashMap<i8, i8, RandomState>,
+    state: RandomState,
 ) -> Result<bool, VerifyError> {
     let root = small_map(bytes)?;
-    match root.deserialize_std::<i8, i8, T>(alloc, state) {
+    match root.deserialize_std::<i8, i8, RandomState>(alloc, state) {
         Ok(back) => Ok(root.eq_std(map) && back == *map),
         Err(_) => Ok(false),
     }
 }
 
 // Returns whether a map with this hash state is the same after a round trip.
-fn round_trips_with<T: BuildHasher + Copy + Drop>(
+fn round_trips_with(
     alloc: Global,
-    map: &Hashed<HashMap<i8, i8, T>>,
-    state: T,
+    map: &Hashed<HashMap<i8, i8, RandomState>>,
+    state: RandomState,
 ) -> bool {
     match to_bytes(alloc, map) {
         Ok(bytes) => matches!(
@@ -513,23 +531,23 @@ fn round_trips_with<T: BuildHasher + Copy + Drop>(
 }
 
 // Does the same as `is_read_with`, for a map of texts.
-fn texts_are_read_with<T: BuildHasher + Copy + Drop>(
+fn texts_are_read_with(
     alloc: Global,
     bytes: &[u8],
-    map: &HashMap<String, String, T>,
-    state: T,
+    map: &HashMap<String, String, RandomState>,
+    state: RandomState,
 ) -> Result<bool, VerifyError> {
     let root = text_map(bytes)?;
-    match root.deserialize_std::<String, String, T>(alloc, state) {
+    match root.deserialize_std::<String, String, RandomState>(alloc, state) {
         Ok(back) => Ok(root.eq_std(map) && back == *map),
         Err(_) => Ok(false),
     }
 }
 
-fn texts_round_trip_with<T: BuildHasher + Copy + Drop>(
+fn texts_round_trip_with(
     alloc: Global,
-    map: &Hashed<HashMap<String, String, T>>,
-    state: T,
+    map: &Hashed<HashMap<String, String, RandomState>>,
+    state: RandomState,
 ) -> bool {
     match to_bytes(alloc, map) {
         Ok(bytes) => {

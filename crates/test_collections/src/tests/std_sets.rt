@@ -73,24 +73,35 @@ fn a_set_under_the_hasher_that_feeds_all_bits(rt: HostRuntime) {
     expect_eq!(rt; set_of_unit_by_all_bits(rt.alloc()), Some((true, Some(true))));
 }
 
-// Returns the number of archived texts that std's set has, and the number of std's texts that the
-// archived set has. Then comes whether they are equal, by the calls of both sides.
+// Returns the number of archived texts that a set of std's has.
+fn members_in_std(root: ArchivedHashSet<'_, Text>, words: &HashSet<String>) -> usize {
+    let mut count = 0usize;
+    for key in root.iter() {
+        if words.contains(key.as_str()) {
+            count = count.wrapping_add(1);
+        }
+    }
+    count
+}
+
+// Returns the number of texts of std's that an archived set has.
+fn members_in_archive(root: ArchivedHashSet<'_, Text>, words: &HashSet<String>) -> usize {
+    let mut count = 0usize;
+    for word in words.iter() {
+        if root.contains(word) {
+            count = count.wrapping_add(1);
+        }
+    }
+    count
+}
+
+// Returns both numbers. Then comes whether the sets are equal, by the calls of both sides.
 fn members_both_ways(
     bytes: &[u8],
     words: &HashSet<String>,
 ) -> Result<(usize, usize, (bool, bool)), VerifyError> {
     let root = ArchivedHashSet::of(access::<HashSetOf<Text>>(bytes)?);
-    let (mut there, mut back) = (0usize, 0usize);
-    for key in root.iter() {
-        if words.contains(key.as_str()) {
-            there = there.wrapping_add(1);
-        }
-    }
-    for word in words.iter() {
-        if root.contains(word) {
-            back = back.wrapping_add(1);
-        }
-    }
+    let (there, back) = (members_in_std(root, words), members_in_archive(root, words));
     Ok((there, back, (root.eq_std(words), words.eq_archived(root))))
 }
 

@@ -123,29 +123,36 @@ fn members<K: Element>(
     Ok((before, given, rest.size_hint()))
 }
 
-// Returns the sum of the keys and values of a map, and that of the keys of a set, by `for`.
-fn sums(map: &[u8], set: &[u8]) -> Result<[u8; 3], VerifyError> {
-    let map = ArchivedHashMap::of(access::<HashMapOf<u8, u8>>(map)?);
-    let set = key_set(set)?;
-    let mut sums = [0u8; 3];
+// Returns the sum of the keys and values of a map, by `for`.
+fn sum_of_pairs(bytes: &[u8]) -> Result<u8, VerifyError> {
+    let map = ArchivedHashMap::of(access::<HashMapOf<u8, u8>>(bytes)?);
+    let mut sum = 0u8;
     for (key, value) in &map {
-        sums[0] = sums[0].wrapping_add(key.to_native());
-        sums[0] = sums[0].wrapping_add(value.to_native());
+        sum = sum.wrapping_add(key.to_native());
+        sum = sum.wrapping_add(value.to_native());
     }
+    Ok(sum)
+}
+
+// Returns the sum of the keys of a set, by `for` over the set and over a reference to it.
+fn sums_of_keys(bytes: &[u8]) -> Result<(u8, u8), VerifyError> {
+    let set = key_set(bytes)?;
+    let (mut sum, mut sum_by_reference) = (0u8, 0u8);
     for key in set {
-        sums[1] = sums[1].wrapping_add(key.to_native());
+        sum = sum.wrapping_add(key.to_native());
     }
     for key in &set {
-        sums[2] = sums[2].wrapping_add(key.to_native());
+        sum_by_reference = sum_by_reference.wrapping_add(key.to_native());
     }
-    Ok(sums)
+    Ok((sum, sum_by_reference))
 }
 
 #[test]
 fn maps_and_sets_are_walked_by_for(rt: HostRuntime) {
     map_laws::walks_by_for_are_iterations::<u8, u8, FxHasher64, Narrow>();
     set_laws::walks_by_for_are_iterations::<u8, FxHasher64, Narrow>();
-    expect_eq!(rt; sums(&four_pairs(), &three_keys()), Ok([36, 6, 6]));
+    expect_eq!(rt; sum_of_pairs(&four_pairs()), Ok(36));
+    expect_eq!(rt; sums_of_keys(&three_keys()), Ok((6, 6)));
 }
 
 // Compares the results of `pairs_of` for a map.
@@ -180,7 +187,8 @@ fn expect_keys_and_values(
     values: [Option<u64>; 6],
     left: Left,
 ) {
-    expect_eq!(*rt; [keys_of(bytes), values_of(bytes)], [Ok((keys, left)), Ok((values, left))]);
+    expect_eq!(*rt; keys_of(bytes), Ok((keys, left)));
+    expect_eq!(*rt; values_of(bytes), Ok((values, left)));
 }
 
 #[test]
