@@ -30,6 +30,23 @@ fn same_keys<'a>(first: &'a [u8], second: &'a [u8]) -> Result<bool, VerifyError>
     Ok(key_set(first)? == key_set(second)?)
 }
 
+const FOUR_PAIRS: &[(i8, i8)] = &[(1, 2), (3, 4), (5, 6), (7, 8)];
+
+const THREE_PAIRS: &[(i8, i8)] = &[(1, 2), (3, 4), (5, 6)];
+
+const TWO_PAIRS: &[(i8, i8)] = &[(1, 2), (3, 4)];
+
+// Two lists of pairs, and whether they are archived as equal index maps.
+type PairsRow = (&'static [(i8, i8)], &'static [(i8, i8)], bool);
+
+const MAPS: &[PairsRow] = &[
+    (FOUR_PAIRS, FOUR_PAIRS, true),
+    (FOUR_PAIRS, &[(7, 8), (5, 6), (3, 4), (1, 2)], false),
+    (FOUR_PAIRS, &[(1, 2), (3, 4), (5, 6), (7, 9)], false),
+    (FOUR_PAIRS, THREE_PAIRS, false),
+    (THREE_PAIRS, FOUR_PAIRS, false),
+];
+
 // Whether two lists of pairs are archived as equal index maps.
 fn equal_maps(alloc: Global, first: &[(i8, i8)], second: &[(i8, i8)]) -> Result<bool, Fail> {
     let first = narrow(alloc, first)?;
@@ -40,18 +57,18 @@ fn equal_maps(alloc: Global, first: &[(i8, i8)], second: &[(i8, i8)]) -> Result<
 #[test]
 fn equal_maps_have_the_same_pairs_in_order(rt: HostRuntime) -> Result<(), Fail> {
     read_index_maps_are_compared::<i8, i8, FxHasher64, Narrow>();
-    let alloc = rt.alloc();
-    let four = [(1, 2), (3, 4), (5, 6), (7, 8)];
-    let found = [
-        equal_maps(alloc, &four, &four)?,
-        equal_maps(alloc, &four, &[(7, 8), (5, 6), (3, 4), (1, 2)])?,
-        equal_maps(alloc, &four, &[(1, 2), (3, 4), (5, 6), (7, 9)])?,
-        equal_maps(alloc, &four, &[(1, 2), (3, 4), (5, 6)])?,
-        equal_maps(alloc, &[(1, 2), (3, 4), (5, 6)], &four)?,
-    ];
-    expect_eq!(rt; found, [true, false, false, false, false]);
+    for (first, second, expected) in MAPS {
+        expect_eq!(rt; equal_maps(rt.alloc(), first, second)?, *expected);
+    }
     Ok(())
 }
+
+const WIDE_MAPS: &[PairsRow] = &[
+    (TWO_PAIRS, TWO_PAIRS, true),
+    (TWO_PAIRS, &[(3, 4), (1, 2)], false),
+    (TWO_PAIRS, &[(1, 2), (3, 5)], false),
+    (TWO_PAIRS, &[(1, 2)], false),
+];
 
 // Whether two lists of pairs are archived as equal wide index maps.
 fn equal_wide_maps(alloc: Global, first: &[(i8, i8)], second: &[(i8, i8)]) -> Result<bool, Fail> {
@@ -62,17 +79,19 @@ fn equal_wide_maps(alloc: Global, first: &[(i8, i8)], second: &[(i8, i8)]) -> Re
 
 #[test]
 fn equal_wide_maps_have_the_same_pairs_in_order(rt: HostRuntime) -> Result<(), Fail> {
-    let alloc = rt.alloc();
-    let two = [(1, 2), (3, 4)];
-    let found = [
-        equal_wide_maps(alloc, &two, &two)?,
-        equal_wide_maps(alloc, &two, &[(3, 4), (1, 2)])?,
-        equal_wide_maps(alloc, &two, &[(1, 2), (3, 5)])?,
-        equal_wide_maps(alloc, &two, &[(1, 2)])?,
-    ];
-    expect_eq!(rt; found, [true, false, false, false]);
+    for (first, second, expected) in WIDE_MAPS {
+        expect_eq!(rt; equal_wide_maps(rt.alloc(), first, second)?, *expected);
+    }
     Ok(())
 }
+
+// Two lists of items, and whether they are archived as equal index sets.
+const SETS: &[(&[i8], &[i8], bool)] = &[
+    (&[4, 1], &[4, 1], true),
+    (&[4, 1], &[1, 4], false),
+    (&[4, 1], &[4, 2], false),
+    (&[4, 1], &[4], false),
+];
 
 // Whether two lists of items are archived as equal index sets.
 fn equal_sets(alloc: Global, first: &[i8], second: &[i8]) -> Result<bool, Fail> {
@@ -84,14 +103,9 @@ fn equal_sets(alloc: Global, first: &[i8], second: &[i8]) -> Result<bool, Fail> 
 #[test]
 fn equal_sets_have_the_same_keys_in_order(rt: HostRuntime) -> Result<(), Fail> {
     read_index_sets_are_compared::<i8, FxHasher64, Narrow>();
-    let alloc = rt.alloc();
-    let found = [
-        equal_sets(alloc, &[4, 1], &[4, 1])?,
-        equal_sets(alloc, &[4, 1], &[1, 4])?,
-        equal_sets(alloc, &[4, 1], &[4, 2])?,
-        equal_sets(alloc, &[4, 1], &[4])?,
-    ];
-    expect_eq!(rt; found, [true, false, false, false]);
+    for (first, second, expected) in SETS {
+        expect_eq!(rt; equal_sets(rt.alloc(), first, second)?, *expected);
+    }
     Ok(())
 }
 

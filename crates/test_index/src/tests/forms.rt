@@ -4,11 +4,12 @@ use crate::tests::archives::{no_pairs, one_key_twice, one_pair, wide_pair};
 use crate::tests::opened::{key_set, map_in};
 use rkyv_base::{Narrow, VerifyError, Wide};
 use rkyv_index::IndexWidth;
+use std::process::Abort;
 use test_support::archives::{four_entries, one_index_key};
 
-/// The results of the forms of a lookup: index, key and value; key and value; the value; the index;
-/// whether the key is found.
-pub(crate) type Found = (
+// The results of the forms of a lookup: index, key and value; key and value; the value; the index;
+// whether the key is found.
+type Found = (
     Option<(usize, i8, i8)>,
     Option<(i8, i8)>,
     Option<i8>,
@@ -16,8 +17,8 @@ pub(crate) type Found = (
     bool,
 );
 
-/// Returns the results of the forms of a lookup in a map of the width `W`.
-pub(crate) fn found<W: IndexWidth>(bytes: &[u8], key: i8) -> Result<Found, VerifyError> {
+// Returns the results of the forms of a lookup in a map of the width `W`.
+fn found<W: IndexWidth>(bytes: &[u8], key: i8) -> Result<Found, VerifyError> {
     let map = map_in::<W>(bytes)?;
     let full = match map.get_full(&key) {
         Some((index, key, value)) => Some((index, key.to_native(), value.to_native())),
@@ -56,45 +57,36 @@ fn member(bytes: &[u8], key: i8) -> Result<Member, VerifyError> {
     Ok((full, stored, set.get_index_of(&key), set.contains(&key)))
 }
 
-/// Returns the results of the forms for a pair that is found.
-pub(crate) fn pair(index: usize, key: i8, value: i8) -> Result<Found, VerifyError> {
-    Ok((
-        Some((index, key, value)),
-        Some((key, value)),
-        Some(value),
-        Some(index),
-        true,
-    ))
+// Returns the results of the forms if the index, the key and the value in `full` are found.
+fn forms_of(full: Option<(usize, i8, i8)>) -> Found {
+    match full {
+        Some((index, key, value)) => (full, Some((key, value)), Some(value), Some(index), true),
+        None => (None, None, None, None, false),
+    }
 }
 
-/// Returns the results of the forms for a key that is not found.
-pub(crate) fn no_pair() -> Result<Found, VerifyError> {
-    Ok((None, None, None, None, false))
+/// Fails the test unless all forms of a lookup of each key find the index, the key and the value
+/// of its row, or nothing.
+pub(crate) fn expect_found<W: IndexWidth>(
+    rt: &impl Abort,
+    bytes: &[u8],
+    rows: &[(i8, Option<(usize, i8, i8)>)],
+) {
+    for (key, full) in rows {
+        expect_eq!(*rt; found::<W>(bytes, *key), Ok(forms_of(*full)));
+    }
 }
 
 #[test]
 fn all_forms_find_pairs_with_their_indices(rt: HostRuntime) {
-    let found = [
-        found::<Narrow>(&four_entries(), 1),
-        found::<Narrow>(&four_entries(), 7),
-        found::<Narrow>(&four_entries(), 9),
-        found::<Narrow>(&one_key_twice(), 1),
-        found::<Narrow>(&no_pairs(), 1),
-        found::<Wide>(&wide_pair(), 1),
-        found::<Wide>(&wide_pair(), 2),
-    ];
-    expect_eq!(rt;
-        found,
-        [
-            pair(0, 1, 2),
-            pair(3, 7, 8),
-            no_pair(),
-            pair(0, 1, 2),
-            no_pair(),
-            pair(0, 1, 2),
-            no_pair()
-        ]
+    expect_found::<Narrow>(
+        &rt,
+        &four_entries(),
+        &[(1, Some((0, 1, 2))), (7, Some((3, 7, 8))), (9, None)],
     );
+    expect_found::<Narrow>(&rt, &one_key_twice(), &[(1, Some((0, 1, 2)))]);
+    expect_found::<Narrow>(&rt, &no_pairs(), &[(1, None)]);
+    expect_found::<Wide>(&rt, &wide_pair(), &[(1, Some((0, 1, 2))), (2, None)]);
 }
 
 // 5 in the archive of 1 to 2 whose key was changed to 5: the hash of 5 doesn't lead to its bucket.
@@ -102,7 +94,7 @@ fn all_forms_find_pairs_with_their_indices(rt: HostRuntime) {
 fn all_forms_miss_a_key_that_was_changed(rt: HostRuntime) {
     let mut bytes = one_pair();
     bytes[39] = 5;
-    expect_eq!(rt; found::<Narrow>(&bytes, 5), no_pair());
+    expect_found::<Narrow>(&rt, &bytes, &[(5, None)]);
 }
 
 #[test]

@@ -61,31 +61,28 @@ fn header_at(
     Ok((header, fits))
 }
 
+const FARTHEST_EMPTY: [u8; 16] = [1, 0, 0, 0, 0, 0, 0, 0, 0, 0, 0, 0, 0, 0, 0, 0x80];
+
+const NEAR: [u8; 16] = [
+    0xdc, 0xff, 0xff, 0xff, 1, 0, 0, 0, 2, 0, 0, 0, 0xef, 0xff, 0xff, 0xff,
+];
+
+const FARTHEST: [u8; 16] = [0, 0, 0, 0x80, 1, 0, 0, 0, 2, 0, 0, 0, 0x13, 0, 0, 0x80];
+
+// Pairs, a position, the header there, and whether its distances fit.
+const HEADERS: &[(&[(i8, i8)], u32, [u8; 16], bool)] = &[
+    (&[], 2_147_483_636, FARTHEST_EMPTY, true),
+    (&[], 2_147_483_640, [7; 16], false),
+    (&[(1, 2)], 44, NEAR, true),
+    (&[(1, 2)], 2_147_483_656, FARTHEST, true),
+    (&[(1, 2)], 2_147_483_660, [7; 16], false),
+];
+
 #[test]
 fn distances_have_32_bits(rt: HostRuntime) {
-    let alloc = rt.alloc();
-    let headers = [
-        header_at(alloc, &[], 2_147_483_636),
-        header_at(alloc, &[], 2_147_483_640),
-        header_at(alloc, &[(1, 2)], 44),
-        header_at(alloc, &[(1, 2)], 2_147_483_656),
-        header_at(alloc, &[(1, 2)], 2_147_483_660),
-    ];
-    let farthest_empty = [1, 0, 0, 0, 0, 0, 0, 0, 0, 0, 0, 0, 0, 0, 0, 0x80];
-    let near = [
-        0xdc, 0xff, 0xff, 0xff, 1, 0, 0, 0, 2, 0, 0, 0, 0xef, 0xff, 0xff, 0xff,
-    ];
-    let farthest = [0, 0, 0, 0x80, 1, 0, 0, 0, 2, 0, 0, 0, 0x13, 0, 0, 0x80];
-    expect_eq!(rt;
-        headers,
-        [
-            Ok((farthest_empty, true)),
-            Ok(([7; 16], false)),
-            Ok((near, true)),
-            Ok((farthest, true)),
-            Ok(([7; 16], false))
-        ]
-    );
+    for (pairs, pos, header, fits) in HEADERS {
+        expect_eq!(rt; header_at(rt.alloc(), pairs, *pos), Ok((*header, *fits)));
+    }
 }
 
 // Does the same as `header_at`, by the method of the resolver.
@@ -103,10 +100,7 @@ fn resolved_at(
 #[test]
 fn the_header_of_a_resolver(rt: HostRuntime) {
     let header = resolved_at(rt.alloc(), &[(1, 2)], 44);
-    let expected = [
-        0xdc, 0xff, 0xff, 0xff, 1, 0, 0, 0, 2, 0, 0, 0, 0xef, 0xff, 0xff, 0xff,
-    ];
-    expect_eq!(rt; header, Ok((expected, true)));
+    expect_eq!(rt; header, Ok((NEAR, true)));
 }
 
 // Does the same as `header_at`, with the index set of these keys.

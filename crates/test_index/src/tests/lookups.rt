@@ -1,7 +1,7 @@
 //! Tests of lookups, walks, equality and printing of index maps.
 
 use crate::tests::archives::{map_in_a_map, no_pairs, one_key_twice, one_pair};
-use crate::tests::forms::{found, no_pair, pair};
+use crate::tests::forms::expect_found;
 use crate::tests::opened::{Small, small_map};
 use crate::tests::writing::narrow;
 use rkyv_base::access::access;
@@ -49,10 +49,7 @@ fn a_key_is_found_with_its_index(rt: HostRuntime) {
     scalars_found_are_listed::<i8, i8, i8, i8, FxHasher64, Narrow>();
     texts_found_are_listed::<i8, i8, i8, FxHasher64, Narrow>();
     let four = four_entries();
-    expect_eq!(rt;
-        [found::<Narrow>(&four, 7), found::<Narrow>(&four, 9)],
-        [pair(3, 7, 8), no_pair()]
-    );
+    expect_found::<Narrow>(&rt, &four, &[(7, Some((3, 7, 8))), (9, None)]);
     expect_eq!(rt; [pair_at(&four, 1), pair_at(&four, 4)], [Ok(Some((3, 4))), Ok(None)]);
 }
 
@@ -87,7 +84,7 @@ fn lookup_under_the_hasher_that_feeds_all_bits(rt: HostRuntime) {
 
 #[test]
 fn every_form_finds_the_same(rt: HostRuntime) {
-    expect_eq!(rt; found::<Narrow>(&four_entries(), 5), pair(2, 5, 6));
+    expect_found::<Narrow>(&rt, &four_entries(), &[(5, Some((2, 5, 6)))]);
 }
 
 // Accepts each key.
@@ -254,7 +251,7 @@ fn lengths_of_walks_are_exact(rt: HostRuntime) {
 #[test]
 fn of_equal_keys_the_first_is_found(rt: HostRuntime) {
     let bytes = one_key_twice();
-    expect_eq!(rt; found::<Narrow>(&bytes, 1), pair(0, 1, 2));
+    expect_found::<Narrow>(&rt, &bytes, &[(1, Some((0, 1, 2)))]);
     expect_eq!(rt; (counts(&bytes), pair_at(&bytes, 1)), (Ok((2, 1)), Ok(Some((1, 9)))));
 }
 
@@ -317,7 +314,8 @@ fn strides_of_seventeen_keys_under_one_hash(rt: HostRuntime) -> Result<(), Fail>
 fn an_index_in_two_buckets(rt: HostRuntime) {
     let mut bytes = one_key_twice();
     bytes[4] = 0;
-    expect_eq!(rt; (found::<Narrow>(&bytes, 1), counts(&bytes)), (pair(0, 1, 2), Ok((2, 1))));
+    expect_found::<Narrow>(&rt, &bytes, &[(1, Some((0, 1, 2)))]);
+    expect_eq!(rt; counts(&bytes), Ok((2, 1)));
 }
 
 #[test]
@@ -325,7 +323,7 @@ fn a_key_that_was_changed_is_misplaced(rt: HostRuntime) {
     let mut bytes = one_pair();
     bytes[39] = 5;
     expect_eq!(rt; (pair_at(&bytes, 0), counts(&bytes)), (Ok(Some((5, 2))), Ok((1, 1))));
-    expect_eq!(rt; found::<Narrow>(&bytes, 5), no_pair());
+    expect_found::<Narrow>(&rt, &bytes, &[(5, None)]);
 }
 
 #[test]

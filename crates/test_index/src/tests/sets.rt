@@ -3,7 +3,7 @@
 use crate::tests::archives::{no_pairs, one_key_parts};
 use crate::tests::lookups::{Lengths, next_key};
 use crate::tests::opened::key_set;
-use crate::tests::writing::set_archive;
+use crate::tests::writing::{expect_archive, set_archive};
 use rkyv_base::access::access;
 use rkyv_base::{Narrow, NoMemory, VecWriter, VerifyError, WriteError};
 use rkyv_index::set::laws::{
@@ -72,11 +72,12 @@ fn map_of(alloc: Global, pairs: Vec<(i8, ())>) -> Result<Vec<u8>, WriteError<NoM
 #[test]
 fn a_set_is_a_map_to_units(rt: HostRuntime) -> Result<(), Fail> {
     let alloc = rt.alloc();
-    let set = set_of(alloc, vec![in alloc; 1i8]?)?;
-    let map = map_of(alloc, vec![in alloc; (1i8, ())]?)?;
-    expect_eq!(rt; set.as_slice(), one_key_parts().as_slice());
-    expect_eq!(rt; map.as_slice(), one_key_parts().as_slice());
-    Ok(())
+    expect_archive(&rt, set_of(alloc, vec![in alloc; 1i8]?), &one_key_parts())?;
+    expect_archive(
+        &rt,
+        map_of(alloc, vec![in alloc; (1i8, ())]?),
+        &one_key_parts(),
+    )
 }
 
 #[test]

@@ -17,6 +17,7 @@ use rkyv_index::{ArchivedIndexMap, IndexMapOf, IndexWidth, OrderedItems, Ordered
 use rkyv_keys::{KeyElement, NativeKey};
 use rkyv_scan::FxHasher64;
 use std::alloc::{AllocError, Global};
+use std::process::Abort;
 use std::test::Fail;
 use test_support::archives::four_entries;
 
@@ -65,6 +66,17 @@ pub(crate) fn set_archive(alloc: Global, items: &[i8]) -> Result<Vec<u8>, Fail> 
     Ok(to_bytes(alloc, &OrderedItems(list))?)
 }
 
+// Fails the test unless a write succeeds, with this archive.
+pub(crate) fn expect_archive(
+    rt: &impl Abort,
+    written: Result<Vec<u8>, WriteError<NoMemory>>,
+    expected: &[u8],
+) -> Result<(), Fail> {
+    let bytes = written?;
+    expect_eq!(*rt; bytes.as_slice(), expected);
+    Ok(())
+}
+
 #[test]
 fn pairs_are_written(rt: HostRuntime) -> Result<(), Fail> {
     listed_pairs_are_written::<Narrow, FxHasher64, i8, i8, i8, i8>();
@@ -72,25 +84,18 @@ fn pairs_are_written(rt: HostRuntime) -> Result<(), Fail> {
     written_index_maps_represent::<Narrow, FxHasher64, i8, i8, i8, i8>();
     written_index_sets_represent::<Narrow, FxHasher64, i8, i8>();
     let alloc = rt.alloc();
-    let none = narrow(alloc, &[])?;
-    let one = narrow(alloc, &[(1, 2)])?;
-    let four = narrow(alloc, &[(1, 2), (3, 4), (5, 6), (7, 8)])?;
-    expect_eq!(rt; none.as_slice(), no_pairs().as_slice());
-    expect_eq!(rt; one.as_slice(), one_pair().as_slice());
-    expect_eq!(rt; four.as_slice(), four_entries().as_slice());
-    let twice = narrow(alloc, &[(1, 2), (1, 9)])?;
-    expect_eq!(rt; twice.as_slice(), one_key_twice().as_slice());
-    Ok(())
+    expect_archive(&rt, narrow(alloc, &[]), &no_pairs())?;
+    expect_archive(&rt, narrow(alloc, &[(1, 2)]), &one_pair())?;
+    let four = narrow(alloc, &[(1, 2), (3, 4), (5, 6), (7, 8)]);
+    expect_archive(&rt, four, &four_entries())?;
+    expect_archive(&rt, narrow(alloc, &[(1, 2), (1, 9)]), &one_key_twice())
 }
 
 #[test]
 fn wide_pairs_are_written(rt: HostRuntime) -> Result<(), Fail> {
     let alloc = rt.alloc();
-    let none = wide(alloc, &[])?;
-    let one = wide(alloc, &[(1, 2)])?;
-    expect_eq!(rt; none.as_slice(), no_wide_pairs().as_slice());
-    expect_eq!(rt; one.as_slice(), wide_pair().as_slice());
-    Ok(())
+    expect_archive(&rt, wide(alloc, &[]), &no_wide_pairs())?;
+    expect_archive(&rt, wide(alloc, &[(1, 2)]), &wide_pair())
 }
 
 // Returns the wide archive of the item 1 as an index set.
@@ -150,25 +155,32 @@ fn written(
     Ok(writer.into_vec())
 }
 
+// A claimed length, a load factor, and the error of a write with them.
+type FailureRow = (usize, (usize, usize), WriteError<NoMemory>);
+
+// Fails the test unless the writes of the pair of 1 and 2 have these errors.
+fn expect_failures(rt: &impl Abort, alloc: Global, rows: &[FailureRow]) -> Result<(), Fail> {
+    for (len, load_factor, error) in rows {
+        let failed = written(alloc, vec![in alloc; (1, 2)]?, *len, *load_factor).err();
+        expect_eq!(*rt; failed, Some(*error));
+    }
+    Ok(())
+}
+
 #[test]
 fn bad_load_factors_and_lengths(rt: HostRuntime) -> Result<(), Fail> {
-    let alloc = rt.alloc();
-    assert!(rt;
-        matches!(
-            written(alloc, vec![in alloc; (1, 2)]?, 2, (8, 7)),
-            Err(WriteError::InvalidLoadFactor {
-                numerator: 8,
-                denominator: 7,
-            })
-        )
-    );
-    assert!(rt;
-        matches!(
-            written(alloc, vec![in alloc; (1, 2)]?, 1, (1, 4294967296)),
-            Err(WriteError::CapacityTooLarge { len: 1 })
-        )
-    );
-    Ok(())
+    let bad_load_factor = WriteError::InvalidLoadFactor {
+        numerator: 8,
+        denominator: 7,
+    };
+    expect_failures(
+        &rt,
+        rt.alloc(),
+        &[
+            (2, (8, 7), bad_load_factor),
+            (1, (1, 4294967296), WriteError::CapacityTooLarge { len: 1 }),
+        ],
+    )
 }
 
 // Returns the length and the load factor of the resolver of an index map of two pairs.
@@ -191,35 +203,30 @@ fn set_under(
 
 #[test]
 fn resolvers_have_the_given_load_factor(rt: HostRuntime) {
-    let alloc = rt.alloc();
-    let maps = [map_under(alloc, (1, 1)), map_under(alloc, (1, 2))];
-    let sets = [set_under(alloc, (1, 1)), set_under(alloc, (1, 2))];
-    expect_eq!(rt; maps, [Ok((2, (1, 1))), Ok((2, (1, 2)))]);
-    expect_eq!(rt; sets, [Ok((1, (1, 1))), Ok((1, (1, 2)))]);
+    for load_factor in [(1, 1), (1, 2)] {
+        expect_eq!(rt; map_under(rt.alloc(), load_factor), Ok((2, load_factor)));
+        expect_eq!(rt; set_under(rt.alloc(), load_factor), Ok((1, load_factor)));
+    }
 }
 
 #[test]
 fn another_number_of_pairs(rt: HostRuntime) -> Result<(), Fail> {
-    let alloc = rt.alloc();
-    assert!(rt;
-        matches!(
-            written(alloc, vec![in alloc; (1, 2)]?, 3, (7, 8)),
-            Err(WriteError::IteratorLengthMismatch(IteratorLengthMismatch {
-                expected: 3,
-                actual: 1,
-            }))
-        )
-    );
-    assert!(rt;
-        matches!(
-            written(alloc, vec![in alloc; (1, 2)]?, 0, (7, 8)),
-            Err(WriteError::IteratorLengthMismatch(IteratorLengthMismatch {
-                expected: 0,
-                actual: 1,
-            }))
-        )
-    );
-    Ok(())
+    let too_few = IteratorLengthMismatch {
+        expected: 3,
+        actual: 1,
+    };
+    let too_many = IteratorLengthMismatch {
+        expected: 0,
+        actual: 1,
+    };
+    expect_failures(
+        &rt,
+        rt.alloc(),
+        &[
+            (3, (7, 8), WriteError::IteratorLengthMismatch(too_few)),
+            (0, (7, 8), WriteError::IteratorLengthMismatch(too_many)),
+        ],
+    )
 }
 
 // Writes the map of 1 to 2 with a limit. Returns `true` if the writer keeps the first `limit`
