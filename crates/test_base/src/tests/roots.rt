@@ -3,7 +3,9 @@ ghost use Rattle.std.specs.Prelude.{IfOk, ◌≡◌};
 
 use crate::tests::access_failures::access_failure;
 use rkyv_base::access::access;
-use rkyv_base::{Entry, Narrow, NoMemory, VerifyError, WriteError, laws, to_bytes};
+use rkyv_base::{
+    Entry, Narrow, NoMemory, Serialize, VecWriter, VerifyError, WriteError, laws, to_bytes,
+};
 use std::alloc::Global;
 use test_support::written::is_archived_as;
 
@@ -20,11 +22,43 @@ fn pairs_are_padded(rt: HostRuntime) {
     expect_eq!(rt; padded, [true; 3]);
 }
 
+// Returns `true` for each of these: the archive of a value has the first bytes, and that of the
+// pair of the value and 9 has the second ones.
+fn are_archived_as<V: Serialize<VecWriter, Narrow> + Copy>(
+    alloc: Global,
+    value: V,
+    alone: &[u8],
+    with_nine: &[u8],
+) -> [bool; 2] {
+    [
+        is_archived_as(alloc, &value, alone),
+        is_archived_as(alloc, &(value, 9u64), with_nine),
+    ]
+}
+
+// Returns the same of the value that is a pair.
+fn pair_is_archived_as<V: Serialize<VecWriter, Narrow> + Copy>(
+    alloc: Global,
+    pair: (V, V),
+    alone: &[u8],
+    with_nine: &[u8],
+) -> [bool; 2] {
+    are_archived_as::<(V, V)>(alloc, pair, alone, with_nine)
+}
+
+// Returns the same of the value that is a pair of pairs. So each bound is proved for one pair.
+fn pairs_are_archived_as<V: Serialize<VecWriter, Narrow> + Copy>(
+    alloc: Global,
+    pairs: ((V, V), (V, V)),
+    alone: &[u8],
+    with_nine: &[u8],
+) -> [bool; 2] {
+    pair_is_archived_as::<(V, V)>(alloc, pairs, alone, with_nine)
+}
+
 // The buffer for up to 64 fixed bytes needs no memory; that for more is allocated.
 #[test]
 fn roots_of_64_and_of_72_bytes(rt: HostRuntime) {
-    let alloc = rt.alloc();
-    let eight = (((1u64, 2u64), (3u64, 4u64)), ((5u64, 6u64), (7u64, 8u64)));
     let first = [
         1, 0, 0, 0, 0, 0, 0, 0, 2, 0, 0, 0, 0, 0, 0, 0, 3, 0, 0, 0, 0, 0, 0, 0, 4, 0, 0, 0, 0, 0,
         0, 0, 5, 0, 0, 0, 0, 0, 0, 0, 6, 0, 0, 0, 0, 0, 0, 0, 7, 0, 0, 0, 0, 0, 0, 0, 8, 0, 0, 0,
@@ -33,10 +67,8 @@ fn roots_of_64_and_of_72_bytes(rt: HostRuntime) {
     let mut both = [0; 72];
     both[..64].copy_from_slice(&first);
     both[64] = 9;
-    let written = [
-        is_archived_as(alloc, &eight, &first),
-        is_archived_as(alloc, &(eight, 9u64), &both),
-    ];
+    let eight = (((1u64, 2u64), (3u64, 4u64)), ((5u64, 6u64), (7u64, 8u64)));
+    let written = pairs_are_archived_as::<(u64, u64)>(rt.alloc(), eight, &first, &both);
     expect_eq!(rt; written, [true; 2]);
 }
 
