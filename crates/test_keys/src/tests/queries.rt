@@ -30,31 +30,45 @@ const HELLO_SEVEN: [u8; 12] = [0x68, 0x65, 0x6c, 0x6c, 0x6f, 0xff, 0xff, 0xff, 7
 // The entry of "hello" and 8.
 const HELLO_EIGHT: [u8; 12] = [0x68, 0x65, 0x6c, 0x6c, 0x6f, 0xff, 0xff, 0xff, 8, 0, 0, 0];
 
-fn query_matches<K: KeyElement, Q: Query<K>>(query: &Q, bytes: &[u8]) -> Result<bool, VerifyError>
+// Each of the next five functions returns `None` if an archive is not valid.
+
+fn query_matches<K: KeyElement, Q: Query<K>>(query: &Q, bytes: &[u8]) -> Option<bool>
     requires { Q.can_read query.now }
 {
-    Ok(query.same(access::<K>(bytes)?))
+    match access::<K>(bytes) {
+        Ok(key) => Some(query.same(key)),
+        Err(_) => None,
+    }
 }
 
-fn key_matches<K: KeyElement>(archive: &[u8], other: &[u8]) -> Result<bool, VerifyError> {
-    let query = access::<K>(archive)?;
-    query_matches::<K, View<'_, K>>(&query, other)
+fn key_matches<K: KeyElement>(archive: &[u8], other: &[u8]) -> Option<bool> {
+    match access::<K>(archive) {
+        Ok(query) => query_matches::<K, View<'_, K>>(&query, other),
+        Err(_) => None,
+    }
 }
 
-fn are_same<T: ElementEq>(archive: &[u8], other: &[u8]) -> Result<bool, VerifyError> {
-    let a = access::<T>(archive)?;
-    let b = access::<T>(other)?;
-    Ok(T::same(a, b))
+fn are_same<T: ElementEq>(archive: &[u8], other: &[u8]) -> Option<bool> {
+    match (access::<T>(archive), access::<T>(other)) {
+        (Ok(a), Ok(b)) => Some(T::same(a, b)),
+        _ => None,
+    }
 }
 
-fn equals<V, T: MatchesNative<V>>(bytes: &[u8], value: &V) -> Result<bool, VerifyError> {
-    Ok(T::eq_native(access::<T>(bytes)?, value))
+fn equals<V, T: MatchesNative<V>>(bytes: &[u8], value: &V) -> Option<bool> {
+    match access::<T>(bytes) {
+        Ok(view) => Some(T::eq_native(view, value)),
+        Err(_) => None,
+    }
 }
 
-fn hash_of<K: KeyElement>(bytes: &[u8]) -> Result<u64, VerifyError> {
+fn hash_of<K: KeyElement>(bytes: &[u8]) -> Option<u64> {
     let mut state = FxHasher64::default();
-    K::hash_view(access::<K>(bytes)?, &mut state);
-    Ok(state.finish())
+    match access::<K>(bytes) {
+        Ok(view) => K::hash_view(view, &mut state),
+        Err(_) => return None,
+    }
+    Some(state.finish())
 }
 
 // Returns `true` if this text is deserialized.
@@ -102,10 +116,10 @@ pub(crate) fn shows<T: ElementDebug>(alloc: Global, bytes: &[u8], text: &str) ->
 fn owned_hello(alloc: Global) -> Option<[Option<bool>; 4]> {
     let text = String::from_str(alloc, "hello").ok()?;
     Some([
-        query_matches::<Text, String>(&text, &HELLO).ok(),
-        query_matches::<Text, String>(&text, &WONDERFUL).ok(),
-        equals::<String, Text>(&HELLO, &text).ok(),
-        equals::<String, Text>(&WONDERFUL, &text).ok(),
+        query_matches::<Text, String>(&text, &HELLO),
+        query_matches::<Text, String>(&text, &WONDERFUL),
+        equals::<String, Text>(&HELLO, &text),
+        equals::<String, Text>(&WONDERFUL, &text),
     ])
 }
 
@@ -117,11 +131,11 @@ fn str_queries_match_texts(rt: HostRuntime) {
     laws::views_match_same_keys::<Text>();
     let (yes, no) = (Some(true), Some(false));
     let compared = [
-        query_matches::<Text, &str>(&"hello", &HELLO).ok(),
-        query_matches::<Text, &str>(&"hello", &HELLO_AGAIN).ok(),
-        query_matches::<Text, &str>(&"hellx", &HELLO).ok(),
-        query_matches::<Text, &str>(&"wonderful", &WONDERFUL).ok(),
-        query_matches::<Text<Wide>, &str>(&"wonderful", &WIDE_WONDERFUL).ok(),
+        query_matches::<Text, &str>(&"hello", &HELLO),
+        query_matches::<Text, &str>(&"hello", &HELLO_AGAIN),
+        query_matches::<Text, &str>(&"hellx", &HELLO),
+        query_matches::<Text, &str>(&"wonderful", &WONDERFUL),
+        query_matches::<Text<Wide>, &str>(&"wonderful", &WIDE_WONDERFUL),
     ];
     expect_eq!(rt;
         (compared, owned_hello(rt.alloc())),
@@ -132,10 +146,10 @@ fn str_queries_match_texts(rt: HostRuntime) {
 #[test]
 fn keys_hash_as_their_queries(rt: HostRuntime) {
     let hashes = [
-        hash_of::<Text>(&HELLO).ok(),
-        hash_of::<Text>(&WONDERFUL).ok(),
-        hash_of::<Entry<Text, u32>>(&HELLO_SEVEN).ok(),
-        hash_of::<()>(&[]).ok(),
+        hash_of::<Text>(&HELLO),
+        hash_of::<Text>(&WONDERFUL),
+        hash_of::<Entry<Text, u32>>(&HELLO_SEVEN),
+        hash_of::<()>(&[]),
     ];
     let expected = [
         Some(hash_value::<&str, FxHasher64>(&"hello")),
@@ -149,10 +163,10 @@ fn keys_hash_as_their_queries(rt: HostRuntime) {
 #[test]
 fn pair_queries_match_entries(rt: HostRuntime) {
     let compared = [
-        query_matches::<Entry<Text, u32>, (&str, u32)>(&("hello", 7), &HELLO_SEVEN).ok(),
-        query_matches::<Entry<Text, u32>, (&str, u32)>(&("hello", 8), &HELLO_SEVEN).ok(),
-        query_matches::<Entry<Text, u32>, (&str, u32)>(&("hell", 7), &HELLO_SEVEN).ok(),
-        query_matches::<(), ()>(&(), &[]).ok(),
+        query_matches::<Entry<Text, u32>, (&str, u32)>(&("hello", 7), &HELLO_SEVEN),
+        query_matches::<Entry<Text, u32>, (&str, u32)>(&("hello", 8), &HELLO_SEVEN),
+        query_matches::<Entry<Text, u32>, (&str, u32)>(&("hell", 7), &HELLO_SEVEN),
+        query_matches::<(), ()>(&(), &[]),
     ];
     expect_eq!(rt; compared, [Some(true), Some(false), Some(false), Some(true)]);
 }
@@ -161,11 +175,11 @@ fn pair_queries_match_entries(rt: HostRuntime) {
 fn archived_keys_match_keys_of_other_archives(rt: HostRuntime) {
     let (yes, no) = (Some(true), Some(false));
     let compared = [
-        key_matches::<Text>(&HELLO, &HELLO_AGAIN).ok(),
-        key_matches::<Text>(&HELLO, &WONDERFUL).ok(),
-        key_matches::<Entry<Text, u32>>(&HELLO_SEVEN, &HELLO_SEVEN).ok(),
-        key_matches::<Entry<Text, u32>>(&HELLO_SEVEN, &HELLO_EIGHT).ok(),
-        key_matches::<u16>(&[1, 2], &[1, 2]).ok(),
+        key_matches::<Text>(&HELLO, &HELLO_AGAIN),
+        key_matches::<Text>(&HELLO, &WONDERFUL),
+        key_matches::<Entry<Text, u32>>(&HELLO_SEVEN, &HELLO_SEVEN),
+        key_matches::<Entry<Text, u32>>(&HELLO_SEVEN, &HELLO_EIGHT),
+        key_matches::<u16>(&[1, 2], &[1, 2]),
     ];
     expect_eq!(rt; compared, [yes, no, yes, no, yes]);
 }
@@ -176,17 +190,17 @@ fn values_are_compared_in_place(rt: HostRuntime) {
     laws::native_values_are_compared::<u32, Wide, u8, u32, u8, u32>();
     let (yes, no) = (Some(true), Some(false));
     let same = [
-        are_same::<Text>(&HELLO, &HELLO_AGAIN).ok(),
-        are_same::<Text>(&HELLO, &WONDERFUL).ok(),
-        are_same::<Entry<Text, u32>>(&HELLO_SEVEN, &HELLO_EIGHT).ok(),
-        are_same::<()>(&[], &[]).ok(),
+        are_same::<Text>(&HELLO, &HELLO_AGAIN),
+        are_same::<Text>(&HELLO, &WONDERFUL),
+        are_same::<Entry<Text, u32>>(&HELLO_SEVEN, &HELLO_EIGHT),
+        are_same::<()>(&[], &[]),
     ];
     let equal = [
-        equals::<&str, Text>(&WONDERFUL, &"wonderful").ok(),
-        equals::<&str, Text>(&HELLO_AGAIN, &"hello").ok(),
-        equals::<(&str, u32), Entry<Text, u32>>(&HELLO_SEVEN, &("hello", 7)).ok(),
-        equals::<(&str, u32), Entry<Text, u32>>(&HELLO_SEVEN, &("hello", 8)).ok(),
-        equals::<(), ()>(&[], &()).ok(),
+        equals::<&str, Text>(&WONDERFUL, &"wonderful"),
+        equals::<&str, Text>(&HELLO_AGAIN, &"hello"),
+        equals::<(&str, u32), Entry<Text, u32>>(&HELLO_SEVEN, &("hello", 7)),
+        equals::<(&str, u32), Entry<Text, u32>>(&HELLO_SEVEN, &("hello", 8)),
+        equals::<(), ()>(&[], &()),
     ];
     expect_eq!(rt;
         (same, equal, owned_hello(rt.alloc())),
