@@ -1,5 +1,6 @@
 //! Tests of the codes of kinds, types and widths.
 use rkyv_container::{ItemType, Kind, Width};
+use std::process::Abort;
 
 #[test]
 fn codes_of_kinds_and_widths(rt: HostRuntime) {
@@ -39,20 +40,31 @@ fn agree(item: ItemType, code: u8) -> bool {
     item.code() == code && ItemType::from_code(code) == Some(item)
 }
 
+// Fails the test unless each of these types agrees with its code.
+fn expect_codes(rt: &impl Abort, rows: &[(ItemType, u8)]) {
+    for (item, code) in rows {
+        expect_eq!(*rt; (*code, agree(*item, *code)), (*code, true));
+    }
+}
+
 #[test]
 fn codes_of_types(rt: HostRuntime) {
-    let all = agree(ItemType::Unit, 0x01)
-        && agree(ItemType::Bool, 0x02)
-        && agree(ItemType::Char, 0x03)
-        && agree(ItemType::Text, 0x04)
-        && agree(ItemType::Bytes, 0x05)
-        && agree(ItemType::U8, 0x11)
-        && agree(ItemType::U16, 0x12)
-        && agree(ItemType::U32, 0x14)
-        && agree(ItemType::U64, 0x18)
-        && agree(ItemType::I8, 0x21)
-        && agree(ItemType::I16, 0x22)
-        && agree(ItemType::I32, 0x24)
-        && agree(ItemType::I64, 0x28);
-    assert!(rt; all);
+    expect_codes(
+        &rt,
+        &[
+            (ItemType::Unit, 0x01),
+            (ItemType::Bool, 0x02),
+            (ItemType::Char, 0x03),
+            (ItemType::Text, 0x04),
+            (ItemType::Bytes, 0x05),
+            (ItemType::U8, 0x11),
+            (ItemType::U16, 0x12),
+            (ItemType::U32, 0x14),
+            (ItemType::U64, 0x18),
+            (ItemType::I8, 0x21),
+            (ItemType::I16, 0x22),
+            (ItemType::I32, 0x24),
+            (ItemType::I64, 0x28),
+        ],
+    );
 }

@@ -1,8 +1,9 @@
 //! Tests of each error, at its least and its greatest wrong byte, and of the order of the checks.
-ghost use Rattle.std.specs.Prelude.{◌<◌};
+ghost use Rattle.std.specs.Prelude.{◌<◌, ◌≤◌};
 
 use crate::tests::rows::{NAMES, NUMBERS, names};
 use rkyv_container::{ContainerError, Contents, Header, ItemType, Kind, Width, open, open_as};
+use std::process::Abort;
 
 // Returns the error of reading the header of numbers with another byte at `at`.
 fn header_fault(at: usize, byte: u8) -> Option<ContainerError>
@@ -216,32 +217,43 @@ fn wrong_contents_are_errors(rt: HostRuntime) {
     );
 }
 
+// Returns the first `len` bytes of the container of names, followed by bytes 0xff.
+fn names_up_to(len: usize) -> [u8; 40]
+    requires { len ≤ 40 }
+{
+    let mut bytes = [0xff; 40];
+    bytes[..len].copy_from_slice(&NAMES[..len]);
+    bytes
+}
+
+// Fails the test unless opening such bytes has the error, in each row: the number of bytes of the
+// container of names, at most 40, and the error.
+fn expect_first_faults(rt: &impl Abort, rows: &[(usize, ContainerError)]) {
+    for (len, error) in rows {
+        assert!(*rt; *len <= 40);
+        expect_eq!(*rt; (*len, open_fault(&names_up_to(*len))), (*len, Some(*error)));
+    }
+}
+
 // Of several faults the first in the order of the checks is returned.
 #[test]
 fn the_first_fault_is_returned(rt: HostRuntime) {
-    let mut wrong = [0xff; 40];
-    let nothing = open_fault(&wrong);
-    wrong[..8].copy_from_slice(&NAMES[..8]);
-    let version = open_fault(&wrong);
-    wrong[..10].copy_from_slice(&NAMES[..10]);
-    let kind = open_fault(&wrong);
-    wrong[..14].copy_from_slice(&NAMES[..14]);
-    let flags = open_fault(&wrong);
-    wrong[..28].copy_from_slice(&NAMES[..28]);
-    let reserved = open_fault(&wrong);
-    wrong[..32].copy_from_slice(&NAMES[..32]);
+    expect_first_faults(
+        &rt,
+        &[
+            (0, ContainerError::WrongMagic),
+            (8, ContainerError::UnsupportedVersion(65_535)),
+            (10, ContainerError::UnknownKind(255)),
+            (14, ContainerError::UnknownFlags(65_535)),
+            (28, ContainerError::NonzeroReserved(4_294_967_295)),
+        ],
+    );
+    let bytes = names_up_to(32);
     let mut contents = names();
     contents.width = Width::Narrow;
-    let width = open_as_fault(&wrong, contents);
-    let len = open_as_fault(&wrong, names());
     expect_eq!(rt;
-        [nothing, version, kind, flags, reserved, width, len],
+        [open_as_fault(&bytes, contents), open_as_fault(&bytes, names())],
         [
-            Some(ContainerError::WrongMagic),
-            Some(ContainerError::UnsupportedVersion(65_535)),
-            Some(ContainerError::UnknownKind(255)),
-            Some(ContainerError::UnknownFlags(65_535)),
-            Some(ContainerError::NonzeroReserved(4_294_967_295)),
             Some(ContainerError::WrongWidth {
                 expected: Width::Narrow,
                 found: Width::Wide
