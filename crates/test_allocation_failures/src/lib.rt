@@ -6,8 +6,7 @@
 //! allocates has one beside it that makes the same calls. If all tests of a run pass, no allocation
 //! failed.
 //!
-//! Each test of `counts` makes eight allocations: it fails if the eighth one fails, and passes if
-//! the ninth one would.
+//! Each test of `counts` makes eight allocations. The script compares the number.
 #![tactic(auto)]
 
 #[cfg(test)]

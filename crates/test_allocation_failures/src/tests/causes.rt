@@ -55,9 +55,16 @@ fn root_of_number(alloc: Global) -> (Ending, bool) {
     root(alloc, &7u32, &[7, 0, 0, 0])
 }
 
-// Writes the text wonderful as a root, and returns the same.
-fn root_of_text(alloc: Global) -> (Ending, bool) {
-    root(alloc, &"wonderful", &wonderful())
+type Pair = (u64, u64);
+
+type Four = (Pair, Pair);
+
+/// Eight numbers, of 64 bytes.
+pub(super) const EIGHT: (Four, Four) = (((1, 2), (3, 4)), ((5, 6), (7, 8)));
+
+// Writes the text wonderful and eight numbers as a root of 72 bytes, and returns the same.
+fn root_of_text_and_numbers(alloc: Global) -> (Ending, bool) {
+    root(alloc, &("wonderful", EIGHT), &wonderful_and_eight())
 }
 
 // Writes the table of the text wonderful under the hash 0, and returns the same.
@@ -85,6 +92,18 @@ fn wonderful() -> [u8; 20] {
     archive(b"wonderful\0\0\0", &[0x89, 0, 0, 0, 0xf4, 0xff, 0xff, 0xff])
 }
 
+// Returns the archive of the text wonderful and the numbers from 1 to 8.
+//
+// The text's bytes from 0 on, the root at 16.
+fn wonderful_and_eight() -> [u8; 88] {
+    [
+        b'w', b'o', b'n', b'd', b'e', b'r', b'f', b'u', b'l', 0, 0, 0, 0, 0, 0, 0, 0x89, 0, 0, 0,
+        0xf0, 0xff, 0xff, 0xff, 1, 0, 0, 0, 0, 0, 0, 0, 2, 0, 0, 0, 0, 0, 0, 0, 3, 0, 0, 0, 0, 0,
+        0, 0, 4, 0, 0, 0, 0, 0, 0, 0, 5, 0, 0, 0, 0, 0, 0, 0, 6, 0, 0, 0, 0, 0, 0, 0, 7, 0, 0, 0,
+        0, 0, 0, 0, 8, 0, 0, 0, 0, 0, 0, 0,
+    ]
+}
+
 // Returns the table of the text wonderful under the hash 0, without its header.
 //
 // The text's bytes from 0 on, buckets from 12 on, controls from 28 on.
@@ -106,15 +125,16 @@ fn a_root_succeeds(rt: HostRuntime) {
     expect_eq!(rt; root_of_number(rt.alloc()), (Ending::Written, true));
 }
 
+// The buffer for more than 64 fixed bytes is allocated.
 #[test]
 fn root_allocates_before_writing_its_text(rt: HostRuntime) {
-    let (_, right) = root_of_text(rt.alloc());
+    let (_, right) = root_of_text_and_numbers(rt.alloc());
     assert!(rt; right);
 }
 
 #[test]
-fn the_root_of_a_text_succeeds(rt: HostRuntime) {
-    expect_eq!(rt; root_of_text(rt.alloc()), (Ending::Written, true));
+fn the_root_of_a_text_and_numbers_succeeds(rt: HostRuntime) {
+    expect_eq!(rt; root_of_text_and_numbers(rt.alloc()), (Ending::Written, true));
 }
 
 #[test]

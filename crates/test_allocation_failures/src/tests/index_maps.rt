@@ -1,5 +1,6 @@
 //! Index maps and sets that are archived.
 
+use crate::tests::std_maps::is_read_back_or_fails_to_allocate;
 use rkyv_base::access::access;
 use rkyv_base::{
     Narrow, NoMemory, ReadError, Text, VecWriter, VerifyError, WriteError, append, to_bytes,
@@ -130,15 +131,6 @@ fn items_back(alloc: Global) -> Result<Result<bool, ReadError>, VerifyError> {
     match back {
         Ok(list) => Ok(Ok(list.as_slice() == [1i8].as_slice())),
         Err(e) => Ok(Err(e)),
-    }
-}
-
-// Returns whether the list is whole, or its allocation fails.
-fn is_read_back_or_fails_to_allocate(back: Result<Result<bool, ReadError>, VerifyError>) -> bool {
-    match back {
-        Ok(Ok(whole)) => whole,
-        Ok(Err(cause)) => matches!(cause, ReadError::Memory),
-        Err(_) => false,
     }
 }
 

@@ -122,12 +122,12 @@ fn a_table_succeeds(rt: HostRuntime) {
 
 #[test]
 fn table_allocates_before_reading_pairs(rt: HostRuntime) {
-    assert!(rt; fits(requests_of_pairs(rt.alloc(), 2, 2)));
+    assert!(rt; fits(requests_of_pairs(rt.alloc(), 2, 2, (7, 8))));
 }
 
 #[test]
 fn a_table_of_pairs_succeeds(rt: HostRuntime) {
-    expect_eq!(rt; requests_of_pairs(rt.alloc(), 2, 2), (Outcome::Written, 3));
+    expect_eq!(rt; requests_of_pairs(rt.alloc(), 2, 2, (7, 8)), (Outcome::Written, 3));
 }
 
 #[test]

@@ -97,8 +97,10 @@ fn read_back(alloc: Global) -> Result<Result<bool, ReadError>, VerifyError> {
     }
 }
 
-// Returns whether all is read back, or an allocation fails.
-fn is_read_back_or_fails_to_allocate(back: Result<Result<bool, ReadError>, VerifyError>) -> bool {
+/// Returns whether all is read back, or an allocation fails.
+pub(super) fn is_read_back_or_fails_to_allocate(
+    back: Result<Result<bool, ReadError>, VerifyError>,
+) -> bool {
     match back {
         Ok(Ok(whole)) => whole,
         Ok(Err(cause)) => matches!(cause, ReadError::Memory),
