@@ -1,4 +1,4 @@
-//! Archives of known bytes, as constants for the rows of tests, and as functions.
+//! Archives of known bytes.
 //!
 //! The comment of an archive has the position of each part. The hash of the number 1 is
 //! 517cc1b727220a95, with the tag 28. That of the empty text is 2b44f56ffae88a6b, with the tag 15.
@@ -79,7 +79,7 @@ pub(crate) const ONE_WIDE_LONG_NUMBER: &[u8; 88] = &[
 
 /// The map of the pairs 1 and 2, and 1 and 9, with values of 32 bits.
 ///
-/// Buckets from 0 on, controls from 24 on, header at 56. The home of both pairs is bucket 0, so the
+/// Buckets from 0 on, controls from 24 on, header at 56. The start of both pairs is 0, so the
 /// second is in bucket 1.
 pub(crate) const ONE_NUMBER_TWICE: &[u8; 68] = &[
     0, 0, 0, 0, 0, 0, 0, 0, // bucket 2
@@ -93,8 +93,8 @@ pub(crate) const ONE_NUMBER_TWICE: &[u8; 68] = &[
 
 /// The map of the pairs 1 and 2, and 4,294,967,297 and 9, with keys of 64 bits.
 ///
-/// Buckets from 0 on, controls from 48 on, header at 80. The home of both pairs is bucket 0, so the
-/// second is in bucket 1. The bytes are the same in both widths of values.
+/// Buckets from 0 on, controls from 48 on, header at 80. The starts of the pairs are 0 and 1. The
+/// bytes are the same in both widths of values.
 pub(crate) const TWO_LONG_NUMBERS: &[u8; 92] = &[
     0, 0, 0, 0, 0, 0, 0, 0, 0, 0, 0, 0, 0, 0, 0, 0, // bucket 2
     1, 0, 0, 0, 1, 0, 0, 0, 9, 0, 0, 0, 0, 0, 0, 0, // bucket 1
@@ -169,49 +169,9 @@ pub(crate) const ONE_SYMBOL: &[u8; 76] = &[
     0xe0, 0xff, 0xff, 0xff, 1, 0, 0, 0, 2, 0, 0, 0, // header
 ];
 
-/// Returns a copy of `ONE_LONG_NUMBER`.
-pub fn one_long_number() -> [u8; 76] {
-    *ONE_LONG_NUMBER
-}
-
-/// Returns a copy of `ONE_WIDE_LONG_NUMBER`.
-pub fn one_wide_long_number() -> [u8; 88] {
-    *ONE_WIDE_LONG_NUMBER
-}
-
-/// Returns a copy of `ONE_NUMBER_TWICE`.
-pub fn one_number_twice() -> [u8; 68] {
-    *ONE_NUMBER_TWICE
-}
-
-/// Returns a copy of `TWO_LONG_NUMBERS`.
-pub fn two_long_numbers() -> [u8; 92] {
-    *TWO_LONG_NUMBERS
-}
-
-/// Returns a copy of `ONE_GREAT_NUMBER`.
-pub fn one_great_number() -> [u8; 76] {
-    *ONE_GREAT_NUMBER
-}
-
-/// Returns a copy of `ONE_WIDE_GREAT_NUMBER`.
-pub fn one_wide_great_number() -> [u8; 88] {
-    *ONE_WIDE_GREAT_NUMBER
-}
-
-/// Returns a copy of `EMPTY_TEXT`.
-pub fn empty_text() -> [u8; 68] {
-    *EMPTY_TEXT
-}
-
-/// Returns a copy of `EMPTY_WIDE_TEXT`.
-pub fn empty_wide_text() -> [u8; 104] {
-    *EMPTY_WIDE_TEXT
-}
-
 /// Returns the map of the pairs of the empty text and 7, and of the empty text and 8.
 ///
-/// Buckets from 0 on, controls from 36 on, header at 68. The home of both pairs is bucket 0, so the
+/// Buckets from 0 on, controls from 36 on, header at 68. The start of both pairs is 0, so the
 /// second is in bucket 1.
 pub fn empty_text_twice() -> [u8; 80] {
     let front = [

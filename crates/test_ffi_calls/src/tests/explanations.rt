@@ -12,7 +12,6 @@ use ffi_calls::numbers::explain_numbers;
 use ffi_calls::reading::NumberKey;
 use ffi_calls::texts::explain_texts;
 use std::process::Abort;
-use test_support::archives::one_number;
 
 // Fails the test unless each of these is the explanation of the bytes as a map of numbers.
 fn expect_numbers<K: NumberKey>(rt: &impl Abort, rows: &[(&[u8], Form, Numbers)]) {
@@ -115,7 +114,8 @@ fn roots_out_of_range_have_a_position_and_a_size(rt: HostRuntime) {
 // The buckets have 16 bytes, and the control bytes 31.
 #[test]
 fn parts_out_of_range_have_a_position_and_a_size(rt: HostRuntime) {
-    let error = numbers_of(explain_numbers::<u32>(&one_number()[4..], SHORT));
+    let number: &[u8] = ONE_NUMBER;
+    let error = numbers_of(explain_numbers::<u32>(&number[4..], SHORT));
     expect_eq!(rt; error, (16, -4, 47, 0));
 }
 

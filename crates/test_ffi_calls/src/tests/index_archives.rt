@@ -77,7 +77,7 @@ pub const ONE_NUMBER_TWICE: &[u8; 88] = &[
 /// The index map of the pairs 1 and 2, 4,294,967,297 and 6, and 1 and 9.
 ///
 /// The keys have 64 bits. Buckets from 0 on, controls from 16 on, entries from 48 on, header at 96.
-/// The home of each pair is bucket 1. The bytes are the same in both widths of values.
+/// The start of each pair is 1. The bytes are the same in both widths of values.
 pub const LONG_NUMBER_TWICE: &[u8; 112] = &[
     2, 0, 0, 0, 1, 0, 0, 0, 0, 0, 0, 0, 0, 0, 0, 0, 0xff, 0x28, 0x3c, 0x28, 0xff, 0x28, 0x3c, 0x28,
     0xff, 0xff, 0xff, 0xff, 0xff, 0xff, 0xff, 0xff, 0xff, 0xff, 0xff, 0xff, 0xff, 0xff, 0xff, 0xff,

@@ -9,8 +9,10 @@ use crate::tests::support::{GREAT, expect_outcome, expect_permitted, outcome_of}
 use ffi_calls::building::Built;
 use ffi_calls::form::{Form, LONG, SHORT, WIDE, WIDE_LONG};
 use ffi_calls::index_items::{build_index_numbers, build_index_texts};
+use ffi_calls::laws;
 use ffi_calls::pairs::Pair;
 use ffi_calls::reading::NumberKey;
+use rkyv_base::Narrow;
 use std::alloc::Global;
 use std::process::Abort;
 
@@ -88,6 +90,7 @@ fn pairs_have_their_bytes_or_no_memory(rt: HostRuntime) {
 
 #[test]
 fn one_number_succeeds(rt: HostRuntime) {
+    laws::indexes_represent_their_lists::<u32, u32, u32, u32, Narrow>();
     expect_numbers(
         &rt,
         rt.alloc(),

@@ -18,7 +18,7 @@ pub const ONE_TO_TEA: &[u8; 68] = &[
 /// The index map of 1 to `wonderful`, of 5 to `x`, and of 1 to `tea`.
 ///
 /// Buckets from 0 on, controls from 16 on, entries from 56 on, header at 92. The text `wonderful`
-/// is at 47. The home of each pair is bucket 1.
+/// is at 47. The start of each pair is 1.
 pub const ONE_TO_TWO_TEXTS: &[u8; 108] = &[
     2, 0, 0, 0, 1, 0, 0, 0, 0, 0, 0, 0, 0, 0, 0, 0, 0xff, 0x28, 0x4b, 0x28, 0xff, 0x28, 0x4b, 0x28,
     0xff, 0xff, 0xff, 0xff, 0xff, 0xff, 0xff, 0xff, 0xff, 0xff, 0xff, 0xff, 0xff, 0xff, 0xff, 0xff,
@@ -59,7 +59,7 @@ pub const LONG_TO_TEA: &[u8; 72] = &[
 /// The index map of 1 to `wonderful`, of 4,294,967,297 to `x`, and of 1 to `tea`.
 ///
 /// The keys have 64 bits. Buckets from 0 on, controls from 16 on, entries from 56 on, header at
-/// 104. The text `wonderful` is at 47. The home of each pair is bucket 1.
+/// 104. The text `wonderful` is at 47. The start of each pair is 1.
 pub const LONG_TO_TWO_TEXTS: &[u8; 120] = &[
     2, 0, 0, 0, 1, 0, 0, 0, 0, 0, 0, 0, 0, 0, 0, 0, 0xff, 0x28, 0x3c, 0x28, 0xff, 0x28, 0x3c, 0x28,
     0xff, 0xff, 0xff, 0xff, 0xff, 0xff, 0xff, 0xff, 0xff, 0xff, 0xff, 0xff, 0xff, 0xff, 0xff, 0xff,

@@ -1,17 +1,18 @@
 //! Tests of archives of pairs of numbers.
 
 use crate::tests::archives::{
-    one_great_number, one_long_number, one_number_twice, one_wide_great_number,
-    one_wide_long_number, two_long_numbers,
+    NO_ITEMS, NO_WIDE_ITEMS, ONE_GREAT_NUMBER, ONE_LONG_NUMBER, ONE_NUMBER, ONE_NUMBER_TWICE,
+    ONE_WIDE_GREAT_NUMBER, ONE_WIDE_LONG_NUMBER, ONE_WIDE_NUMBER, TWO_LONG_NUMBERS,
 };
 use crate::tests::support::{GREAT, expect_outcome, expect_permitted, outcome_of};
 use ffi_calls::building::Built;
 use ffi_calls::form::{Form, LONG, SHORT, WIDE, WIDE_LONG};
+use ffi_calls::laws;
 use ffi_calls::number_items::build_numbers;
 use ffi_calls::pairs::Pair;
 use ffi_calls::reading::NumberKey;
+use rkyv_base::Narrow;
 use std::alloc::Global;
-use test_support::archives::{no_items, one_number, one_wide_number};
 
 // Returns the status of a write of the items, and whether `built` has `bytes` if it is 0.
 // After an error the flag is whether `built` is unchanged.
@@ -77,31 +78,21 @@ fn write_two_long(alloc: Global, form: Form, first: u64, second: u64, bytes: &[u
 
 #[test]
 fn one_pair_has_its_bytes_or_no_memory(rt: HostRuntime) {
-    expect_permitted(&rt, write_one(rt.alloc(), SHORT, &one_number()));
-    expect_permitted(&rt, write_one(rt.alloc(), LONG, &one_long_number()));
-    expect_permitted(&rt, write_one(rt.alloc(), WIDE, &one_wide_number()));
-    expect_permitted(
-        &rt,
-        write_one(rt.alloc(), WIDE_LONG, &one_wide_long_number()),
-    );
+    expect_permitted(&rt, write_one(rt.alloc(), SHORT, ONE_NUMBER));
+    expect_permitted(&rt, write_one(rt.alloc(), LONG, ONE_LONG_NUMBER));
+    expect_permitted(&rt, write_one(rt.alloc(), WIDE, ONE_WIDE_NUMBER));
+    expect_permitted(&rt, write_one(rt.alloc(), WIDE_LONG, ONE_WIDE_LONG_NUMBER));
 }
 
 #[test]
 fn one_pair_succeeds(rt: HostRuntime) {
-    expect_outcome(&rt, write_one(rt.alloc(), SHORT, &one_number()), (0, true));
+    laws::archives_represent_their_lists::<u32, u32, Narrow>();
+    expect_outcome(&rt, write_one(rt.alloc(), SHORT, ONE_NUMBER), (0, true));
+    expect_outcome(&rt, write_one(rt.alloc(), LONG, ONE_LONG_NUMBER), (0, true));
+    expect_outcome(&rt, write_one(rt.alloc(), WIDE, ONE_WIDE_NUMBER), (0, true));
     expect_outcome(
         &rt,
-        write_one(rt.alloc(), LONG, &one_long_number()),
-        (0, true),
-    );
-    expect_outcome(
-        &rt,
-        write_one(rt.alloc(), WIDE, &one_wide_number()),
-        (0, true),
-    );
-    expect_outcome(
-        &rt,
-        write_one(rt.alloc(), WIDE_LONG, &one_wide_long_number()),
+        write_one(rt.alloc(), WIDE_LONG, ONE_WIDE_LONG_NUMBER),
         (0, true),
     );
 }
@@ -109,10 +100,10 @@ fn one_pair_succeeds(rt: HostRuntime) {
 #[test]
 fn one_long_pair_has_its_bytes_or_no_memory(rt: HostRuntime) {
     let alloc = rt.alloc();
-    expect_permitted(&rt, write_long(alloc, SHORT, 1, 2, &one_long_number()));
+    expect_permitted(&rt, write_long(alloc, SHORT, 1, 2, ONE_LONG_NUMBER));
     expect_permitted(
         &rt,
-        write_long(alloc, WIDE_LONG, GREAT, 2, &one_wide_great_number()),
+        write_long(alloc, WIDE_LONG, GREAT, 2, ONE_WIDE_GREAT_NUMBER),
     );
 }
 
@@ -120,30 +111,26 @@ fn one_long_pair_has_its_bytes_or_no_memory(rt: HostRuntime) {
 fn one_long_pair_succeeds(rt: HostRuntime) {
     let alloc = rt.alloc();
     let done = (0, true);
+    expect_outcome(&rt, write_long(alloc, SHORT, 1, 2, ONE_LONG_NUMBER), done);
+    expect_outcome(&rt, write_long(alloc, LONG, 1, 2, ONE_LONG_NUMBER), done);
     expect_outcome(
         &rt,
-        write_long(alloc, SHORT, 1, 2, &one_long_number()),
-        done,
-    );
-    expect_outcome(&rt, write_long(alloc, LONG, 1, 2, &one_long_number()), done);
-    expect_outcome(
-        &rt,
-        write_long(alloc, WIDE, 1, 2, &one_wide_long_number()),
+        write_long(alloc, WIDE, 1, 2, ONE_WIDE_LONG_NUMBER),
         done,
     );
     expect_outcome(
         &rt,
-        write_long(alloc, WIDE_LONG, 1, 2, &one_wide_long_number()),
+        write_long(alloc, WIDE_LONG, 1, 2, ONE_WIDE_LONG_NUMBER),
         done,
     );
     expect_outcome(
         &rt,
-        write_long(alloc, SHORT, GREAT, 2, &one_great_number()),
+        write_long(alloc, SHORT, GREAT, 2, ONE_GREAT_NUMBER),
         done,
     );
     expect_outcome(
         &rt,
-        write_long(alloc, WIDE, GREAT, 2, &one_wide_great_number()),
+        write_long(alloc, WIDE, GREAT, 2, ONE_WIDE_GREAT_NUMBER),
         done,
     );
 }
@@ -153,12 +140,12 @@ fn a_write_of_two_pairs_succeeds(rt: HostRuntime) {
     let alloc = rt.alloc();
     expect_outcome(
         &rt,
-        write_two(alloc, SHORT, 2, 9, &one_number_twice()),
+        write_two(alloc, SHORT, 2, 9, ONE_NUMBER_TWICE),
         (0, true),
     );
     expect_outcome(
         &rt,
-        write_two_long(alloc, LONG, 2, 9, &two_long_numbers()),
+        write_two_long(alloc, LONG, 2, 9, TWO_LONG_NUMBERS),
         (0, true),
     );
 }
@@ -167,30 +154,32 @@ fn a_write_of_two_pairs_succeeds(rt: HostRuntime) {
 fn no_pair_succeeds(rt: HostRuntime) {
     expect_outcome(
         &rt,
-        write::<u32>(rt.alloc(), &[], SHORT, &no_items()),
+        write::<u32>(rt.alloc(), &[], SHORT, NO_ITEMS),
         (0, true),
     );
     expect_outcome(
         &rt,
-        write::<u32>(rt.alloc(), &[], LONG, &no_items()),
-        (0, true),
-    );
-    let mut wide = [0; 24];
-    wide[0] = 1;
-    expect_outcome(&rt, write::<u32>(rt.alloc(), &[], WIDE, &wide), (0, true));
-    expect_outcome(
-        &rt,
-        write::<u32>(rt.alloc(), &[], WIDE_LONG, &wide),
+        write::<u32>(rt.alloc(), &[], LONG, NO_ITEMS),
         (0, true),
     );
     expect_outcome(
         &rt,
-        write::<u64>(rt.alloc(), &[], SHORT, &no_items()),
+        write::<u32>(rt.alloc(), &[], WIDE, NO_WIDE_ITEMS),
         (0, true),
     );
     expect_outcome(
         &rt,
-        write::<u64>(rt.alloc(), &[], WIDE_LONG, &wide),
+        write::<u32>(rt.alloc(), &[], WIDE_LONG, NO_WIDE_ITEMS),
+        (0, true),
+    );
+    expect_outcome(
+        &rt,
+        write::<u64>(rt.alloc(), &[], SHORT, NO_ITEMS),
+        (0, true),
+    );
+    expect_outcome(
+        &rt,
+        write::<u64>(rt.alloc(), &[], WIDE_LONG, NO_WIDE_ITEMS),
         (0, true),
     );
 }

@@ -3,12 +3,13 @@
 ghost use Rattle.std.specs.Prelude.{IsTrue};
 ghost use Rattle.ffi_calls.specs.{IsNumberSet};
 
-use crate::tests::archives::{HEADER, HEADER_OF_TWO, WIDE_HEADER};
+use crate::tests::archives::{HEADER, HEADER_OF_TWO, NO_ITEMS, WIDE_HEADER};
 use crate::tests::expect_equal;
 use crate::tests::support::{
     GREAT, Numbers, expect_outcome, expect_permitted, numbers_of, outcome_of, with_byte,
 };
 use ffi_calls::building::Built;
+use ffi_calls::laws;
 use ffi_calls::number_sets::{
     build_number_set, contains_number, decode_number_set, explain_number_set, next_number_members,
     open_number_set,
@@ -16,9 +17,10 @@ use ffi_calls::number_sets::{
 use ffi_calls::pairs::{Pair, Step};
 use ffi_calls::reading::NumberKey;
 use ffi_calls::status::DONE;
+use rkyv_base::Narrow;
 use std::alloc::Global;
 use std::process::Abort;
-use test_support::archives::{archive, no_items};
+use test_support::archives::archive;
 
 // The buckets of the set of 1, with 64 bits, and the first control bytes.
 const LONG_BUCKETS: &[u8; 20] = &[
@@ -221,7 +223,7 @@ fn lookups_find_the_items_alone(rt: HostRuntime) {
     expect_found(&rt, &one(), false, 2, (1, 1));
     expect_found(&rt, &wide_one(), true, 1, (1, 0));
     expect_found(&rt, &wide_one(), true, 0, (1, 1));
-    expect_found(&rt, &no_items(), false, 1, (0, 1));
+    expect_found(&rt, NO_ITEMS, false, 1, (0, 1));
 }
 
 #[test]
@@ -232,7 +234,7 @@ fn lookups_of_long_numbers_compare_all_64_bits(rt: HostRuntime) {
     expect_long_found(&rt, &great(), false, 1, (1, 1));
     expect_long_found(&rt, &wide_long_one(), true, 1, (1, 0));
     expect_long_found(&rt, &wide_long_one(), true, u64::MAX, (1, 1));
-    expect_long_found(&rt, &no_items(), false, 1, (0, 1));
+    expect_long_found(&rt, NO_ITEMS, false, 1, (0, 1));
 }
 
 #[test]
@@ -301,12 +303,13 @@ fn sets_have_their_bytes_or_no_memory(rt: HostRuntime) {
 
 #[test]
 fn a_write_of_numbers_succeeds(rt: HostRuntime) {
+    laws::set_archives_represent_their_lists::<u32, Narrow>();
     let alloc = rt.alloc();
     let done = (0, true);
     expect_outcome(&rt, write(alloc, &[1u32], false, &one()), done);
     expect_outcome(&rt, write(alloc, &[1u32], true, &wide_one()), done);
     expect_outcome(&rt, write(alloc, &[1u32, 1], false, &one_twice()), done);
-    expect_outcome(&rt, write::<u32>(alloc, &[], false, &no_items()), done);
+    expect_outcome(&rt, write::<u32>(alloc, &[], false, NO_ITEMS), done);
 }
 
 #[test]
@@ -316,5 +319,5 @@ fn a_write_of_long_numbers_succeeds(rt: HostRuntime) {
     expect_outcome(&rt, write(alloc, &[1u64], false, &long_one()), done);
     expect_outcome(&rt, write(alloc, &[GREAT], false, &great()), done);
     expect_outcome(&rt, write(alloc, &[1u64], true, &wide_long_one()), done);
-    expect_outcome(&rt, write::<u64>(alloc, &[], false, &no_items()), done);
+    expect_outcome(&rt, write::<u64>(alloc, &[], false, NO_ITEMS), done);
 }

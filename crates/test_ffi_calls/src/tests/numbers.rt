@@ -9,10 +9,12 @@ use crate::tests::archives::{
 use crate::tests::expect_equal;
 use crate::tests::support::with_bytes;
 use ffi_calls::form::{Form, LONG, SHORT, WIDE, WIDE_LONG};
+use ffi_calls::laws;
 use ffi_calls::numbers::{decode_numbers, get_number, next_numbers, open_numbers, set_number};
 use ffi_calls::pairs::{Pair, Step};
 use ffi_calls::reading::NumberKey;
 use ffi_calls::status::DONE;
+use rkyv_base::Narrow;
 use std::process::Abort;
 
 /// Returns whether the archive is valid in the form.
@@ -60,7 +62,7 @@ pub(crate) fn numbers_of<K>(step: Step<Pair<K, u64>>) -> (u64, K, u64) {
     (step.next, step.pair.key, step.pair.value)
 }
 
-/// Returns the status of an overwrite, and whether the archive is valid before and after it.
+/// Returns the status of an overwrite, if the archive is valid before and after it.
 pub(crate) fn overwrite<K: NumberKey>(
     archive: &mut [u8],
     form: Form,
@@ -196,6 +198,7 @@ fn lookups_find_no_other_number(rt: HostRuntime) {
 
 #[test]
 fn walks_visit_bucket_1(rt: HostRuntime) {
+    laws::walks_visit_listed::<u32, u32, u32, u32, Narrow>();
     expect_steps(
         &rt,
         &[

@@ -3,6 +3,7 @@
 ghost use Rattle.std.specs.Prelude.{IsTrue};
 ghost use Rattle.ffi_calls.specs.{IsNumberTextArchive};
 
+use crate::tests::archives::NO_ITEMS;
 use crate::tests::expect_equal;
 use crate::tests::support::{GREAT, Numbers, numbers_of, with_byte};
 use crate::tests::text_archives::{
@@ -17,7 +18,6 @@ use ffi_calls::pairs::{Pair, Step};
 use ffi_calls::reading::NumberKey;
 use ffi_calls::status::DONE;
 use std::process::Abort;
-use test_support::archives::no_items;
 
 // Returns whether the archive is valid.
 fn is_map<K: NumberKey>(archive: &[u8], wide: bool) -> bool
@@ -180,7 +180,7 @@ fn lookups_find_the_text_of_the_first_pair(rt: HostRuntime) {
 fn lookups_find_no_other_number(rt: HostRuntime) {
     expect_lookup(&rt, &one_to_tea(), false, 2, b"?", (1, 1));
     expect_lookup(&rt, &one_to_wide_text(), true, 0, b"?", (1, 1));
-    expect_lookup(&rt, &no_items(), false, 1, b"?", (0, 1));
+    expect_lookup(&rt, NO_ITEMS, false, 1, b"?", (0, 1));
 }
 
 #[test]
@@ -199,7 +199,7 @@ fn lookups_of_long_numbers_compare_all_64_bits(rt: HostRuntime) {
         (1, 0),
     );
     expect_long_lookup(&rt, &great_to_wide_text(), true, 1, b"?", (1, 1));
-    expect_long_lookup(&rt, &no_items(), false, 1, b"?", (0, 1));
+    expect_long_lookup(&rt, NO_ITEMS, false, 1, b"?", (0, 1));
 }
 
 #[test]
@@ -311,7 +311,7 @@ fn wide_archives_are_explained(rt: HostRuntime) {
 
 #[test]
 fn archives_of_another_width_are_rejected(rt: HostRuntime) {
-    assert!(rt; is_map::<u32>(&no_items(), false) && !is_map::<u32>(&no_items(), true));
+    assert!(rt; is_map::<u32>(NO_ITEMS, false) && !is_map::<u32>(NO_ITEMS, true));
     assert!(rt; !is_map::<u32>(&one_to_tea(), true));
     assert!(rt; !is_map::<u32>(&one_to_wide_text(), false));
     assert!(rt; !is_map::<u32>(&[], false) && !is_map::<u32>(&[0; 23], true));
@@ -319,7 +319,7 @@ fn archives_of_another_width_are_rejected(rt: HostRuntime) {
 
 #[test]
 fn archives_of_another_key_are_rejected(rt: HostRuntime) {
-    assert!(rt; is_map::<u64>(&no_items(), false) && !is_map::<u64>(&no_items(), true));
+    assert!(rt; is_map::<u64>(NO_ITEMS, false) && !is_map::<u64>(NO_ITEMS, true));
     assert!(rt; !is_map::<u64>(&one_to_tea(), false) && is_map::<u64>(&long_to_tea(), false));
     assert!(rt; !is_map::<u64>(&[], false) && !is_map::<u64>(&[0; 23], true));
 }

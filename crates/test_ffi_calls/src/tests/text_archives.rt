@@ -19,8 +19,8 @@ pub fn one_to_tea() -> [u8; 68] {
 
 /// Returns the map of the pairs 1 and `wonderful`, and 1 and `x`.
 ///
-/// The text `wonderful` from 0 on, buckets from 12 on, controls from 48 on, header at 80. The home
-/// of both pairs is bucket 0, so the second is in bucket 1.
+/// The text `wonderful` from 0 on, buckets from 12 on, controls from 48 on, header at 80. The start
+/// of both pairs is 0, so the second is in bucket 1.
 pub fn one_to_two_texts() -> [u8; 92] {
     let front = [
         b'w', b'o', b'n', b'd', b'e', b'r', b'f', b'u', b'l', 0, 0, 0, // out of line
@@ -46,8 +46,8 @@ pub fn long_to_tea() -> [u8; 76] {
 
 /// Returns the map of 1 to `wonderful` and of 4,294,967,297 to `x`, with keys of 64 bits.
 ///
-/// The text `wonderful` from 0 on, buckets from 16 on, controls from 64 on, header at 96. The home
-/// of both pairs is bucket 0, so the second is in bucket 1. The tag of the second is 3c.
+/// The text `wonderful` from 0 on, buckets from 16 on, controls from 64 on, header at 96. The
+/// starts of the pairs are 0 and 1. The tag of the second is 3c.
 pub fn long_to_two_texts() -> [u8; 108] {
     let front = [
         b'w', b'o', b'n', b'd', b'e', b'r', b'f', b'u', b'l', 0, 0, 0, 0, 0, 0, 0, // out of line
@@ -101,8 +101,8 @@ pub fn empty_to_text() -> [u8; 88] {
 
 /// Returns the map of the pairs of the empty text and `wonderful`, and of the empty text and `x`.
 ///
-/// The text `wonderful` from 0 on, buckets from 12 on, controls from 60 on, header at 92. The home
-/// of both pairs is bucket 0, so the second is in bucket 1.
+/// The text `wonderful` from 0 on, buckets from 12 on, controls from 60 on, header at 92. The start
+/// of both pairs is 0, so the second is in bucket 1.
 pub fn empty_to_two_texts() -> [u8; 104] {
     let front = [
         b'w', b'o', b'n', b'd', b'e', b'r', b'f', b'u', b'l', 0, 0, 0, // out of line

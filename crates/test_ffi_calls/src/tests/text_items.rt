@@ -1,13 +1,12 @@
 //! Tests of archives of pairs of texts and numbers.
 
-use crate::tests::archives::{empty_text, empty_wide_text};
+use crate::tests::archives::{EMPTY_TEXT, EMPTY_WIDE_TEXT, NO_ITEMS, NO_WIDE_ITEMS, ONE_SYMBOL};
 use crate::tests::support::{expect_outcome, expect_permitted, outcome_of};
 use ffi_calls::building::Built;
 use ffi_calls::form::{Form, LONG, SHORT, WIDE, WIDE_LONG};
 use ffi_calls::pairs::Pair;
 use ffi_calls::text_items::build_texts;
 use std::alloc::Global;
-use test_support::archives::{no_items, one_symbol};
 
 // Returns the status of a write of the items, and whether `built` has `bytes` if it is 0.
 // After an error the flag is whether `built` is unchanged.
@@ -41,45 +40,43 @@ fn write_two(alloc: Global, form: Form, keys: [&[u8]; 2], values: [u64; 2]) -> (
 #[test]
 fn one_pair_has_its_bytes_or_no_memory(rt: HostRuntime) {
     let alloc = rt.alloc();
-    expect_permitted(&rt, write_one(alloc, SHORT, b"", 7, &empty_text()));
-    expect_permitted(&rt, write_one(alloc, LONG, b"main", 4096, &one_symbol()));
-    expect_permitted(&rt, write_one(alloc, WIDE, b"", 7, &empty_wide_text()));
-    expect_permitted(&rt, write_one(alloc, WIDE_LONG, b"", 7, &empty_wide_text()));
+    expect_permitted(&rt, write_one(alloc, SHORT, b"", 7, EMPTY_TEXT));
+    expect_permitted(&rt, write_one(alloc, LONG, b"main", 4096, ONE_SYMBOL));
+    expect_permitted(&rt, write_one(alloc, WIDE, b"", 7, EMPTY_WIDE_TEXT));
+    expect_permitted(&rt, write_one(alloc, WIDE_LONG, b"", 7, EMPTY_WIDE_TEXT));
 }
 
 #[test]
 fn one_pair_succeeds(rt: HostRuntime) {
     let alloc = rt.alloc();
+    expect_outcome(&rt, write_one(alloc, SHORT, b"", 7, EMPTY_TEXT), (0, true));
     expect_outcome(
         &rt,
-        write_one(alloc, SHORT, b"", 7, &empty_text()),
+        write_one(alloc, LONG, b"main", 4096, ONE_SYMBOL),
         (0, true),
     );
     expect_outcome(
         &rt,
-        write_one(alloc, LONG, b"main", 4096, &one_symbol()),
+        write_one(alloc, WIDE, b"", 7, EMPTY_WIDE_TEXT),
         (0, true),
     );
     expect_outcome(
         &rt,
-        write_one(alloc, WIDE, b"", 7, &empty_wide_text()),
-        (0, true),
-    );
-    expect_outcome(
-        &rt,
-        write_one(alloc, WIDE_LONG, b"", 7, &empty_wide_text()),
+        write_one(alloc, WIDE_LONG, b"", 7, EMPTY_WIDE_TEXT),
         (0, true),
     );
 }
 
 #[test]
 fn no_pair_succeeds(rt: HostRuntime) {
-    expect_outcome(&rt, write(rt.alloc(), &[], SHORT, &no_items()), (0, true));
-    expect_outcome(&rt, write(rt.alloc(), &[], LONG, &no_items()), (0, true));
-    let mut wide = [0; 24];
-    wide[0] = 1;
-    expect_outcome(&rt, write(rt.alloc(), &[], WIDE, &wide), (0, true));
-    expect_outcome(&rt, write(rt.alloc(), &[], WIDE_LONG, &wide), (0, true));
+    expect_outcome(&rt, write(rt.alloc(), &[], SHORT, NO_ITEMS), (0, true));
+    expect_outcome(&rt, write(rt.alloc(), &[], LONG, NO_ITEMS), (0, true));
+    expect_outcome(&rt, write(rt.alloc(), &[], WIDE, NO_WIDE_ITEMS), (0, true));
+    expect_outcome(
+        &rt,
+        write(rt.alloc(), &[], WIDE_LONG, NO_WIDE_ITEMS),
+        (0, true),
+    );
 }
 
 #[test]

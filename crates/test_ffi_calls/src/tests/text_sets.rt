@@ -3,7 +3,7 @@
 ghost use Rattle.std.specs.Prelude.{IsTrue};
 ghost use Rattle.ffi_calls.specs.{IsTextSet};
 
-use crate::tests::archives::{HEADER, HEADER_OF_TWO, WIDE_HEADER};
+use crate::tests::archives::{HEADER, HEADER_OF_TWO, NO_ITEMS, WIDE_HEADER};
 use crate::tests::expect_equal;
 use crate::tests::support::{
     Numbers, expect_outcome, expect_permitted, numbers_of, outcome_of, with_byte,
@@ -17,7 +17,7 @@ use ffi_calls::text_sets::{
 };
 use std::alloc::Global;
 use std::process::Abort;
-use test_support::archives::{archive, no_items};
+use test_support::archives::archive;
 
 /// Returns the set of the empty text. Buckets from 0 on, controls from 16 on, header at 48.
 fn empty_text() -> [u8; 60] {
@@ -164,7 +164,7 @@ fn lookups_find_the_items_alone(rt: HostRuntime) {
     expect_found(&rt, &empty_text(), false, b"a", (1, 1));
     expect_found(&rt, &wide_empty_text(), true, b"", (1, 0));
     expect_found(&rt, &wide_empty_text(), true, &[0xc3], (1, 4));
-    expect_found(&rt, &no_items(), false, b"", (0, 1));
+    expect_found(&rt, NO_ITEMS, false, b"", (0, 1));
 }
 
 #[test]
@@ -213,7 +213,7 @@ fn a_write_of_texts_succeeds(rt: HostRuntime) {
     expect_outcome(&rt, write_text(alloc, b"", false, &empty_text()), done);
     expect_outcome(&rt, write_text(alloc, b"", true, &wide_empty_text()), done);
     expect_outcome(&rt, write_two(alloc, [b"", b""], &empty_text_twice()), done);
-    expect_outcome(&rt, write(alloc, &[], false, &no_items()), done);
+    expect_outcome(&rt, write(alloc, &[], false, NO_ITEMS), done);
     expect_outcome(&rt, write_text(alloc, &[0x80], false, &[]), (4, true));
     expect_outcome(&rt, write_two(alloc, [b"x", &[0x80]], &[]), (4, true));
 }

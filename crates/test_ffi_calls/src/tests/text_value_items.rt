@@ -1,5 +1,6 @@
 //! Tests of archives of pairs with texts as values.
 
+use crate::tests::archives::{NO_ITEMS, NO_WIDE_ITEMS};
 use crate::tests::support::{GREAT, expect_outcome, expect_permitted, outcome_of};
 use crate::tests::text_archives::{
     empty_to_text, empty_to_two_texts, empty_to_wide_text, great_to_wide_text, long_to_tea,
@@ -11,7 +12,6 @@ use ffi_calls::pairs::Pair;
 use ffi_calls::reading::NumberKey;
 use ffi_calls::texts_to_texts_items::build_texts_to_texts;
 use std::alloc::Global;
-use test_support::archives::no_items;
 
 // Returns the status of a write of the items, and whether `built` has `bytes` if it is 0.
 // After an error the flag is whether `built` is unchanged.
@@ -190,30 +190,28 @@ fn a_write_of_texts_succeeds(rt: HostRuntime) {
 #[test]
 fn no_pair_succeeds(rt: HostRuntime) {
     let alloc = rt.alloc();
-    let mut wide = [0; 24];
-    wide[0] = 1;
     expect_outcome(
         &rt,
-        write_numbers::<u32>(alloc, &[], false, &no_items()),
+        write_numbers::<u32>(alloc, &[], false, NO_ITEMS),
         (0, true),
     );
     expect_outcome(
         &rt,
-        write_numbers::<u32>(alloc, &[], true, &wide),
+        write_numbers::<u32>(alloc, &[], true, NO_WIDE_ITEMS),
         (0, true),
     );
     expect_outcome(
         &rt,
-        write_numbers::<u64>(alloc, &[], false, &no_items()),
+        write_numbers::<u64>(alloc, &[], false, NO_ITEMS),
         (0, true),
     );
     expect_outcome(
         &rt,
-        write_numbers::<u64>(alloc, &[], true, &wide),
+        write_numbers::<u64>(alloc, &[], true, NO_WIDE_ITEMS),
         (0, true),
     );
-    expect_outcome(&rt, write_texts(alloc, &[], false, &no_items()), (0, true));
-    expect_outcome(&rt, write_texts(alloc, &[], true, &wide), (0, true));
+    expect_outcome(&rt, write_texts(alloc, &[], false, NO_ITEMS), (0, true));
+    expect_outcome(&rt, write_texts(alloc, &[], true, NO_WIDE_ITEMS), (0, true));
 }
 
 #[test]

@@ -3,7 +3,7 @@
 ghost use Rattle.std.specs.Prelude.{IsTrue};
 ghost use Rattle.ffi_calls.specs.{IsTextArchive};
 
-use crate::tests::archives::{empty_text, empty_text_twice, empty_wide_text};
+use crate::tests::archives::{EMPTY_TEXT, EMPTY_WIDE_TEXT, ONE_SYMBOL, empty_text_twice};
 use crate::tests::expect_equal;
 use crate::tests::support::with_bytes;
 use ffi_calls::form::{Form, LONG, SHORT, WIDE, WIDE_LONG};
@@ -11,7 +11,6 @@ use ffi_calls::pairs::{Pair, Step};
 use ffi_calls::status::DONE;
 use ffi_calls::texts::{decode_texts, get_text, is_text, next_texts, open_texts, set_text};
 use std::process::Abort;
-use test_support::archives::one_symbol;
 
 // Returns whether the archive is valid in the form.
 fn is_map(archive: &[u8], form: Form) -> bool
@@ -153,37 +152,37 @@ fn texts_are_utf8(rt: HostRuntime) {
 
 #[test]
 fn lookups_find_the_text(rt: HostRuntime) {
-    expect_lookup(&rt, &empty_text(), SHORT, b"", (1, 0, 7));
-    expect_lookup(&rt, &one_symbol(), LONG, b"main", (1, 0, 4096));
-    expect_lookup(&rt, &empty_wide_text(), WIDE, b"", (1, 0, 7));
-    expect_lookup(&rt, &empty_wide_text(), WIDE_LONG, b"", (1, 0, 7));
+    expect_lookup(&rt, EMPTY_TEXT, SHORT, b"", (1, 0, 7));
+    expect_lookup(&rt, ONE_SYMBOL, LONG, b"main", (1, 0, 4096));
+    expect_lookup(&rt, EMPTY_WIDE_TEXT, WIDE, b"", (1, 0, 7));
+    expect_lookup(&rt, EMPTY_WIDE_TEXT, WIDE_LONG, b"", (1, 0, 7));
 }
 
 #[test]
 fn lookups_find_no_other_text(rt: HostRuntime) {
-    expect_lookup(&rt, &empty_text(), SHORT, b"a", (1, 1, 9));
-    expect_lookup(&rt, &one_symbol(), LONG, b"mai", (1, 1, 9));
-    expect_lookup(&rt, &empty_wide_text(), WIDE, &[0x61, 0xff], (1, 4, 9));
-    expect_lookup(&rt, &empty_wide_text(), WIDE_LONG, &[0xc3], (1, 4, 9));
+    expect_lookup(&rt, EMPTY_TEXT, SHORT, b"a", (1, 1, 9));
+    expect_lookup(&rt, ONE_SYMBOL, LONG, b"mai", (1, 1, 9));
+    expect_lookup(&rt, EMPTY_WIDE_TEXT, WIDE, &[0x61, 0xff], (1, 4, 9));
+    expect_lookup(&rt, EMPTY_WIDE_TEXT, WIDE_LONG, &[0xc3], (1, 4, 9));
 }
 
 #[test]
 fn walks_visit_the_pair(rt: HostRuntime) {
-    expect_eq!(rt; step(&empty_text(), SHORT, 0, 2, b"", 7), Some(1));
-    expect_eq!(rt; step(&one_symbol(), LONG, 0, 1, b"main", 4096), Some(1));
-    expect_eq!(rt; step(&empty_wide_text(), WIDE, 1, 2, b"", 7), Some(1));
-    expect_eq!(rt; step(&empty_wide_text(), WIDE_LONG, 0, 2, b"", 7), Some(1));
+    expect_eq!(rt; step(EMPTY_TEXT, SHORT, 0, 2, b"", 7), Some(1));
+    expect_eq!(rt; step(ONE_SYMBOL, LONG, 0, 1, b"main", 4096), Some(1));
+    expect_eq!(rt; step(EMPTY_WIDE_TEXT, WIDE, 1, 2, b"", 7), Some(1));
+    expect_eq!(rt; step(EMPTY_WIDE_TEXT, WIDE_LONG, 0, 2, b"", 7), Some(1));
 }
 
 #[test]
 fn walks_end_behind_the_last_pair(rt: HostRuntime) {
-    expect_eq!(rt; step(&empty_text(), SHORT, 2, 9, b"?", 9), Some(0));
-    expect_eq!(rt; step(&one_symbol(), LONG, 1, 9, b"?", 9), Some(0));
+    expect_eq!(rt; step(EMPTY_TEXT, SHORT, 2, 9, b"?", 9), Some(0));
+    expect_eq!(rt; step(ONE_SYMBOL, LONG, 1, 9, b"?", 9), Some(0));
     expect_eq!(rt;
-        step(&empty_wide_text(), WIDE, u64::MAX, 9, b"?", 9),
+        step(EMPTY_WIDE_TEXT, WIDE, u64::MAX, 9, b"?", 9),
         Some(0)
     );
-    expect_eq!(rt; step(&empty_wide_text(), WIDE_LONG, 2, 9, b"?", 9), Some(0));
+    expect_eq!(rt; step(EMPTY_WIDE_TEXT, WIDE_LONG, 2, 9, b"?", 9), Some(0));
 }
 
 #[test]
@@ -198,14 +197,14 @@ fn walks_of_two_pairs_go_on(rt: HostRuntime) {
 fn several_pairs_are_stored_at_once(rt: HostRuntime) {
     let nine: (u64, &[u8], u64) = (9, b"?", 9);
     let seven: (u64, &[u8], u64) = (2, b"", 7);
-    expect_eq!(rt; several(&empty_text(), SHORT, 0, seven, nine), Some(1));
+    expect_eq!(rt; several(EMPTY_TEXT, SHORT, 0, seven, nine), Some(1));
     expect_eq!(rt;
-        several(&one_symbol(), LONG, 0, (1, b"main", 4096), nine),
+        several(ONE_SYMBOL, LONG, 0, (1, b"main", 4096), nine),
         Some(1)
     );
-    expect_eq!(rt; several(&empty_wide_text(), WIDE, 1, seven, nine), Some(1));
+    expect_eq!(rt; several(EMPTY_WIDE_TEXT, WIDE, 1, seven, nine), Some(1));
     expect_eq!(rt;
-        several(&empty_wide_text(), WIDE_LONG, 2, nine, nine),
+        several(EMPTY_WIDE_TEXT, WIDE_LONG, 2, nine, nine),
         Some(0)
     );
     expect_eq!(rt;
@@ -217,23 +216,23 @@ fn several_pairs_are_stored_at_once(rt: HostRuntime) {
 #[test]
 fn headers_serve_after_overwrites(rt: HostRuntime) {
     expect_eq!(rt;
-        overwrite_and_get(&mut empty_text(), SHORT, b"", 3),
+        overwrite_and_get(&mut { *EMPTY_TEXT }, SHORT, b"", 3),
         Some((0, 0, 3))
     );
     expect_eq!(rt;
-        overwrite_and_get(&mut one_symbol(), LONG, b"mai", 3),
+        overwrite_and_get(&mut { *ONE_SYMBOL }, LONG, b"mai", 3),
         Some((1, 1, 9))
     );
     expect_eq!(rt;
-        overwrite_and_get(&mut empty_wide_text(), WIDE, &[0xc3], 3),
+        overwrite_and_get(&mut { *EMPTY_WIDE_TEXT }, WIDE, &[0xc3], 3),
         Some((4, 4, 9))
     );
 }
 
 #[test]
 fn overwrites_reject_keys_and_values(rt: HostRuntime) {
-    let mut narrow = empty_text();
-    let mut wide = empty_wide_text();
+    let mut narrow = *EMPTY_TEXT;
+    let mut wide = *EMPTY_WIDE_TEXT;
     expect_overwrite(&rt, &mut narrow, SHORT, &[0x80], 0x1_0000_0000, 4);
     expect_overwrite(&rt, &mut narrow, SHORT, b"", 0x1_0000_0000, 3);
     expect_overwrite(&rt, &mut narrow, SHORT, b"a", 0x1_0000_0000, 3);
@@ -241,16 +240,16 @@ fn overwrites_reject_keys_and_values(rt: HostRuntime) {
     expect_overwrite(&rt, &mut wide, WIDE, b"a", u64::MAX, 3);
     expect_overwrite(&rt, &mut wide, WIDE_LONG, b"a", u64::MAX, 1);
     expect_overwrite(&rt, &mut wide, WIDE_LONG, &[0x80], 8, 4);
-    assert!(rt; narrow == empty_text() && wide == empty_wide_text());
+    assert!(rt; narrow == *EMPTY_TEXT && wide == *EMPTY_WIDE_TEXT);
 }
 
 #[test]
 fn overwrites_change_the_value_alone(rt: HostRuntime) {
-    let wide = empty_wide_text();
-    expect_changed(&rt, empty_text(), SHORT, b"", 0x0405, (8, &[5, 4, 0, 0]));
+    let wide = *EMPTY_WIDE_TEXT;
+    expect_changed(&rt, *EMPTY_TEXT, SHORT, b"", 0x0405, (8, &[5, 4, 0, 0]));
     expect_changed(
         &rt,
-        one_symbol(),
+        *ONE_SYMBOL,
         LONG,
         b"main",
         0x1_0000_0002,

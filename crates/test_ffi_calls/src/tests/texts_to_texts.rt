@@ -3,6 +3,7 @@
 ghost use Rattle.std.specs.Prelude.{IsTrue};
 ghost use Rattle.ffi_calls.specs.{IsTextTextArchive};
 
+use crate::tests::archives::NO_ITEMS;
 use crate::tests::expect_equal;
 use crate::tests::support::{Numbers, numbers_of, with_byte};
 use crate::tests::text_archives::{empty_to_text, empty_to_two_texts, empty_to_wide_text};
@@ -13,7 +14,6 @@ use ffi_calls::texts_to_texts::{
     open_texts_to_texts,
 };
 use std::process::Abort;
-use test_support::archives::no_items;
 
 // Returns whether the archive is valid.
 fn is_map(archive: &[u8], wide: bool) -> bool
@@ -116,7 +116,7 @@ fn lookups_find_no_other_text(rt: HostRuntime) {
     expect_lookup(&rt, &empty_to_text(), false, &[0xc3], b"?", (1, 4));
     expect_lookup(&rt, &empty_to_wide_text(), true, b"wonderful", b"?", (1, 1));
     expect_lookup(&rt, &empty_to_wide_text(), true, &[0x80], b"?", (1, 4));
-    expect_lookup(&rt, &no_items(), false, b"", b"?", (0, 1));
+    expect_lookup(&rt, NO_ITEMS, false, b"", b"?", (0, 1));
 }
 
 #[test]
@@ -190,6 +190,6 @@ fn wide_archives_are_explained(rt: HostRuntime) {
 
 #[test]
 fn archives_of_another_width_are_rejected(rt: HostRuntime) {
-    assert!(rt; is_map(&no_items(), false) && !is_map(&no_items(), true));
+    assert!(rt; is_map(NO_ITEMS, false) && !is_map(NO_ITEMS, true));
     assert!(rt; !is_map(&empty_to_text(), true) && !is_map(&empty_to_wide_text(), false));
 }

@@ -2,7 +2,6 @@
 
 use crate::tests::archives::{
     EMPTY_TEXT, EMPTY_WIDE_TEXT, NO_ITEMS, NO_WIDE_ITEMS, ONE_NUMBER, ONE_SYMBOL, ONE_WIDE_NUMBER,
-    empty_text,
 };
 use crate::tests::expect_equal;
 use crate::tests::support::with_byte;
@@ -10,7 +9,6 @@ use ffi_calls::form::{Form, LONG, SHORT, WIDE, WIDE_LONG};
 use ffi_calls::numbers::open_numbers;
 use ffi_calls::texts::open_texts;
 use std::process::Abort;
-use test_support::archives::one_number;
 
 // Fails the test unless the map of 1 to 2 with another byte at a position has this status. A row is
 // the position, the byte and the status.
@@ -61,8 +59,9 @@ fn too_few_bytes_are_out_of_range(rt: HostRuntime) {
             (&[0; 23], WIDE_LONG, 16),
         ],
     );
-    expect_eq!(rt; open_numbers::<u32>(&one_number()[4..], SHORT), 16);
-    expect_eq!(rt; open_texts(&empty_text()[4..], SHORT), 16);
+    let (number, text): (&[u8], &[u8]) = (ONE_NUMBER, EMPTY_TEXT);
+    expect_eq!(rt; open_numbers::<u32>(&number[4..], SHORT), 16);
+    expect_eq!(rt; open_texts(&text[4..], SHORT), 16);
 }
 
 #[test]
