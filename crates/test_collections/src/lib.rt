@@ -1,4 +1,4 @@
-//! Tests of `rkyv_collections`: worked examples, and one call of each public function.
+//! Tests of `rkyv_collections`: worked examples, and calls of its functions.
 #![tactic(auto)]
 
 #[cfg(test)]

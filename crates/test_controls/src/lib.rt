@@ -1,4 +1,4 @@
-//! Tests of the controls of `rkyv_table`: worked examples, and one call of each public function.
+//! Tests of the controls of `rkyv_table`: worked examples, by each kind of group.
 #![tactic(auto)]
 
 #[cfg(test)]

@@ -3,8 +3,8 @@ ghost use Rattle.rkyv_base.specs.{LiesIn, Viewable};
 ghost use Rattle.rkyv_table.specs.{CanCompareOf, table_spec};
 
 use rkyv_base::{
-    Entry, LimitWriter, Narrow, PartRange, Scalar, Seal, VecWriter, VerifyError, View, Wide, Width,
-    WriteError, Writer, access_in,
+    Entry, LimitFault, LimitWriter, Narrow, PartRange, Scalar, Seal, VecWriter, VerifyError, View,
+    Wide, Width, WriteError, Writer, access_in,
 };
 use rkyv_end_to_end::{
     ListError, LookError, TableReport, errors_are_converted, look_over, lookups_find_listed,
@@ -63,10 +63,11 @@ fn a_list_is_found_as_it_was_written(rt: HostRuntime) {
 }
 
 // Does the same with a writer of at most `limit` bytes, and looks over its bytes afterwards.
-fn is_limited<W: Width>(alloc: Global, limit: u64) -> bool {
+// After a failed write, the error is whether the list has more bytes than that.
+fn is_limited<W: Width>(alloc: Global, limit: u64) -> Result<bool, bool> {
     let mut writer = LimitWriter::new(VecWriter::new(alloc), limit);
     if writer.write(&[0]).is_err() {
-        return false;
+        return Err(false);
     }
     let items = [10u8, 20, 30];
     let hashes = [2u64, 2, 5];
@@ -80,7 +81,7 @@ fn is_limited<W: Width>(alloc: Global, limit: u64) -> bool {
     );
     let at = match wrote {
         Ok(at) => at,
-        Err(_) => return false,
+        Err(error) => return Err(matches!(error, WriteError::Writer(LimitFault::Full))),
     };
     let range = PartRange { lo: 1, hi: at.end };
     let inner = writer.into_inner();
@@ -92,8 +93,8 @@ fn is_limited<W: Width>(alloc: Global, limit: u64) -> bool {
         2,
         |item| item.to_native() > 10,
     ) {
-        Ok(report) => is_report(&report, &[3, 2, 1], Some(1), 1),
-        Err(_) => false,
+        Ok(report) => Ok(is_report(&report, &[3, 2, 1], Some(1), 1)),
+        Err(_) => Ok(false),
     }
 }
 
@@ -104,8 +105,9 @@ fn a_list_is_written_by_any_writer(rt: HostRuntime) {
         is_limited::<Narrow>(alloc, 48),
         is_limited::<Narrow>(alloc, 47),
         is_limited::<Wide>(alloc, 64),
+        is_limited::<Wide>(alloc, 63),
     ];
-    expect_equal(&rt, results, [true, false, true]);
+    expect_equal(&rt, results, [Ok(true), Err(true), Ok(true), Err(true)]);
 }
 
 // Writes a number over the first item that is accepted under the hash 2. Returns `None` if there

@@ -160,8 +160,13 @@ pub fn requests_of_table(
 
 /// Writes a table of pairs of hash and item under the claimed length `len`.
 ///
-/// Returns the outcome, and the number of calls of the iterator.
-pub fn requests_of_pairs(alloc: Global, pairs: usize, len: usize) -> (Outcome, usize) {
+/// Returns the outcome, and the number of calls of the iterator. It is a `CountedWrite`.
+pub fn requests_of_pairs(
+    alloc: Global,
+    pairs: usize,
+    len: usize,
+    load_factor: (usize, usize),
+) -> (Outcome, usize) {
     let requests = Cell::new(0usize);
     let mut writer = VecWriter::new(alloc);
     let outcome = ArchivedHashTable::<u8, Narrow>::serialize_by::<
@@ -174,7 +179,7 @@ pub fn requests_of_pairs(alloc: Global, pairs: usize, len: usize) -> (Outcome, u
         alloc,
         iter::from_fn(|| yields_next(&requests, pairs).then_some((0u64, 7u8))),
         len,
-        (7, 8),
+        load_factor,
         &mut writer,
     );
     (outcome_of(outcome, &writer), requests.get())

@@ -3,7 +3,7 @@
 use rkyv_base::access::access;
 use rkyv_base::{
     Entry, Seal, VecWriter, VerifyError, Wide, Writer, access_in, access_mut, access_mut_with,
-    access_mut_with_in, align_for, append, found_pos, set_at, to_bytes, to_bytes_in, write_root,
+    access_mut_with_in, align_for, append, set_at, to_bytes, to_bytes_in, write_root,
 };
 use std::test::Fail;
 
@@ -16,12 +16,6 @@ fn pair_of(archive: &[u8]) -> Result<(u8, u32), VerifyError> {
 #[test]
 fn a_pair_is_read(rt: HostRuntime) {
     assert_eq!(rt; pair_of(&[1, 0, 0, 0, 2, 0, 0, 0]).ok(), Some((1, 2)));
-}
-
-#[test]
-fn a_found_value_has_its_position(rt: HostRuntime) {
-    let found = access::<u8>(&[7, 8]).ok();
-    assert_eq!(rt; (found_pos(found), found_pos::<u8>(None)), (Some(1), None));
 }
 
 // Returns the number at the root of a wide archive.

@@ -1,8 +1,9 @@
 //! Tests of parts, entries and roots that are known to be valid.
 
+use rkyv_base::access::access;
 use rkyv_base::{
     Archive, EntryResolver, MAX_ELEMENT_SIZE, Narrow, PartRange, access_in, access_unchecked,
-    distance_target, laws, part_in, whole_size,
+    distance_target, found_pos, laws, part_in, whole_size,
 };
 
 #[test]
@@ -58,11 +59,18 @@ fn entries_are_resolved(rt: HostRuntime) {
     );
 }
 
-// Returns the position and the number of a clone of the view of a number at the end.
-fn cloned_number(bytes: &[u8]) -> Option<(u64, u32)> {
+#[test]
+fn a_found_value_has_its_position(rt: HostRuntime) {
+    let found = access::<u8>(&[7, 8]).ok();
+    expect_eq!(rt; (found_pos(found), found_pos::<u8>(None)), (Some(1), None));
+}
+
+// Returns the position and the number of a clone of the view of a number at the end, and whether
+// its archive is that of the view.
+fn cloned_number(bytes: &[u8]) -> Option<(u64, u32, bool)> {
     let view = access_in::<Narrow, u32>(bytes).ok()?;
     let same = view.clone().ok()?;
-    Some((same.pos(), same.to_native()))
+    Some((same.pos(), same.to_native(), same.bytes() == bytes))
 }
 
 #[test]
@@ -71,5 +79,5 @@ fn clones_are_the_same(rt: HostRuntime) {
     let range = PartRange { lo: 4, hi: 16 };
     let same = range.clone().ok();
     let number = cloned_number(&[0, 0, 0, 0, 7, 0, 0, 0]);
-    expect_eq!(rt; (same, number), (Some(range), Some((4, 7))));
+    expect_eq!(rt; (same, number), (Some(range), Some((4, 7, true))));
 }

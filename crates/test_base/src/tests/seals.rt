@@ -303,7 +303,8 @@ fn wide_text_is_uppercased_in_place(rt: HostRuntime) {
 #[test]
 fn wide_text_out_of_line_stays(rt: HostRuntime) {
     // The text, five zeros, its length, and the distance back to its start.
-    let mut bytes =
-        *b"most wonderful text\0\0\0\0\0\x93\0\0\0\0\0\0\0\xe8\xff\xff\xff\xff\xff\xff\xff";
-    expect_eq!(rt; uppercases_elsewhere::<Wide>(&mut bytes), Ok((true, false)));
+    let text = *b"most wonderful text\0\0\0\0\0\x93\0\0\0\0\0\0\0\xe8\xff\xff\xff\xff\xff\xff\xff";
+    let mut bytes = text;
+    let uppercased = uppercases_elsewhere::<Wide>(&mut bytes);
+    expect_eq!(rt; (uppercased, bytes), (Ok((true, false)), text));
 }

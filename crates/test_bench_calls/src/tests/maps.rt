@@ -6,13 +6,23 @@ ghost use Rattle.bench_calls.specs.{AreTexts};
 use bench_calls::numbers::{access_u32, build_u32, hash_u32, lookup_u32, walk_u32};
 use bench_calls::texts::{access_text, build_text, hash_text, lookup_text, walk_text};
 
-// Returns the map of 1 to 2.
-fn one_to_two() -> [u8; 60] {
+/// Returns the map of 1 to 2.
+pub(super) fn one_to_two() -> [u8; 60] {
     let mut bytes = [0xff; 60];
     bytes[..17].copy_from_slice(&[1, 0, 0, 0, 2, 0, 0, 0, 0, 0, 0, 0, 0, 0, 0, 0, 0xff]);
     bytes[17] = 0x28;
     bytes[19] = 0x28;
     bytes[47..].copy_from_slice(&[0, 0xe0, 0xff, 0xff, 0xff, 1, 0, 0, 0, 2, 0, 0, 0]);
+    bytes
+}
+
+// Returns the map of the text main to 2.
+fn main_to_two() -> [u8; 68] {
+    let mut bytes = [0xff; 68];
+    bytes[..12].fill(0);
+    bytes[12..24].copy_from_slice(b"main\xff\xff\xff\xff\x02\0\0\0");
+    bytes[24..27].copy_from_slice(&[0x38, 0xff, 0x38]);
+    bytes[55..].copy_from_slice(&[0, 0xe0, 0xff, 0xff, 0xff, 1, 0, 0, 0, 2, 0, 0, 0]);
     bytes
 }
 
@@ -84,8 +94,9 @@ fn a_map_of_texts(rt: HostRuntime) {
     let len = build_text(rt.alloc(), key.as_bytes(), &end_of(key), &[2], &mut out);
     let accepted = (access_text(&out), access_text(&out[1..]));
     let read = (texts_read(&out, key), texts_read(&out, "exit"));
+    expect_eq!(rt; (len, out), (68, main_to_two()));
     expect_eq!(rt;
-        (len, accepted, read),
-        (68, (2, 0), (Some((2, 6)), Some((0x1_0000_0000, 6))))
+        (accepted, read),
+        ((2, 0), (Some((2, 6)), Some((0x1_0000_0000, 6))))
     );
 }

@@ -1,6 +1,7 @@
 //! Maps of std with one pair, written and read back.
 
-use bench_calls::numbers::{access_u32, build_u32};
+use crate::tests::maps::one_to_two;
+use bench_calls::numbers::access_u32;
 use bench_calls::std_numbers::{build_std_u32, read_std_u32};
 use std::alloc::Global;
 
@@ -12,31 +13,23 @@ fn read_back(alloc: Global, archive: &[u8]) -> Option<usize> {
     Some(read_std_u32(alloc, archive))
 }
 
-// One pair has only one order: the archive is that of the list.
+// One pair has only one order.
 #[test]
 fn a_map_of_std_is_written_and_read_back(rt: HostRuntime) {
-    let mut of_std = [7u8; 60];
-    let mut of_list = [7u8; 60];
+    let mut out = [7u8; 60];
     let mut short = [7u8; 59];
     let lengths = (
-        build_std_u32(rt.alloc(), &[1], &[2], &mut of_std),
-        build_u32(rt.alloc(), &[1], &[2], &mut of_list),
+        build_std_u32(rt.alloc(), &[1], &[2], &mut out),
         build_std_u32(rt.alloc(), &[1], &[2], &mut short),
     );
-    let back = read_back(rt.alloc(), &of_std);
-    expect_eq!(rt;
-        (lengths, of_std, short, back),
-        ((60, 60, 0), of_list, [7u8; 59], Some(1))
-    );
+    let back = read_back(rt.alloc(), &out);
+    expect_eq!(rt; (lengths, out, short), ((60, 0), one_to_two(), [7u8; 59]));
+    expect_eq!(rt; back, Some(1));
 }
 
 #[test]
 fn of_equal_keys_the_later_is_written(rt: HostRuntime) {
-    let mut twice = [7u8; 60];
-    let mut once = [7u8; 60];
-    let lengths = (
-        build_std_u32(rt.alloc(), &[1, 1], &[9, 2], &mut twice),
-        build_u32(rt.alloc(), &[1], &[2], &mut once),
-    );
-    expect_eq!(rt; (lengths, twice), ((60, 60), once));
+    let mut out = [7u8; 60];
+    let len = build_std_u32(rt.alloc(), &[1, 1], &[9, 2], &mut out);
+    expect_eq!(rt; (len, out), (60, one_to_two()));
 }

@@ -45,17 +45,17 @@ fn counted_value_of(bytes: &[u8], key: u32) -> Result<(Option<u32>, u64), Verify
     }
 }
 
-// Returns `true` if both lookups of a number have one result, and read at most one stride.
+// Returns `true` if both lookups of a number have one result, and the second reads one stride.
 fn is_one_stride(bytes: &[u8], key: u32) -> bool {
     let value = value_of(bytes, key);
     match (value, counted_value_of(bytes, key)) {
-        (Ok(value), Ok((counted, strides))) => value == counted && strides <= 1,
+        (Ok(value), Ok((counted, strides))) => value == counted && strides == 1,
         _ => false,
     }
 }
 
 // Returns `true` if a walk over a valid map returns one pair, and a lookup of each number
-// from 0 to 9 reads at most one stride.
+// from 0 to 9 reads one stride.
 fn is_small(bytes: &[u8]) -> Result<bool, VerifyError> {
     let mut right = count_walked(bytes)? == 1;
     for key in 0..10 {

@@ -85,6 +85,9 @@ fn expect_fares(rt: &impl Abort, table: &[u8], rows: &[(u32, u32, Option<u64>)])
 
 #[test]
 fn a_fare_of_a_city(rt: HostRuntime) -> Result<(), Fail> {
+    nested_maps_are_looked_up::<u32, Narrow, FxHasher64, u32, CityMap, RandomState, Deep>();
+    nested_maps_are_lists::<Narrow, FxHasher64, u32, CityMap, RandomState, Deep>();
+    nested_walks_visit_each::<Narrow, FxHasher64, u32, CityMap, Deep>();
     let table = write_fare(rt.alloc())?;
     expect_fares(
         &rt,
@@ -195,6 +198,18 @@ fn expect_season_fares(rt: &impl Abort, table: &[u8], rows: &[(u32, u32, Option<
 
 #[test]
 fn a_fare_of_a_season(rt: HostRuntime) -> Result<(), Fail> {
+    written_values_are_related::<Narrow, Season, SeasonRelation>();
+    written_relations_are_defined::<
+        Narrow,
+        FxHasher64,
+        u32,
+        Fares,
+        u32,
+        FareMap,
+        RandomState,
+        FareRelation,
+        ValueRelation,
+    >();
     let table = write_season(rt.alloc())?;
     expect_season_fares(
         &rt,
@@ -218,23 +233,4 @@ fn a_wrapped_map_is_changed(rt: HostRuntime) -> Result<(), Fail> {
     let added = pair_added(rt.alloc())?;
     expect_eq!(rt; added, (1, Some(4)));
     Ok(())
-}
-
-#[test]
-fn laws_of_deeper_maps(_rt: HostRuntime) {
-    nested_maps_are_looked_up::<u32, Narrow, FxHasher64, u32, CityMap, RandomState, Deep>();
-    nested_maps_are_lists::<Narrow, FxHasher64, u32, CityMap, RandomState, Deep>();
-    nested_walks_visit_each::<Narrow, FxHasher64, u32, CityMap, Deep>();
-    written_values_are_related::<Narrow, Season, SeasonRelation>();
-    written_relations_are_defined::<
-        Narrow,
-        FxHasher64,
-        u32,
-        Fares,
-        u32,
-        FareMap,
-        RandomState,
-        FareRelation,
-        ValueRelation,
-    >();
 }

@@ -35,6 +35,18 @@ fn codes_of_kinds_and_widths(rt: HostRuntime) {
     );
 }
 
+#[test]
+fn kinds_and_widths_have_codes(rt: HostRuntime) {
+    let kinds = [
+        Kind::HashMap.code(),
+        Kind::HashSet.code(),
+        Kind::IndexMap.code(),
+        Kind::IndexSet.code(),
+    ];
+    let widths = [Width::Narrow.code(), Width::Wide.code()];
+    expect_eq!(rt; (kinds, widths), ([1, 2, 3, 4], [4, 8]));
+}
+
 // Returns whether a type has the code, and the code the type.
 fn agree(item: ItemType, code: u8) -> bool {
     item.code() == code && ItemType::from_code(code) == Some(item)

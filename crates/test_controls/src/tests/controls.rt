@@ -2,7 +2,7 @@
 ghost use Rattle.std.specs.Prelude.{IfSome, length, ◌<◌, ◌≤◌, ◌^◌};
 ghost use Rattle.rkyv_table.specs.{AreValidControls, IsFullBucket, control_count};
 
-use rkyv_scan::simd::{bytewise, generic, lanes};
+use rkyv_scan::simd::{bytewise, generic, lanes, paired};
 use rkyv_scan::{FxHasher64, GroupKind, KeyHasher};
 use rkyv_table::Strides;
 use rkyv_table::controls::find::{find, find_from};
@@ -302,7 +302,8 @@ fn all_write(alloc: Global, cap: usize, hashes: &[u64], homes: &[usize], front: 
     let by_bytes = is_written::<bytewise::Group>(alloc, cap, hashes, homes, front);
     let by_words = is_written::<generic::Group>(alloc, cap, hashes, homes, front);
     let by_lanes = is_written::<lanes::Group>(alloc, cap, hashes, homes, front);
-    by_bytes && by_words && by_lanes
+    let by_pairs = is_written::<paired::Group>(alloc, cap, hashes, homes, front);
+    by_bytes && by_words && by_lanes && by_pairs
 }
 
 #[test]
@@ -447,11 +448,12 @@ fn finds_by_each_kind(rt: HostRuntime) {
         finds::<bytewise::Group>(rt.alloc()),
         finds::<generic::Group>(rt.alloc()),
         finds::<lanes::Group>(rt.alloc()),
+        finds::<paired::Group>(rt.alloc()),
     ];
-    expect_eq!(rt; right, [true; 3]);
+    expect_eq!(rt; right, [true; 4]);
 }
 
-// The word of eight controls also marks a tag that differs in the lowest bit, behind an equal one.
+// A word of eight also marks a tag that differs in the lowest bit, right after an equal one.
 #[test]
 fn finds_by_false_marks(rt: HostRuntime) -> Result<(), AllocError> {
     let hash = 0x5000_0000_0000_0001;
@@ -460,8 +462,9 @@ fn finds_by_false_marks(rt: HostRuntime) -> Result<(), AllocError> {
         found::<generic::Group>(&table, hash, Accepted::Only(1)),
         found::<bytewise::Group>(&table, hash, Accepted::Only(1)),
         found::<lanes::Group>(&table, hash, Accepted::Only(1)),
+        found::<paired::Group>(&table, hash, Accepted::Only(1)),
     ];
-    expect_eq!(rt; found, [(Some(1), 1), (None, 1), (None, 1)]);
+    expect_eq!(rt; found, [(Some(1), 1), (None, 1), (None, 1), (Some(1), 1)]);
     Ok(())
 }
 
@@ -490,8 +493,9 @@ fn compares_buckets_of_each_stride(rt: HostRuntime) {
         compares_in_order::<bytewise::Group>(rt.alloc()).ok(),
         compares_in_order::<generic::Group>(rt.alloc()).ok(),
         compares_in_order::<lanes::Group>(rt.alloc()).ok(),
+        compares_in_order::<paired::Group>(rt.alloc()).ok(),
     ];
-    expect_eq!(rt; right, [Some(true); 3]);
+    expect_eq!(rt; right, [Some(true); 4]);
 }
 
 // A comparison that returns `false` at its first call, and `true` from then on.
@@ -527,8 +531,9 @@ fn walks_by_each_kind(rt: HostRuntime) {
         walks::<bytewise::Group>(rt.alloc()).ok(),
         walks::<generic::Group>(rt.alloc()).ok(),
         walks::<lanes::Group>(rt.alloc()).ok(),
+        walks::<paired::Group>(rt.alloc()).ok(),
     ];
-    expect_eq!(rt; right, [Some(true); 3]);
+    expect_eq!(rt; right, [Some(true); 4]);
 }
 
 #[test]

@@ -1,4 +1,4 @@
-//! The examples of the docs of entry points that no other test has.
+//! The examples of the docs of entry points that no other test has, and counts of misplaced keys.
 
 use crate::tests::archives::{no_pairs, one_key_twice};
 use crate::tests::opened::small_map;

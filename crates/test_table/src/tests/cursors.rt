@@ -54,6 +54,32 @@ fn a_scalar_is_written_at_an_offset_of_an_item(rt: HostRuntime) {
     expect_eq!(rt; bytes, expected);
 }
 
+// Writes a byte over the first item of the table of 10 and 20, by a closure. Returns the position
+// of the second item.
+fn write_by_closure(bytes: &mut [u8], byte: u8) -> Result<Option<u64>, VerifyError> {
+    let whole = access_mut::<TableOf<u8>>(bytes)?;
+    let mut rest = ArchivedHashTable::raw_iter_seal(whole);
+    match rest.next_pos() {
+        Some(first) => rest.write_with(first, |archive: &mut [u8], pos: u64| {
+            match archive.get_mut(pos as usize) {
+                Some(old) => *old = byte,
+                None => {}
+            }
+        }),
+        None => {}
+    }
+    Ok(rest.next_pos())
+}
+
+#[test]
+fn a_closure_writes_at_an_item(rt: HostRuntime) {
+    let mut bytes = two_archived();
+    expect_eq!(rt; write_by_closure(&mut bytes, 30), Ok(Some(0)));
+    let mut expected = two_archived();
+    expected[2] = 30;
+    expect_eq!(rt; bytes, expected);
+}
+
 // Writes a byte over the first item of the table of 10 and 20, in the bytes of the cursor.
 // Returns the number of these bytes, and the position of the second item.
 fn write_in_bytes(bytes: &mut [u8], byte: u8) -> Result<(usize, Option<u64>), VerifyError> {

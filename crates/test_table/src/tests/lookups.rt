@@ -359,8 +359,9 @@ fn unsuccessful_lookup_compares_each_item(rt: HostRuntime) {
         compared_by::<bytewise::Group>(bytes),
         compared_by::<generic::Group>(bytes),
         compared_by::<lanes::Group>(bytes),
+        compared_by::<paired::Group>(bytes),
     ];
-    expect_eq!(rt; by_kind, [(Ok(None), true); 3]);
+    expect_eq!(rt; by_kind, [(Ok(None), true); 4]);
 }
 
 #[test]

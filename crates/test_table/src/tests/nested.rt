@@ -24,7 +24,7 @@ fn texts_written(alloc: Global, front: &[u8]) -> Option<(u64, bool)> {
 #[test]
 fn texts_are_written_by_ascending_bucket(rt: HostRuntime) {
     // the first text is in the highest bucket, and so the last, with an empty bucket between them;
-    // the texts begin 15 and 44 bytes before their distances
+    // the texts begin 15 and 44 bytes before their fixed bytes
     let front = b"wonderful twowonderful one\0\0\
 \x8d\0\0\0\xf1\xff\xff\xff\0\0\0\0\0\0\0\0\x8d\0\0\0\xd4\xff\xff\xff\0\xff\0\0\xff\0";
     expect_eq!(rt; texts_written(rt.alloc(), front), Some((52, true)));

@@ -6,7 +6,7 @@ use std::alloc::Global;
 use std::cell::Cell;
 use std::iter;
 use test_support::requests::{
-    Outcome, expected_outcome, max_requests, requests_of_pairs, requests_of_table,
+    Outcome, expected_outcome, max_requests, requests_of_pairs, requests_of_table, right_writes,
 };
 
 // Returns the expected outcome for `items` items and `hashes` hashes. The items are counted first.
@@ -26,11 +26,6 @@ fn is_right_of_both(alloc: Global, items: usize, hashes: usize, len: usize) -> b
     outcome == expected_outcome && few
 }
 
-fn is_right_of_pairs(alloc: Global, pairs: usize, len: usize) -> bool {
-    let (outcome, requests) = requests_of_pairs(alloc, pairs, len);
-    outcome == expected_outcome(pairs, len) && requests <= max_requests(pairs, len)
-}
-
 // Returns the number of tables with the expected outcome. They have up to five items and five
 // hashes, and a claimed number of up to three.
 fn right_of_both(alloc: Global) -> usize {
@@ -47,21 +42,10 @@ fn right_of_both(alloc: Global) -> usize {
     right
 }
 
-fn right_of_pairs(alloc: Global) -> usize {
-    let mut right = 0usize;
-    for len in 0..4 {
-        for pairs in 0..6 {
-            if is_right_of_pairs(alloc, pairs, len) {
-                right = right.wrapping_add(1);
-            }
-        }
-    }
-    right
-}
-
 #[test]
 fn iterators_are_called_at_most_len_plus_one_times(rt: HostRuntime) {
-    let right = (right_of_both(rt.alloc()), right_of_pairs(rt.alloc()));
+    let alloc = rt.alloc();
+    let right = (right_of_both(alloc), right_writes(alloc, requests_of_pairs));
     expect_eq!(rt; right, (4 * 6 * 6, 4 * 6));
 }
 
@@ -81,10 +65,10 @@ fn no_call_follows_the_end_or_an_extra_item(rt: HostRuntime) {
         requests_of_items(alloc, 0, 0, 0),
     ];
     let pairs = [
-        requests_of_pairs(alloc, all, 2),
-        requests_of_pairs(alloc, 2, 5),
-        requests_of_pairs(alloc, all, 0),
-        requests_of_pairs(alloc, 0, 0),
+        requests_of_pairs(alloc, all, 2, (7, 8)),
+        requests_of_pairs(alloc, 2, 5, (7, 8)),
+        requests_of_pairs(alloc, all, 0, (7, 8)),
+        requests_of_pairs(alloc, 0, 0, (7, 8)),
     ];
     let expected_outcome = [
         (Outcome::Mismatch(2, 3), 3),
