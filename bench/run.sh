@@ -2,14 +2,23 @@
 # Proves and builds the static libraries, measures them, and writes RESULTS.md and the plots.
 #
 #   bench/run.sh            measures the library and the Rust crate, in about twenty minutes
-#   bench/run.sh --print    prints the table of the library alone, and writes nothing; the library may
+#   bench/run.sh --print [--sizes] [--keep-memory]
+#                           prints the table of the library alone, and writes nothing; the library may
 #                           be another one, at the absolute path in RKYV_BENCH_LIB
 set -euo pipefail
-if [ "$#" -gt 0 ] && [ "$1" != --print ]; then
-    echo "bench/run.sh [--print]" >&2
+usage() {
+    echo "bench/run.sh [--print [--sizes] [--keep-memory]]" >&2
     exit 2
-fi
+}
+[ "$#" = 0 ] || [ "$1" = --print ] || usage
+for word in "${@:2}"; do
+    [ "$word" = --sizes ] || [ "$word" = --keep-memory ] || usage
+done
 cd "$(dirname "$0")"
+if [ "$#" = 0 ] && [ -n "$(git status --porcelain -- ../crates ../crates.txt ../clients src client build.rs .cargo)" ]; then
+    echo "bench/run.sh: there are changes that are not committed, and RESULTS.md names a commit" >&2
+    exit 1
+fi
 # With these, cargo would compile to another folder, or with other flags than those of .cargo.
 unset CARGO_TARGET_DIR CARGO_BUILD_TARGET_DIR CARGO_BUILD_TARGET
 unset RUSTFLAGS CARGO_BUILD_RUSTFLAGS CARGO_ENCODED_RUSTFLAGS CARGO_TARGET_X86_64_UNKNOWN_LINUX_GNU_RUSTFLAGS

@@ -214,7 +214,10 @@ static struct workload prepared(size_t count, const struct library both[2]) {
     w.stored = random_keys(count);
     w.found = shuffled(&w.stored, count);
     w.missing = random_keys(count);
-    w.values = random_keys(count).numbers;
+    struct keys values = random_keys(count);
+    free(values.bytes);
+    free(values.ends);
+    w.values = values.numbers;
     w.archive = room_for(w.room);
     w.text_archive = room_for(w.room);
     w.index_archive = room_for(w.room);
@@ -225,10 +228,28 @@ static struct workload prepared(size_t count, const struct library both[2]) {
     return w;
 }
 
+static void free_keys(struct keys keys) {
+    free(keys.numbers);
+    free(keys.bytes);
+    free(keys.ends);
+}
+
+static void free_workload(struct workload w) {
+    free_keys(w.stored);
+    free_keys(w.found);
+    free_keys(w.missing);
+    free(w.values);
+    free(w.archive);
+    free(w.text_archive);
+    free(w.index_archive);
+    free(w.out);
+}
+
 /* Returns the thread's own running time, in nanoseconds. */
 static double now(void) {
     struct timespec time;
-    clock_gettime(CLOCK_THREAD_CPUTIME_ID, &time);
+    if (clock_gettime(CLOCK_THREAD_CPUTIME_ID, &time) != 0)
+        stop("the thread has no clock");
     return (double)time.tv_sec * 1e9 + (double)time.tv_nsec;
 }
 
@@ -280,6 +301,7 @@ int main(int count, char **arguments) {
         struct workload w = prepared(COUNTS[i], both);
         for (enum measure measure = 0; measure < MEASURES; measure++)
             results[measure][i] = measured(measure, both, &w);
+        free_workload(w);
     }
     puts("| keys | measure | before, ns | after, ns | after / before |");
     puts("|---|---|--:|--:|--:|");
@@ -289,5 +311,7 @@ int main(int count, char **arguments) {
                r[0].before, r[1].before, r[2].before, r[0].after, r[1].after, r[2].after,
                r[0].ratio, r[1].ratio, r[2].ratio);
     }
+    if (fflush(stdout) != 0 || ferror(stdout))
+        stop("standard output can't be written");
     return 0;
 }

@@ -4,10 +4,11 @@
  *
  * KIND is the number of a `rkyv_kind`. KIND and WIDTH are decimal numbers of 32 bits. A pair is a
  * line `VALUE KEY`, without spaces in the value. An item of a set is a line with a space in front. A
- * line has at most 65,535 bytes, and none is zero. A key of 32 bits is taken modulo 4294967296. The
- * file has the archive, or its container with a checksum. The last status is printed. It is
- * RKYV_TOO_LONG for a longer line, or for more than 2,048 lines if no builder is used. The file is
- * written only if it is RKYV_OK. One that can't be written whole is left in part.
+ * line has at most 65,535 bytes, and none is zero. A number is at most 18446744073709551615, and a
+ * key of 32 bits is taken modulo 4294967296. The file has the archive, or its container with a
+ * checksum. The last status is printed. It is RKYV_TOO_LONG for a longer line, or for more than 2,048
+ * lines if no builder is used. The file is written only if it is RKYV_OK. One that can't be written
+ * whole is left in part.
  *
  * The program exits with 1 if the lines can't be read or the file or standard output can't be
  * written, with 2 if the arguments are wrong, and else with 0. */

@@ -8,9 +8,9 @@
  * `list`, and for an index map `at INDEX`. `get` and `set` take no empty key and none with a space,
  * which `list` may print. Each command but `list` prints its status and, if that is RKYV_OK, its
  * result on a line. `list` prints a line for each pair. An unknown command prints RKYV_NOT_FOUND. A
- * key of 32 bits is taken modulo 4294967296. `set` writes numbers, and doesn't change the file. A line
- * has at most 65,535 bytes, and none is zero. A longer line prints RKYV_TOO_LONG, and no further line
- * is read.
+ * number is at most 18446744073709551615, and a key of 32 bits is taken modulo 4294967296. `set`
+ * writes numbers, and doesn't change the file. A line has at most 65,535 bytes, and none is zero. A
+ * longer line prints RKYV_TOO_LONG, and no further line is read.
  *
  * The program exits with 1 if the file or the lines can't be read or standard output can't be
  * written, with 2 if the arguments are wrong, and else with 0. */

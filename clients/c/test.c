@@ -1177,9 +1177,10 @@ static void invalid_items(void) {
     };
     returns("no text", build_texts(items, 2, true, &built), RKYV_NOT_TEXT);
     returns("a large value", build_texts(items + 2, 1, false, &built), RKYV_VALUE_TOO_LARGE);
-    if (zeros != NULL) {
-        returns("a long text", build_texts(items + 3, 1, false, &built), RKYV_TEXT_TOO_LONG);
+    if (zeros == NULL) {
+        fail("no memory for the long text");
     }
+    returns("a long text", build_texts(items + 3, 1, false, &built), RKYV_TEXT_TOO_LONG);
     same("kept", built.bytes == none && built.length == 0, 1);
     same("blocks", blocks, 0);
     free(zeros);

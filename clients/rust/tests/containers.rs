@@ -163,7 +163,7 @@ impl Write for Unflushed {
     }
 
     fn flush(&mut self) -> io::Result<()> {
-        Err(io::ErrorKind::StorageFull.into())
+        Err(io::ErrorKind::WriteZero.into())
     }
 }
 
@@ -171,7 +171,7 @@ impl Write for Unflushed {
 fn writing_a_container_fails_if_the_writer_cannot_flush() {
     let archive = u32::sample::<u32>(3, Width::Narrow);
     let written = archive.write_container(Checksum::None, Unflushed);
-    assert_eq!(written.unwrap_err().kind(), io::ErrorKind::StorageFull);
+    assert_eq!(written.unwrap_err().kind(), io::ErrorKind::WriteZero);
 }
 
 /// The container of the map of 1 to 2, whose bytes are those of the example in the format.
