@@ -1,7 +1,7 @@
 //! Comparisons of hashes.
 use crate::errors::{LineError, Malformed};
 use crate::fields::Field;
-use hex::FromHex;
+use rkyv_dict::hex::read_hex;
 use rkyv_keys::{ScalarKey, hash_value};
 use rkyv_scan::FxHasher64;
 use std::alloc::Global;
@@ -129,10 +129,11 @@ fn hash_of(alloc: Global, hash_type: HashType, text: &str) -> Result<u64, LineEr
 }
 
 /// Returns the hash of sixteen hexadecimal digits.
-fn parse_hash(text: &str) -> Result<u64, Malformed> {
-    match <[u8; 8] as FromHex>::from_hex(text) {
+fn parse_hash(alloc: Global, text: &str) -> Result<u64, LineError> {
+    let bytes = read_hex(alloc, text.as_bytes())?.ok_or(Malformed::Hash)?;
+    match <[u8; 8]>::try_from(bytes.as_slice()) {
         Ok(bytes) => Ok(u64::from_be_bytes(bytes)),
-        Err(_) => Err(Malformed::Hash),
+        Err(_) => Err(LineError::Malformed(Malformed::Hash)),
     }
 }
 
@@ -148,7 +149,7 @@ pub fn check_hash(alloc: Global, text: &str) -> Result<HashType, LineError> {
     let (value, hash) = rest.split_once('\t').ok_or(Malformed::Fields)?;
     let hash_type = HashType::named(name)?;
     let found = hash_of(alloc, hash_type, value)?;
-    let given = parse_hash(hash)?;
+    let given = parse_hash(alloc, hash)?;
     if found == given {
         return Ok(hash_type);
     }

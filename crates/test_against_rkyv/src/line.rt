@@ -2,8 +2,8 @@
 use crate::errors::{Difference, LineError, Malformed};
 use crate::fields::number;
 use crate::kinds::{Collection, KeyType, Kind, PointerWidth, ValueType};
-use hex::{FromHexError, decode};
-use std::alloc::{AllocError, Global};
+use rkyv_dict::hex::read_hex;
+use std::alloc::Global;
 
 /// A line: the entries of an archive, and its bytes.
 #[derive(Drop)]
@@ -20,10 +20,9 @@ pub struct Line<'a> {
 
 /// Returns the bytes of hexadecimal digits.
 fn bytes_of(alloc: Global, digits: &str) -> Result<Vec<u8>, LineError> {
-    match decode(alloc, digits) {
-        Ok(bytes) => Ok(bytes),
-        Err(FromHexError::OutOfMemory) => Err(LineError::Memory(AllocError)),
-        Err(_) => Err(LineError::Malformed(Malformed::Bytes)),
+    match read_hex(alloc, digits.as_bytes())? {
+        Some(bytes) => Ok(bytes),
+        None => Err(LineError::Malformed(Malformed::Bytes)),
     }
 }
 

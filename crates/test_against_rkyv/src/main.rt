@@ -17,9 +17,8 @@
 //! The table, map, set, index map, index set, group and hasher sources of rkyv 0.8.18 wrote the
 //! archives and the hashes. They were compiled outside of this repository, little endian and
 //! aligned, with the load factor 7 / 8. So buckets, control bytes, headers, entries, the order of
-//! the parts and their alignment are rkyv's. Relative pointers, archived numbers, zeros of padding
-//! and the layout of text were written after rkyv's documentation, and are no evidence of rkyv's
-//! own.
+//! the parts and their alignment are rkyv's. Relative pointers, archived integers, the zeros of
+//! padding and the layout of text follow rkyv's documentation: that code of rkyv was not run.
 //!
 //! For each archive, the program:
 //!
@@ -58,7 +57,7 @@ use std::process::ExitCode;
 use std::{env, fs};
 
 /// The text that is printed if the command line isn't two files.
-const USAGE: &str = "usage: against_rkyv ARCHIVES HASHES
+const USAGE: &str = "usage: test_against_rkyv ARCHIVES HASHES
 
 exit status: 0 if all lines agree, 1 if one differs, 2 if the command line isn't this, 3 if there is
 another error";
