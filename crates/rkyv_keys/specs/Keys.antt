@@ -15,18 +15,14 @@ pub record IsKey (s : ElementSpec) (same : Comparison) (calls : List ℕ → ℕ
   pub copied : (b c : List ℕ) (p lo hi l : ℕ) → lo ≤ hi → s.is_valid b p lo hi l
       → AgreeOn b c p (p + s.size) → AgreeOn b c lo l → same b p c p ≡ true
 
--- a value that can always be read
-abbrev pub ReadsAnywhere : {Q : Type 0} → Q → Type 0
-ReadsAnywhere q = Unit {0}
-
 -- the laws of a query. It makes the calls of each key that it fits.
 -- It then fits the keys that are the same as that key, and no others
 pub record IsQuery {Q : Type 0} (s : ElementSpec) (same : Comparison)
-    (key_calls : List ℕ → ℕ → List HasherCall) (can_read : Q → Type 0) (calls : Q → List HasherCall)
+    (key_calls : List ℕ → ℕ → List HasherCall) (calls : Q → List HasherCall)
     (fits : Q → List ℕ → ℕ → Bool) : Type 0 where
-  pub same_calls : (q : Q) (b : List ℕ) (p : ℕ) → can_read q → ValidAt s b p → fits q b p ≡ true
+  pub same_calls : (q : Q) (b : List ℕ) (p : ℕ) → ValidAt s b p → fits q b p ≡ true
       → calls q ≡ key_calls b p
-  pub respects_same : (q : Q) (b c : List ℕ) (p r : ℕ) → can_read q → ValidAt s b p → ValidAt s c r
+  pub respects_same : (q : Q) (b c : List ℕ) (p r : ℕ) → ValidAt s b p → ValidAt s c r
       → fits q b p ≡ true → fits q c r ≡ same b p c r
 
 -- a query fits a key that represents a native key if and only if the two are equal

@@ -35,20 +35,20 @@ unfoldable pub use FirstPairs.{uppercase_text, with_first, with_first_changed}
 pub use FirstPairs.{FoundValues}
 unfoldable pub use Fixed.{MakesFixedCalls}
 unfoldable pub use Hashing.{HashesBy}
-unfoldable pub use Keys.{FitsItsEqual, ReadsAnywhere}
+unfoldable pub use Keys.{FitsItsEqual}
 pub use Keys.{IsKey, IsQuery}
 unfoldable pub use NativeFormats.{fx_format, fx_key_format, native_format, native_key_format}
 unfoldable pub use NativeFormats.{queried}
 pub use NativeFormats.{KeyFormat, PairFormat, Queried}
 unfoldable pub use Natives.{native_keys, native_pairs}
 pub use Natives.{NativeKeys, NativePairs}
-unfoldable pub use OfEntries.{BothRead, entry_calls, entry_deserialize_fails, entry_equals}
+unfoldable pub use OfEntries.{entry_calls, entry_deserialize_fails, entry_equals}
 unfoldable pub use OfEntries.{entry_fits, entry_same, pair_calls}
 unfoldable pub use OfScalars.{one_call, scalar_calls, scalar_fits, scalar_same}
 unfoldable pub use OfTexts.{same_bytes, text_fits, text_key_calls, text_same}
 unfoldable pub use OfUnits.{no_calls, unit_at, unit_calls, unit_fits, unit_same, units_equal}
 unfoldable pub use OfValues.{ValueRepresents, value_calls, value_fits, values_same}
-unfoldable pub use OfViews.{FitsSameKeys, view_fits}
+unfoldable pub use OfViews.{FitsSameKeys, key_view, view_calls, view_fits}
 unfoldable pub use QueryLaws.{FitsByValue, HashLocal, HashesAlike, HashesAsWritten, RestsOnKeys}
 unfoldable pub use RoundTrips.{HasArchive, RoundTripFails, round_trip}
 pub use RoundTrips.{RoundTrip}

@@ -38,7 +38,3 @@ entry_deserialize_fails {A} k v b p e =
 abbrev pub pair_calls : {A B : Type 0} → (A → List HasherCall) → (B → List HasherCall) → A × B
     → List HasherCall
 pair_calls first second q = first q.0 ++ second q.1
-
--- both parts of a pair can be read
-abbrev pub BothRead : {A B : Type 0} → (A → Type 0) → (B → Type 0) → A × B → Type 0
-BothRead first second q = first q.0 × second q.1

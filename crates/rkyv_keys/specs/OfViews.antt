@@ -1,14 +1,27 @@
 -- A key in an archive, as a query for keys of other archives.
 use Rattle.std.specs.Prelude.{◌≡◌, ℕ, Bool, List}
-use Rattle.rkyv_base.specs.declared.view.View.{View}
+use Rattle.rkyv_scan.specs.{HasherCall}
 use Rattle.rkyv_base.specs.{bytes_of, pos_of}
+use Rattle.rkyv_base.specs.declared.element.HasSpec.{Ghosts as Specs}
+use Rattle.rkyv_base.specs.declared.view.View.{View}
+use Rattle.rkyv_keys.specs.AtViews.{at_view}
 use Rattle.rkyv_keys.specs.Equality.{Comparison}
+use Rattle.rkyv_keys.specs.declared.views.KeyView.{KeyView}
 
--- the key at position `p` is the same as that of the view `view`
-abbrev pub view_fits : {K : Type 0} → Comparison → View K → List ℕ → ℕ → Bool
-view_fits same view b p = same (bytes_of view) (pos_of view) b p
+module _ {K : Type 0} {ks : Specs K} where
+  -- the view of the key
+  abbrev pub key_view : KeyView K ks → View K
+  key_view key = key.view
 
--- a view matches, by `fits`, the keys that are the same as its own
-abbrev pub FitsSameKeys : {K : Type 0} → Comparison → (View K → List ℕ → ℕ → Bool) → Type 0
-FitsSameKeys {K} same fits = (view : View K) (b : List ℕ) (p : ℕ)
-    → fits view b p ≡ view_fits same view b p
+  -- the hasher calls of the key
+  abbrev pub view_calls : (List ℕ → ℕ → List HasherCall) → KeyView K ks → List HasherCall
+  view_calls calls key = at_view calls key.view
+
+  -- the key at position `p` is the same as `key`
+  abbrev pub view_fits : Comparison → KeyView K ks → List ℕ → ℕ → Bool
+  view_fits same key b p = same (bytes_of key.view) (pos_of key.view) b p
+
+  -- a key matches, by `fits`, the keys that are the same
+  abbrev pub FitsSameKeys : Comparison → (KeyView K ks → List ℕ → ℕ → Bool) → Type 0
+  FitsSameKeys same fits = (key : KeyView K ks) (b : List ℕ) (p : ℕ)
+      → fits key b p ≡ view_fits same key b p

@@ -5,24 +5,22 @@ use Rattle.rkyv_base.specs.{AgreeOn, ElementSpec, ValidAt}
 
 -- a native key makes the calls of each archived key that represents it
 abbrev pub HashesAsWritten : {V : Type 0} → ElementSpec → (List ℕ → ℕ → V → Type 0)
-    → (List ℕ → ℕ → List HasherCall)
-    → (V → Type 0) → (V → List HasherCall) → Type 0
-HashesAsWritten {V = V} s represents key_calls can_read calls =
-    (v : V) (b : List ℕ) (p : ℕ) → can_read v → ValidAt s b p → represents b p v
+    → (List ℕ → ℕ → List HasherCall) → (V → List HasherCall) → Type 0
+HashesAsWritten {V = V} s represents key_calls calls =
+    (v : V) (b : List ℕ) (p : ℕ) → ValidAt s b p → represents b p v
     → calls v ≡ key_calls b p
 
 -- a query fits both of two keys that represent one value, or neither
-abbrev pub FitsByValue : {V Q : Type 0} → ElementSpec → (List ℕ → ℕ → V → Type 0) → (V → Type 0)
-    → (Q → Type 0) → (Q → List ℕ → ℕ → Bool) → Type 0
-FitsByValue {V = V} {Q = Q} s represents reads can_read fits =
-    (q : Q) (v : V) (b c : List ℕ) (p r : ℕ) → can_read q → reads v → ValidAt s b p
+abbrev pub FitsByValue : {V Q : Type 0} → ElementSpec → (List ℕ → ℕ → V → Type 0)
+    → (Q → List ℕ → ℕ → Bool) → Type 0
+FitsByValue {V = V} {Q = Q} s represents fits =
+    (q : Q) (v : V) (b c : List ℕ) (p r : ℕ) → ValidAt s b p
     → ValidAt s c r → represents b p v → represents c r v → fits q b p ≡ fits q c r
 
 -- whether a query fits a key depends only on the bytes of the key and on those of its parts
-abbrev pub RestsOnKeys : {Q : Type 0} → ElementSpec → (Q → Type 0) → (Q → List ℕ → ℕ → Bool)
-    → Type 0
-RestsOnKeys {Q = Q} s can_read fits =
-    (q : Q) (b c : List ℕ) (p lo hi l : ℕ) → can_read q → lo ≤ hi → hi ≤ p
+abbrev pub RestsOnKeys : {Q : Type 0} → ElementSpec → (Q → List ℕ → ℕ → Bool) → Type 0
+RestsOnKeys {Q = Q} s fits =
+    (q : Q) (b c : List ℕ) (p lo hi l : ℕ) → lo ≤ hi → hi ≤ p
     → s.is_valid b p lo hi l
     → AgreeOn b c p (p + s.size)
     → AgreeOn b c lo l → fits q c p ≡ fits q b p

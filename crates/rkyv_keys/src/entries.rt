@@ -6,7 +6,7 @@
 ghost use Rattle.std.specs.Prelude.{◌≡◌, IsTrue, ◌↔◌};
 ghost use Rattle.rkyv_base.specs.{AtView, IsValidView, PairRepresents, entry_spec};
 ghost use Rattle.rkyv_base.specs.Lemmas.Pairs.{pair_is_format};
-ghost use Rattle.rkyv_keys.specs.{BothRead, after_calls, at_view, at_views, entry_calls};
+ghost use Rattle.rkyv_keys.specs.{after_calls, at_view, at_views, entry_calls};
 ghost use Rattle.rkyv_keys.specs.{Deserializes, entry_deserialize_fails, entry_equals, entry_fits};
 ghost use Rattle.rkyv_keys.specs.{entry_same, pair_calls};
 ghost use Rattle.rkyv_keys.specs.Lemmas.Fixed.{entry_fixed};
@@ -26,8 +26,6 @@ use std::alloc::Global;
 
 impl<A: KeyHash, B: KeyHash> KeyHash for (A, B) {
     ghost calls = { pair_calls A.calls B.calls };
-
-    ghost can_read = { BothRead A.can_read B.can_read };
 
     #[inline]
     fn hash<H: KeyHasher>(&self, state: &mut H) {
@@ -79,8 +77,7 @@ impl<K: KeyElement, V: KeyElement, A: Query<K>, B: Query<V>> Query<Entry<K, V>> 
 
     #[inline]
     fn same(&self, key: View<'_, Entry<K, V>>) -> bool
-        requires query { BothRead A.can_read B.can_read self.now }
-        requires key { IsValidView (entry_spec K.spec V.spec) key }
+        requires { IsValidView (entry_spec K.spec V.spec) key }
         ensures { result ≡ at_view (entry_fits K.spec V.spec A.fits B.fits self.now) key.entry }
     {
         self.0.same(key.key()) && self.1.same(key.value())
@@ -97,8 +94,6 @@ impl<
 > NativeKey<Entry<K, V>> for (A, B) {
     ghost native = { entry_fits_its_equal K.laws V.laws
         K.represents V.represents A.eq B.eq A.fits B.fits A.native B.native };
-
-    ghost reads = { λ key. (A.reads key.0, B.reads key.1) };
 }
 
 impl<A, B, K: MatchesNative<A>, V: MatchesNative<B>> MatchesNative<(A, B)> for Entry<K, V> {

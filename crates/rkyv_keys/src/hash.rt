@@ -5,7 +5,6 @@
 ghost use Rattle.std.specs.Prelude.{◌≡◌, List, [], ◌∷◌};
 ghost use Rattle.rkyv_scan.specs.{HasherCall, Isize, Usize, hash_of_calls};
 ghost use Rattle.rkyv_keys.specs.Calls.{after_calls};
-ghost use Rattle.rkyv_keys.specs.Keys.{ReadsAnywhere};
 
 use rkyv_scan::KeyHasher;
 
@@ -28,24 +27,12 @@ pub trait KeyHash {
     // The calls, in order.
     ghost calls: { Self → List HasherCall };
 
-    // The condition under which the value can be read. For a view, it is that of a valid value.
-    ghost can_read: { Self → Type 0 } = { ReadsAnywhere };
-
     /// Feeds the value's calls to a hasher.
-    ///
-    /// # Requires
-    ///
-    /// - The value can be read.
     fn hash<H: KeyHasher>(&self, state: &mut H)
-        requires { can_read self.now }
         ensures { state.new ≡ after_calls H.hasher state.old (calls self.now) };
 }
 
 /// Returns the hash of a value by a new hasher.
-///
-/// # Requires
-///
-/// - The value can be read.
 ///
 /// # Examples
 ///
@@ -59,7 +46,6 @@ pub trait KeyHash {
 /// ```
 #[inline]
 pub fn hash_value<Q: KeyHash, H: KeyHasher + Default>(value: &Q) -> u64
-    requires { Q.can_read value.now }
     ensures { result ≡ hash_of_calls H.hasher (Q.calls value.now) }
 {
     let mut state = H::default();

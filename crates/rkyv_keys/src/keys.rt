@@ -75,14 +75,12 @@ pub trait Query<K: KeyElement>: KeyHash {
     ///
     /// # Requires
     ///
-    /// - The query can be read.
     /// - The view is of a valid key.
     fn same(&self, key: View<'_, K>) -> bool
-        requires query { Self.can_read self.now }
-        requires key { IsValidView K.spec key }
+        requires { IsValidView K.spec key }
         ensures { result ≡ at_view (fits self.now) key.entry };
 
-    ghost query: { IsQuery K.spec K.same K.key_calls Self.can_read Self.calls fits };
+    ghost query: { IsQuery K.spec K.same K.key_calls Self.calls fits };
 }
 
 /// A type whose values are archived as keys of the element `K`, and which look these up.
@@ -92,15 +90,10 @@ pub trait Query<K: KeyElement>: KeyHash {
 /// ```rust
 /// impl NativeKey<ArchivedSpot> for Spot {
 ///     ghost native = { spot_fits_its_equal };
-///
-///     ghost reads = { λ key. tt };
 /// }
 /// ```
 pub trait NativeKey<K: KeyElement + Represents<Self>>: Query<K> + Eq {
     ghost native: { FitsItsEqual K.spec K.represents Self.eq Self.fits };
-
-    // A native key can always be read.
-    ghost reads: { (key : Self) → Self.can_read key };
 }
 
 /// A query that matches an archived native key of type `A` if and only if they are equal.

@@ -7,12 +7,12 @@
 
 ghost use Rattle.std.specs.Prelude.{[], string_bytes, ◌++◌, ◌∷◌, ◌≡◌, ◌↔◌};
 ghost use Rattle.rkyv_scan.specs.{I16, I32, I64, I8, Isize, U16, U32, U64, U8, Usize};
-ghost use Rattle.rkyv_base.specs.{IsTextOf, IsValidView, SameValues, ScalarRepresents};
+ghost use Rattle.rkyv_base.specs.{IsTextOf, SameValues, ScalarRepresents};
 ghost use Rattle.rkyv_base.specs.{unit_represents};
-ghost use Rattle.rkyv_keys.specs.{BothRead, FitsByValue, FitsSameKeys, HashesAsWritten, HashesBy};
-ghost use Rattle.rkyv_keys.specs.{RestsOnKeys, SameComparison, SameErrors, at_view, bool_call};
+ghost use Rattle.rkyv_keys.specs.{FitsByValue, FitsSameKeys, HashesAsWritten, HashesBy};
+ghost use Rattle.rkyv_keys.specs.{RestsOnKeys, SameComparison, SameErrors, bool_call};
 ghost use Rattle.rkyv_keys.specs.{entry_deserialize_fails, entry_equals, entry_same};
-ghost use Rattle.rkyv_keys.specs.{nothing_fails, scalar_same, text_calls, text_fails, text_same};
+ghost use Rattle.rkyv_keys.specs.{nothing_fails, scalar_same, text_calls, text_fails, text_same, view_calls};
 ghost use Rattle.rkyv_keys.specs.{unit_same};
 
 use crate::debug::Shown;
@@ -21,32 +21,29 @@ use crate::equality::{ElementEq, MatchesNative};
 use crate::hash::KeyHash;
 use crate::keys::{KeyElement, NativeKey, Query};
 use crate::scalars::ScalarKey;
-use rkyv_base::{Entry, Represents, Text, View, Width};
+use crate::views::KeyView;
+use rkyv_base::{Entry, Represents, Text, Width};
 
 /// States that a native key makes the calls of each archived key that represents it.
 pub fn native_keys_hash_as_written<K: KeyElement + Represents<V>, V: NativeKey<K>>()
-    ensures { HashesAsWritten K.spec K.represents K.key_calls V.can_read V.calls }
+    ensures { HashesAsWritten K.spec K.represents K.key_calls V.calls }
 {}
 
 /// States that a query matches all archived keys of one native value, or none.
 pub fn queries_fit_by_value<K: KeyElement + Represents<V>, V: NativeKey<K>, Q: Query<K>>()
-    ensures { FitsByValue K.spec K.represents V.can_read Q.can_read Q.fits }
+    ensures { FitsByValue K.spec K.represents Q.fits }
 {}
 
 /// States that the keys that a query matches depend only on the bytes of the keys and their parts.
 pub fn queries_rest_on_keys<K: KeyElement, Q: Query<K>>()
-    ensures { RestsOnKeys K.spec Q.can_read Q.fits }
+    ensures { RestsOnKeys K.spec Q.fits }
 {}
 
 /// States that a view of a key is hashed as that key, and matches the keys that are the same as it.
-///
-/// It can be read if it is valid.
 pub fn views_match_same_keys<'a, K: KeyElement>()
-    ensures read { (view : _) →
-        ⟦<View<'a, K> as KeyHash>⟧.can_read view ↔ IsValidView K.spec view }
-    ensures hashed { (view : _) →
-        ⟦<View<'a, K> as KeyHash>⟧.calls view ≡ at_view K.key_calls view }
-    ensures matched { FitsSameKeys K.same ⟦<View<'a, K> as Query<K>>⟧.fits }
+    ensures hashed { (key : _) →
+        ⟦<KeyView<'a, K> as KeyHash>⟧.calls key ≡ view_calls K.key_calls key }
+    ensures matched { FitsSameKeys K.same ⟦<KeyView<'a, K> as Query<K>>⟧.fits }
 {}
 
 /// States that a number is hashed by the call of its own type.
@@ -79,13 +76,9 @@ pub fn texts_hash_by_their_bytes<'a>()
 {}
 
 /// States that a pair is hashed by the calls of its first value, and then those of its second.
-///
-/// It can be read if both values can.
 pub fn pairs_hash_in_order<A: KeyHash, B: KeyHash>()
-    ensures calls { (pair : _) →
+    ensures { (pair : _) →
         ⟦<(A, B) as KeyHash>⟧.calls pair ≡ A.calls pair.0 ++ B.calls pair.1 }
-    ensures read { (pair : _) →
-        ⟦<(A, B) as KeyHash>⟧.can_read pair ↔ BothRead A.can_read B.can_read pair }
 {}
 
 /// States when two archived scalars, unit values, texts or pairs are the same.

@@ -30,3 +30,4 @@ pub use equality::{
 pub use hash::{KeyHash, hash_value};
 pub use keys::{FixedKey, KeyElement, NativeKey, NativeQuery, Query};
 pub use scalars::ScalarKey;
+pub use views::KeyView;

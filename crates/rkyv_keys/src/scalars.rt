@@ -231,8 +231,6 @@ impl<N: ScalarKey> Query<N> for N {
 
 impl<N: ScalarKey> NativeKey<N> for N {
     ghost native = { scalar_fits_its_equal N.spec N.encoding N.eq };
-
-    ghost reads = { λ key. tt };
 }
 
 impl<N: ScalarKey> MatchesNative<N> for N {

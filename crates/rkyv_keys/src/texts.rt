@@ -105,14 +105,10 @@ impl<W: Width> Query<Text<W>> for String {
 
 impl<W: Width> NativeKey<Text<W>> for &str {
     ghost native = { text_fits_its_equal W.word (λ q. q.now) (λ q. q.now) };
-
-    ghost reads = { λ key. tt };
 }
 
 impl<W: Width> NativeKey<Text<W>> for String {
     ghost native = { text_fits_its_equal W.word (λ q. string_bytes q) (λ q. string_bytes q) };
-
-    ghost reads = { λ key. tt };
 }
 
 impl<W: Width> NativeQuery<String, Text<W>> for &str {

@@ -76,8 +76,6 @@ impl Query<()> for () {
 
 impl NativeKey<()> for () {
     ghost native = { unit_fits_its_equal };
-
-    ghost reads = { λ key. tt };
 }
 
 impl MatchesNative<()> for () {

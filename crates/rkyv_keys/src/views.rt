@@ -2,38 +2,34 @@
 //!
 //! A key of one map is thus looked up in another, without reading it back.
 
-ghost use Rattle.std.specs.Prelude.{◌≡◌};
+ghost use Rattle.std.specs.Prelude.{MatchResult, Ok, ◌≡◌, ⊤};
+ghost use Rattle.rkyv_base.specs.Lemmas.ElementSpec.{viewable_prop};
 ghost use Rattle.rkyv_base.specs.{IsValidView};
-ghost use Rattle.rkyv_keys.specs.{at_view, view_fits};
-ghost use Rattle.rkyv_keys.specs.Lemmas.OfViews.{view_query};
 
-use crate::hash::KeyHash;
-use crate::keys::{KeyElement, Query};
-use rkyv_base::View;
-use rkyv_scan::KeyHasher;
+mod query;
 
-impl<'a, K: KeyElement> KeyHash for View<'a, K> {
-    ghost calls = { at_view K.key_calls };
+use rkyv_base::{HasSpec, View};
+use std::alloc::AllocError;
 
-    ghost can_read = { IsValidView K.spec };
-
-    #[inline]
-    fn hash<H: KeyHasher>(&self, state: &mut H) {
-        K::hash_view(*self, state);
-    }
+/// A valid archived key, as a query for the keys that are the same.
+pub struct KeyView<'a, K: HasSpec> {
+    view: View<'a, K>,
+    ghost valid: { IsValidView K.spec view } by { viewable_prop K.spec K.laws view.archive.now
+        view.pos },
 }
 
-impl<'a, K: KeyElement> Query<K> for View<'a, K> {
-    ghost fits = { view_fits K.same };
-
+impl<'a, K: HasSpec> Clone for KeyView<'a, K> {
     #[inline]
-    fn same(&self, key: View<'_, K>) -> bool
-        requires query { IsValidView K.spec self.now }
-        requires key { IsValidView K.spec key }
-        ensures { result ≡ at_view (view_fits K.same self.now) key.entry }
+    fn clone(&self) -> Result<KeyView<'a, K>, AllocError>
+        ensures cases { MatchResult result (λ clone. clone ≡ self.now) (λ _. ¬ ⊤) }
+        ensures same { result ≡ Ok self.now }
     {
-        K::same(*self, key)
+        Ok(*self)
     }
 
-    ghost query = { view_query K.spec K.same K.key_calls K.equivalence K.key };
+    ghost is_clone = { λ key clone. clone ≡ key };
+
+    ghost is_infallible = { λ _. ⊤ };
 }
+
+impl<'a, K: HasSpec> Copy for KeyView<'a, K> {}

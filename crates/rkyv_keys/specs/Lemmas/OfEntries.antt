@@ -11,7 +11,6 @@ use Rattle.rkyv_base.specs.Lemmas.Entry.{same_parts}
 use Rattle.rkyv_keys.specs.Equality.{Comparison, EqualsUniquely, IsEquivalence, RepresentsUniquely}
 use Rattle.rkyv_keys.specs.Keys.{FitsItsEqual, IsKey, IsQuery}
 use Rattle.rkyv_keys.specs.OfEntries.{entry_calls, entry_equals, entry_fits, entry_same, pair_calls}
-use Rattle.rkyv_keys.specs.OfEntries.{BothRead}
 
 module _ {k v : ElementSpec} (kl : IsElement k) (vl : IsElement v) where
   pub valid_key : (b : List ℕ) (p : ℕ) → ValidAt (entry_spec k v) b p → ValidAt k b p
@@ -53,12 +52,12 @@ module _ {k v : ElementSpec} (kl : IsElement k) (vl : IsElement v) where
                 (vk.copied b c (p + off) h.1 hi l s.room h.3 s.value s.value_parts);
           }
 
-      module _ {A B : Type 0} {kr : A → Type 0} {vr : B → Type 0} {ac : A → List HasherCall} {bc : B
+      module _ {A B : Type 0} {ac : A → List HasherCall} {bc : B
           → List HasherCall}
           {kf : A → List ℕ → ℕ → Bool} {vf : B → List ℕ → ℕ → Bool} where
-        pub entry_query : IsQuery k ks kc kr ac kf → IsQuery v vs vc vr bc vf
+        pub entry_query : IsQuery k ks kc ac kf → IsQuery v vs vc bc vf
             → IsQuery (entry_spec k v) (entry_same k v ks vs) (entry_calls k v kc vc)
-            (BothRead kr vr) (pair_calls ac bc) (entry_fits k v kf vf)
+            (pair_calls ac bc) (entry_fits k v kf vf)
         entry_query kq vq = grind (arith, common_steps, and_parts, valid_key, valid_value)
 
   module _ {A B : Type 0} (key : List ℕ → ℕ → A → Type 0) (value : List ℕ → ℕ → B → Type 0) where

@@ -4,7 +4,7 @@ use Rattle.rkyv_scan.specs.{HasherCall, IsFixed}
 use Rattle.rkyv_base.specs.{ElementSpec, Encoding, IsScalar, ScalarRepresents, value_at}
 use Rattle.rkyv_base.specs.Lemmas.Scalar.{scalar_local}
 use Rattle.rkyv_keys.specs.{DecidesEquality, FitsItsEqual, IsEquivalence, IsKey, IsQuery}
-use Rattle.rkyv_keys.specs.{MakesFixedCalls, ReadsAnywhere, one_call, scalar_calls, scalar_fits}
+use Rattle.rkyv_keys.specs.{MakesFixedCalls, one_call, scalar_calls, scalar_fits}
 use Rattle.rkyv_keys.specs.{scalar_same}
 use Rattle.rkyv_keys.specs.Lemmas.Fixed.{one_fixed}
 use Rattle.rkyv_keys.specs.Lemmas.OfValues.{value_equivalence, value_fits_its_equal, value_key}
@@ -31,6 +31,6 @@ module _ {V : Type 0} (s : ElementSpec) (e : Encoding V) where
       scalar_key call laws = grind (arith, common_steps, value_key, scalar_local)
 
       pub scalar_query : (call : V → HasherCall)
-          → IsQuery s (scalar_same e equal) (scalar_calls e call) ReadsAnywhere
+          → IsQuery s (scalar_same e equal) (scalar_calls e call)
           (one_call call) (scalar_fits e equal)
       scalar_query call = grind (arith, common_steps, value_query)

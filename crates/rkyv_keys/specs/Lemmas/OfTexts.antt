@@ -7,7 +7,7 @@ use Rattle.std.specs.Cmp.Lexicographic.{bytes_decides}
 use Rattle.rkyv_base.specs.{IsTextOf, text_at, text_spec}
 use Rattle.rkyv_base.specs.Lemmas.Text.{text_local}
 use Rattle.rkyv_keys.specs.{FitsItsEqual, IsEquivalence, IsKey, IsQuery, MakesFixedCalls}
-use Rattle.rkyv_keys.specs.{ReadsAnywhere, RepresentsUniquely, same_bytes, text_calls, text_fits}
+use Rattle.rkyv_keys.specs.{RepresentsUniquely, same_bytes, text_calls, text_fits}
 use Rattle.rkyv_keys.specs.{text_key_calls, text_same}
 use Rattle.rkyv_keys.specs.Lemmas.QueryLaws.{native_once}
 use Rattle.rkyv_keys.specs.Lemmas.Fixed.{text_fixed}
@@ -34,7 +34,7 @@ module _ (w : Width) where
   text_fits_its_equal = value_fits_its_equal (text_spec w) (text_at w) same_bytes
 
   module _ {Q : Type 0} (as_value : Q → List ℕ) where
-    pub text_query : IsQuery (text_spec w) (text_same w) (text_key_calls w) ReadsAnywhere
+    pub text_query : IsQuery (text_spec w) (text_same w) (text_key_calls w)
         (λ q. text_calls (as_value q)) (text_fits w as_value)
     text_query = value_query (text_spec w) (text_at w) same_bytes bytes_decides text_calls as_value
 

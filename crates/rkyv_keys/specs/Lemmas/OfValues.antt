@@ -6,7 +6,7 @@ use Rattle.std.proofs.lemmas.Grind.{common_steps}
 use Rattle.rkyv_scan.specs.{HasherCall}
 use Rattle.rkyv_base.specs.{ElementSpec, RepresentsLocally}
 use Rattle.rkyv_keys.specs.Equality.{DecidesEquality, IsEquivalence}
-use Rattle.rkyv_keys.specs.Keys.{FitsItsEqual, IsKey, IsQuery, ReadsAnywhere}
+use Rattle.rkyv_keys.specs.Keys.{FitsItsEqual, IsKey, IsQuery}
 use Rattle.rkyv_keys.specs.OfValues.{ValueRepresents, value_calls, value_fits, values_same}
 
 module _ {V : Type 0} (s : ElementSpec) (value_at : List ℕ → ℕ → V) (equal : V → V → Bool)
@@ -32,7 +32,7 @@ module _ {V : Type 0} (s : ElementSpec) (value_at : List ℕ → ℕ → V) (equ
     }
 
     pub value_query : {Q : Type 0} (as_value : Q → V)
-        → IsQuery s (values_same value_at equal) (value_calls value_at calls) ReadsAnywhere
+        → IsQuery s (values_same value_at equal) (value_calls value_at calls)
         (λ q. calls (as_value q)) (value_fits value_at equal as_value)
     value_query as_value = grind (arith, common_steps, same_value)
 

@@ -15,28 +15,28 @@ hash_local hasher key b c q lo hi l o is_valid fixed part = grind (arith, common
 
 module _ {V : Type 0} (s : ElementSpec) (same : Comparison) (key_calls : List ℕ → ℕ
     → List HasherCall)
-    (reads : V → Type 0) (calls : V → List HasherCall) (fits : V → List ℕ → ℕ → Bool)
+    (calls : V → List HasherCall) (fits : V → List ℕ → ℕ → Bool)
     (represents : List ℕ → ℕ → V → Type 0) (equal : V → V → Bool) (itself : (v : V)
     → equal v v ≡ true)
-    (query : IsQuery s same key_calls reads calls fits)
+    (query : IsQuery s same key_calls calls fits)
     (native : FitsItsEqual s represents equal fits) where
   fits_written : (v : V) (b : List ℕ) (p : ℕ) → ValidAt s b p → represents b p v → fits v b p ≡ true
   fits_written v b p h st = native v v b p h st ∙ itself v
 
-  pub hashes_as_written : HashesAsWritten s represents key_calls reads calls
-  hashes_as_written v b p r h st = query.same_calls v b p r h (fits_written v b p h st)
+  pub hashes_as_written : HashesAsWritten s represents key_calls calls
+  hashes_as_written v b p h st = query.same_calls v b p h (fits_written v b p h st)
 
   -- two keys that represent one value are the same
-  pub same_written : (v : V) (b c : List ℕ) (p r : ℕ) → reads v → ValidAt s b p → ValidAt s c r
+  pub same_written : (v : V) (b c : List ℕ) (p r : ℕ) → ValidAt s b p → ValidAt s c r
       → represents b p v → represents c r v → same b p c r ≡ true
-  same_written v b c p r ready h g st tt' = grind (arith, common_steps, fits_written)
+  same_written v b c p r h g st tt' = grind (arith, common_steps, fits_written)
 
-  module _ {Q : Type 0} (can_read : Q → Type 0) (q_calls : Q → List HasherCall) (q_fits : Q → List ℕ
+  module _ {Q : Type 0} (q_calls : Q → List HasherCall) (q_fits : Q → List ℕ
       → ℕ → Bool)
-      (laws : IsQuery s same key_calls can_read q_calls q_fits)
+      (laws : IsQuery s same key_calls q_calls q_fits)
       (equivalence : IsEquivalence s same) where
-    pub fits_by_value : FitsByValue s represents reads can_read q_fits
-    fits_by_value q v b c p r ready can' h g st st' =
+    pub fits_by_value : FitsByValue s represents q_fits
+    fits_by_value q v b c p r h g st st' =
         grind (arith, common_steps, same_written, same_from_decides)
 
 -- the native values that one key represents are equal
@@ -56,10 +56,10 @@ valid_before laws b p lo hi l o before h =
 
 -- a query depends on the keys alone, since a copy of a key is the same as the key
 pub rests_on_keys : {Q : Type 0} {s : ElementSpec} {same : Comparison}
-    {key_calls : List ℕ → ℕ → List HasherCall} {can_read : Q → Type 0} {calls : Q → List HasherCall}
+    {key_calls : List ℕ → ℕ → List HasherCall} {calls : Q → List HasherCall}
     {fits : Q → List ℕ → ℕ → Bool} → IsElement s → IsEquivalence s same → IsKey s same key_calls
-    → IsQuery s same key_calls can_read calls fits → RestsOnKeys s can_read fits
-rests_on_keys {s = s} {same = same} {fits = fits} laws equivalence key query q b c p lo hi l ready o
+    → IsQuery s same key_calls calls fits → RestsOnKeys s fits
+rests_on_keys {s = s} {same = same} {fits = fits} laws equivalence key query q b c p lo hi l o
     before h fixed part =
     let st : ValidAt s b p = valid_before laws b p lo hi l o before h in
     let st' : ValidAt s c p = valid_before laws c p lo hi l o before
@@ -67,7 +67,7 @@ rests_on_keys {s = s} {same = same} {fits = fits} laws equivalence key query q b
     let there : same b p c p ≡ true = key.copied b c p lo hi l o h fixed part in
     let back : same c p b p ≡ true = equivalence.symmetric b c p p st st' there in
     same_from_decides (fits q c p) (fits q b p) (
-      λ x. query.respects_same q c b p p ready st' st x ∙ back,
-      λ x. query.respects_same q b c p p ready st st' x ∙ there,
+      λ x. query.respects_same q c b p p st' st x ∙ back,
+      λ x. query.respects_same q b c p p st st' x ∙ there,
     )
     (λ x. x, λ x. x)
