@@ -42,8 +42,8 @@ unfoldable pub use NativeFormats.{queried}
 pub use NativeFormats.{KeyFormat, PairFormat, Queried}
 unfoldable pub use Natives.{native_keys, native_pairs}
 pub use Natives.{NativeKeys, NativePairs}
-unfoldable pub use OfEntries.{entry_calls, entry_deserialize_fails, entry_equals}
-unfoldable pub use OfEntries.{entry_fits, entry_same, pair_calls}
+unfoldable pub use OfEntries.{entry_calls, entry_deserialize_fails, entry_equals, entry_fits}
+unfoldable pub use OfEntries.{entry_same, pair_calls}
 unfoldable pub use OfScalars.{one_call, scalar_calls, scalar_fits, scalar_same}
 unfoldable pub use OfTexts.{same_bytes, text_fits, text_key_calls, text_same}
 unfoldable pub use OfUnits.{no_calls, unit_at, unit_calls, unit_fits, unit_same, units_equal}

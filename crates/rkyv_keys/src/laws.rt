@@ -7,13 +7,12 @@
 
 ghost use Rattle.std.specs.Prelude.{[], string_bytes, ◌++◌, ◌∷◌, ◌≡◌, ◌↔◌};
 ghost use Rattle.rkyv_scan.specs.{I16, I32, I64, I8, Isize, U16, U32, U64, U8, Usize};
-ghost use Rattle.rkyv_base.specs.{IsTextOf, SameValues, ScalarRepresents};
-ghost use Rattle.rkyv_base.specs.{unit_represents};
+ghost use Rattle.rkyv_base.specs.{IsTextOf, SameValues, ScalarRepresents, unit_represents};
 ghost use Rattle.rkyv_keys.specs.{FitsByValue, FitsSameKeys, HashesAsWritten, HashesBy};
 ghost use Rattle.rkyv_keys.specs.{RestsOnKeys, SameComparison, SameErrors, bool_call};
 ghost use Rattle.rkyv_keys.specs.{entry_deserialize_fails, entry_equals, entry_same};
-ghost use Rattle.rkyv_keys.specs.{nothing_fails, scalar_same, text_calls, text_fails, text_same, view_calls};
-ghost use Rattle.rkyv_keys.specs.{unit_same};
+ghost use Rattle.rkyv_keys.specs.{nothing_fails, scalar_same, text_calls, text_fails, text_same};
+ghost use Rattle.rkyv_keys.specs.{unit_same, view_calls};
 
 use crate::debug::Shown;
 use crate::deserialize::Deserialize;
@@ -22,7 +21,7 @@ use crate::hash::KeyHash;
 use crate::keys::{KeyElement, NativeKey, Query};
 use crate::scalars::ScalarKey;
 use crate::views::KeyView;
-use rkyv_base::{Entry, Represents, Text, Width};
+use rkyv_base::{Entry, HasSpec, Represents, Text, Width};
 
 /// States that a native key makes the calls of each archived key that represents it.
 pub fn native_keys_hash_as_written<K: KeyElement + Represents<V>, V: NativeKey<K>>()
@@ -132,4 +131,11 @@ pub fn shown_values_are_cloned<'a, T>()
     ensures same { (shown clone : _) → ⟦<Shown<'a, T> as Clone>⟧.is_clone shown clone
         ↔ (clone ≡ shown) }
     ensures infallible { (shown : _) → ⟦<Shown<'a, T> as Clone>⟧.is_infallible shown }
+{}
+
+/// States that the clone of an archived key as a query is that key, and that cloning can't fail.
+pub fn key_views_are_cloned<'a, K: HasSpec>()
+    ensures same { (key clone : _) → ⟦<KeyView<'a, K> as Clone>⟧.is_clone key clone
+        ↔ (clone ≡ key) }
+    ensures infallible { (key : _) → ⟦<KeyView<'a, K> as Clone>⟧.is_infallible key }
 {}
