@@ -3,9 +3,9 @@
 //! They say by which parts a value is archived, represented, compared and hashed, and with which
 //! errors it fails to deserialize.
 
-ghost use Rattle.std.specs.Prelude.{◌&&◌, ◌++◌, ◌↔◌, ◌≡◌};
+ghost use Rattle.std.specs.Prelude.{◌&&◌, ◌++◌, ◌≡◌};
 ghost use Rattle.rkyv_base.specs.{SameFormat, SameValues, pair_format, written_as};
-ghost use Rattle.rkyv_keys.specs.{BothRead, SameErrors, entry_deserialize_fails};
+ghost use Rattle.rkyv_keys.specs.{SameErrors, entry_deserialize_fails};
 ghost use Rattle.rkyv_user_types.specs.{RepresentsAsPair, equals_as};
 
 use crate::pair::{AsPair, FromPair, PairEntry};
@@ -46,10 +46,8 @@ pub fn pairs_are_compared_as_their_parts<
 
 /// States that a `PairEntry` is hashed by the calls of its first part, and then of its second.
 pub fn pairs_hash_as_their_parts<A: KeyHash, B: KeyHash, T: AsPair<First = A, Second = B>>()
-    ensures calls { (x : _) → ⟦<PairEntry<T> as KeyHash>⟧.calls x
+    ensures { (x : _) → ⟦<PairEntry<T> as KeyHash>⟧.calls x
         ≡ A.calls (T.pair x.0).0 ++ B.calls (T.pair x.0).1 }
-    ensures read { (x : _) → ⟦<PairEntry<T> as KeyHash>⟧.can_read x
-        ↔ BothRead A.can_read B.can_read (T.pair x.0) }
 {}
 
 /// States that std hashes the first part of a `PairEntry`, and then the second.
@@ -106,10 +104,8 @@ pub fn tuples_hash_as_their_parts<
     B: KeyHash + Drop,
     T: AsTuple<First = A, Second = B>,
 >()
-    ensures calls { (x : _) → ⟦<TupleEntry<T> as KeyHash>⟧.calls x
+    ensures { (x : _) → ⟦<TupleEntry<T> as KeyHash>⟧.calls x
         ≡ A.calls (T.tuple x.0).0 ++ B.calls (T.tuple x.0).1 }
-    ensures read { (x : _) → ⟦<TupleEntry<T> as KeyHash>⟧.can_read x
-        ↔ BothRead A.can_read B.can_read (T.tuple x.0) }
 {}
 
 /// States that std hashes the first part of a `TupleEntry`, and then the second.

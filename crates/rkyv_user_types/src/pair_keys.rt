@@ -4,8 +4,8 @@ ghost use Rattle.std.specs.Prelude.{◌&&◌, ◌++◌, ◌↔◌, ◌≡◌, Is
 ghost use Rattle.std.proofs.Common.{rules};
 ghost use Rattle.std.specs.Cmp.{and_equiv, and_per, on_equiv, on_per};
 ghost use Rattle.rkyv_base.specs.{AtView, IsValidView, entry_spec};
-ghost use Rattle.rkyv_keys.specs.{BothRead, Deserializes, at_view, entry_deserialize_fails};
-ghost use Rattle.rkyv_keys.specs.{entry_fits, pair_calls};
+ghost use Rattle.rkyv_keys.specs.{Deserializes, at_view, entry_deserialize_fails, entry_fits};
+ghost use Rattle.rkyv_keys.specs.{pair_calls};
 ghost use Rattle.rkyv_keys.specs.Lemmas.OfEntries.{entry_equals_once, entry_fits_its_equal};
 ghost use Rattle.rkyv_keys.specs.Lemmas.OfEntries.{entry_once, entry_query};
 ghost use Rattle.rkyv_user_types.specs.{RepresentsAsPair, equals_as};
@@ -57,8 +57,6 @@ impl<A: Hash, B: Hash, T: AsPair<First = A, Second = B>> Hash for PairEntry<T> {
 impl<A: KeyHash, B: KeyHash, T: AsPair<First = A, Second = B>> KeyHash for PairEntry<T> {
     ghost calls = { λ x. pair_calls A.calls B.calls (T.pair x.0) };
 
-    ghost can_read = { λ x. BothRead A.can_read B.can_read (T.pair x.0) };
-
     #[inline]
     fn hash<H: KeyHasher>(&self, state: &mut H) {
         self.0.first().hash(state);
@@ -77,8 +75,7 @@ impl<
 
     #[inline]
     fn same(&self, key: View<'_, Entry<K, V>>) -> bool
-        requires query { BothRead A.can_read B.can_read (T.pair self.now.0) }
-        requires key { IsValidView (entry_spec K.spec V.spec) key }
+        requires { IsValidView (entry_spec K.spec V.spec) key }
         ensures { result
             ≡ at_view (entry_fits K.spec V.spec A.fits B.fits (T.pair self.now.0)) key.entry }
     {
@@ -97,8 +94,6 @@ impl<
 > NativeKey<Entry<K, V>> for PairEntry<T> {
     ghost native = { λ x y. entry_fits_its_equal K.laws V.laws K.represents V.represents A.eq B.eq
         A.fits B.fits A.native B.native (T.pair x.0) (T.pair y.0) };
-
-    ghost reads = { λ x. (A.reads (T.pair x.0).0, B.reads (T.pair x.0).1) };
 }
 
 impl<

@@ -23,9 +23,9 @@ pair_as_format as_value {k} {v} kl vl {key} {value} {kf} {vf} kw vw =
 pub query_as : {X Q : Type 0} (as_value : X
     → Q) {s : ElementSpec} {same : Comparison} {key_calls : List ℕ
     → ℕ → List HasherCall}
-    {can_read : Q → Type 0} {calls : Q → List HasherCall} {fits : Q → List ℕ → ℕ → Bool}
-    → IsQuery s same key_calls can_read calls fits
-    → IsQuery s same key_calls (λ x. can_read (as_value x)) (λ x. calls (as_value x))
+    {calls : Q → List HasherCall} {fits : Q → List ℕ → ℕ → Bool}
+    → IsQuery s same key_calls calls fits
+    → IsQuery s same key_calls (λ x. calls (as_value x))
     (λ x. fits (as_value x))
 query_as as_value laws = record {
   same_calls = λ x. laws.same_calls (as_value x);
