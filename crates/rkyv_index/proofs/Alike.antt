@@ -9,7 +9,6 @@ use Rattle.rkyv_base.specs.{ElementSpec, IsArchiveWord, IsElement, ValidAt, View
 use Rattle.rkyv_base.specs.Lemmas.Entry.{entry_element}
 use Rattle.rkyv_keys.specs.{Comparison, IsQuery, MakesFixedCalls, fx_hash_at}
 use Rattle.rkyv_keys.specs.Lemmas.OfEntries.{valid_key}
-use Rattle.rkyv_keys.specs.declared.hash.KeyHash.{Ghosts as KeyHashes}
 use Rattle.rkyv_table.specs.{len_at}
 use Rattle.rkyv_index.specs.{IndexWrittenAt, QueriedAlike, WrittenAlike, fits_in, index_found, index_spec, indices_of, pair_at}
 use Rattle.rkyv_index.specs.Lemmas.IndexLocal.{written_again}
@@ -25,14 +24,14 @@ module _ (w : Width) (kind : IsArchiveWord w) (k v : ElementSpec) (kl : IsElemen
   written_alike one other b p homes view = search (rules, written_again, fixed_alike, key_there)
 
   -- under either hasher, a query finds the first index whose key it fits
-  pub queried_alike : {Q : Type 0} (same : Comparison) (queries : KeyHashes Q) (fits : Q → List ℕ → ℕ → Bool) → IsQuery k same key_calls queries.can_read queries.calls fits
-      → QueriedAlike w k v key_calls queries fits
-  queried_alike same queries fits is one other b p homes view written query ready =
+  pub queried_alike : {Q : Type 0} (same : Comparison) (calls : Q → List HasherCall) (fits : Q → List ℕ → ℕ → Bool) → IsQuery k same key_calls calls fits
+      → QueriedAlike w k v key_calls calls fits
+  queried_alike same calls fits is one other b p homes view written query =
       first one written ∙ sym (first other (written_alike one other b p homes view written))
     where
       first : (sizes : SizeWords) → IndexWrittenAt w (entry_spec k v).size (fx_hash_at sizes key_calls) b p homes
-          → index_found w b p (fx_hash sizes (queries.calls query)) (fits_in w k v b p (fits query)) ≡ find (fits_in w k v b p (fits query)) (indices_of (len_at w b p))
+          → index_found w b p (fx_hash sizes (calls query)) (fits_in w k v b p (fits query)) ≡ find (fits_in w k v b p (fits query)) (indices_of (len_at w b p))
       first sizes there =
-          first_index w (entry_spec k v).size (fx_hash_at sizes key_calls) b p homes there (fx_hash sizes (queries.calls query)) (fits_in w k v b p (fits query))
-          (λ i below accepted. ap (fx_hash sizes) (sym (is.same_calls query b (pair_at w k v b p i) ready (key_there b p view i below) accepted)))
-          (fx_fits sizes (queries.calls query))
+          first_index w (entry_spec k v).size (fx_hash_at sizes key_calls) b p homes there (fx_hash sizes (calls query)) (fits_in w k v b p (fits query))
+          (λ i below accepted. ap (fx_hash sizes) (sym (is.same_calls query b (pair_at w k v b p i) (key_there b p view i below) accepted)))
+          (fx_fits sizes (calls query))

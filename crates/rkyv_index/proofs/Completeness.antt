@@ -36,8 +36,8 @@ none_kept P a (suc n) e i from to = elim (cases_Bool (P a)) [
 ]
 
 module _ {K Q : Type 0} (m : Index K) (kind : IsArchiveWord m.word) (kl : IsElement m.key) (vl : IsElement m.value)
-    {State : Type 0} (hasher : Hasher State) (same : Comparison) (key_calls : List ℕ → ℕ → List HasherCall) (can_read : Q → Type 0) (calls : Q → List HasherCall) (fits : Q → List ℕ → ℕ → Bool)
-    (query : IsQuery m.key same key_calls can_read calls fits) (view : Viewable (index_spec m.word (entry_spec m.key m.value)) m.bytes m.pos) (q : Q) (ready : can_read q)
+    {State : Type 0} (hasher : Hasher State) (same : Comparison) (key_calls : List ℕ → ℕ → List HasherCall) (calls : Q → List HasherCall) (fits : Q → List ℕ → ℕ → Bool)
+    (query : IsQuery m.key same key_calls calls fits) (view : Viewable (index_spec m.word (entry_spec m.key m.value)) m.bytes m.pos) (q : Q)
     (small : hash_of_calls hasher (calls q) < 2 ^ 64) (none : index_misplaced m (hash_at hasher key_calls) same ≡ 0) where
   abbrev w : Width
   w = m.word
@@ -102,8 +102,8 @@ module _ {K Q : Type 0} (m : Index K) (kind : IsArchiveWord m.word) (kl : IsElem
       let own = own_found m (hash_at hasher key_calls) same in
       let P : ℕ → Bool = λ j. not (is_found_at j (own j)) in
       let own_result = found_at_is i (own i) (not-false (is_found_at i (own i)) (none_kept P 0 len none i (omega arith) (omega (arith, below)))) in
-      let same_hash : hash_of_calls hasher (calls q) ≡ hash_at hasher key_calls b (at i) = ap (hash_of_calls hasher) (query.same_calls q b (at i) ready (key_valid i below) ok) in
-      let agree : (j : ℕ) → j < len → accept j ≡ same b (at i) b (at j) = λ j less. query.respects_same q b b (at i) (at j) ready (key_valid i below) (key_valid j less) ok in
+      let same_hash : hash_of_calls hasher (calls q) ≡ hash_at hasher key_calls b (at i) = ap (hash_of_calls hasher) (query.same_calls q b (at i) (key_valid i below) ok) in
+      let agree : (j : ℕ) → j < len → accept j ≡ same b (at i) b (at j) = λ j less. query.respects_same q b b (at i) (at j) (key_valid i below) (key_valid j less) ok in
       let of : Option ℕ → Option ℕ = λ o. option_map (number_at w b) (option_map (item_at w (byte_len w) b p) o) in
       let lookup = found_same w b b p refl refl (stored_index_spec w) (stored_index_element w kind) (table_there w kind s law b p view) (hash_of_calls hasher (calls q)) small (λ j. accept (read j)) (λ j. same b (at i) b (at (read j)))
       (λ j there. agree (read j) (index_below w kind s law b p view j there)) in

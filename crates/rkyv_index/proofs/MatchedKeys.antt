@@ -24,8 +24,8 @@ first_up_to P n i below ok None h = absurd (both_ways (P i) (none_each P n h i b
 first_up_to P n i below ok (Some j) h = grind (arith, common_steps, first_range, cases_lt, both_ways)
 
 module _ {K V H W Q State : Type 0} {ks : Specs K} {vs : Specs V} {wt : Words W} (m : ArchivedIndexMap K V H W ks vs wt)
-    (hasher : Hasher State) (same : Comparison) (key_calls : List ℕ → ℕ → List HasherCall) (can_read : Q → Type 0) (calls : Q → List HasherCall) (fits : Q → List ℕ → ℕ → Bool)
-    (query : IsQuery ks.spec same key_calls can_read calls fits) (q : Q) (ready : can_read q) (small : hash_of_calls hasher (calls q) < 2 ^ 64) where
+    (hasher : Hasher State) (same : Comparison) (key_calls : List ℕ → ℕ → List HasherCall) (calls : Q → List HasherCall) (fits : Q → List ℕ → ℕ → Bool)
+    (query : IsQuery ks.spec same key_calls calls fits) (q : Q) (small : hash_of_calls hasher (calls q) < 2 ^ 64) where
   abbrev accept : ℕ → Bool
   accept = fits_at (index_of m) (fits q)
 
@@ -43,7 +43,7 @@ module _ {K V H W Q State : Type 0} {ks : Specs K} {vs : Specs V} {wt : Words W}
       → FindsSameKey (index_of m) same i (index_found wt.word (index_bytes m) (index_pos m) (hash_of_calls hasher (calls q)) accept)
   finds_same_key homes written i below ok =
       let size = (entry_spec ks.spec vs.spec).size in
-      let under = query_under_hash m hasher same key_calls can_read calls fits query q ready in
+      let under = query_under_hash m hasher same key_calls calls fits query q in
       let first = first_index wt.word size (hash_at hasher key_calls) (index_bytes m) (index_pos m) homes written (hash_of_calls hasher (calls q)) accept under small in
       let f = first_up_to accept (index_len m) i below ok (find accept (range_with_len 0 (index_len m))) refl in
       let there : f.0 < index_len m = omega (arith, below, f.2) in

@@ -12,8 +12,8 @@ use Rattle.rkyv_index.proofs.Completeness.{finds_the_one}
 use Rattle.rkyv_index.proofs.Queries.{compares_fits, query_under_hash}
 
 module _ {K V H W Q State : Type 0} {ks : Specs K} {vs : Specs V} {wt : Words W} (m : ArchivedIndexMap K V H W ks vs wt)
-    (hasher : Hasher State) (same : Comparison) (key_calls : List ℕ → ℕ → List HasherCall) (can_read : Q → Type 0) (calls : Q → List HasherCall) (fits : Q → List ℕ → ℕ → Bool)
-    (query : IsQuery ks.spec same key_calls can_read calls fits) (q : Q) (ready : can_read q) (small : hash_of_calls hasher (calls q) < 2 ^ 64)
+    (hasher : Hasher State) (same : Comparison) (key_calls : List ℕ → ℕ → List HasherCall) (calls : Q → List HasherCall) (fits : Q → List ℕ → ℕ → Bool)
+    (query : IsQuery ks.spec same key_calls calls fits) (q : Q) (small : hash_of_calls hasher (calls q) < 2 ^ 64)
     (post : View K → Bool → Type 0) (returns_fits : (key : View K) (r : Bool) → post key r → r ≡ fits q (bytes_of key) (pos_of key)) (result : Option ℕ) where
   pub query_index : GetsBy index_part m (hash_of hasher calls q) (hash_at hasher key_calls) post result → GetsKey index_part m (query_of hasher key_calls same (calls q) (fits q)) result
   query_index got =
@@ -23,11 +23,11 @@ module _ {K V H W Q State : Type 0} {ks : Specs K} {vs : Specs V} {wt : Words W}
       record {
         walked = got.walked;
         finds = found;
-        first = got.first accept compares (query_under_hash m hasher same key_calls can_read calls fits query q ready);
+        first = got.first accept compares (query_under_hash m hasher same key_calls calls fits query q);
         complete = λ none. (
           result,
           subst (FindsTheOne (index_len m) accept) (sym found)
-              (finds_the_one (index_of m) wt.kind ks.laws vs.laws hasher same key_calls can_read calls fits query m.valid q ready small none),
+              (finds_the_one (index_of m) wt.kind ks.laws vs.laws hasher same key_calls calls fits query m.valid q small none),
           refl,
         );
       }

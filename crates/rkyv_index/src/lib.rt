@@ -33,6 +33,7 @@ pub use lists::{OrderedItems, OrderedPairs};
 pub use map::read::iter::{Iter, Keys, Values};
 pub use map::write::resolve::IndexMapResolver;
 pub use map::{ArchivedIndexMap, IndexMapOf};
+pub use rkyv_keys::KeyView;
 pub use rkyv_keys::keys::{KeyElement, NativeKey, NativeQuery, Query};
 pub use rkyv_scan::hash::{FxHasher64, FxHasher64Wide, KeyHasher};
 pub use rkyv_table::{Decoded, Strides};

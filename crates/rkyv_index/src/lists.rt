@@ -85,8 +85,8 @@ where
         (listed-format W.MAX_CAPACITY (7, 8) spec represents format
         (index_sound (fx_hasher low_halves) W.word W.layout.kind W.Index.spec W.Index.encoding
         W.Index.HasSpec.laws W.Index.Scalar.laws W.index W.reads_back
-        A.Archived.laws B.Archived.laws (7, 8) A.query A.native A.Eq.laws.refl A.reads
-        A.Archive.laws B.laws)) };
+        A.Archived.laws B.Archived.laws (7, 8) A.query A.native A.Eq.laws.refl A.Archive.laws
+        B.laws)) };
 }
 
 impl<S: Writer, W: IndexWidth, A: Serialize<S, W>, B: Serialize<S, W>> Serialize<S, W>
@@ -163,7 +163,7 @@ where
         (index_set_sound (fx_hasher low_halves) W.word W.layout.kind A.Archived.laws
         (7, 8) W.Index.spec W.Index.encoding W.Index.HasSpec.laws W.Index.Scalar.laws W.index
         W.reads_back
-        A.query A.native A.Eq.laws.refl A.reads A.Archive.laws)) };
+        A.query A.native A.Eq.laws.refl A.Archive.laws)) };
 }
 
 impl<S: Writer, W: IndexWidth, A: Serialize<S, W>> Serialize<S, W> for OrderedItems<A>

@@ -355,17 +355,17 @@ module _ {State : Type 0} (hasher : Hasher State)
     → Type 0} {value : List ℕ → ℕ → B → Type 0} {same : Comparison} {key_calls : List ℕ → ℕ
     → List HasherCall} (factor : ℕ × ℕ) where
   -- the same for the hashes of native keys
-  pub index_sound : {can_read : A → Type 0} {calls : A → List HasherCall} {fits : A → List ℕ → ℕ
+  pub index_sound : {calls : A → List HasherCall} {fits : A → List ℕ → ℕ
       → Bool} {equal : A → A → Bool} {R Q : Type 0} {kf : Format A R} {vf : Format B Q}
-      → IsQuery k same key_calls can_read calls fits → FitsItsEqual k key equal fits
-      → ((a : A) → equal a a ≡ true) → ((a : A) → can_read a)
+      → IsQuery k same key_calls calls fits → FitsItsEqual k key equal fits
+      → ((a : A) → equal a a ≡ true)
       → IsFormat k key kf → IsFormat v value vf
       → IsFormat (index_spec w (entry_spec k v)) (IndexRepresents w k v key value
       (hash_at hasher key_calls) factor) (index_format w ps e k v kf vf
       (hash_of hasher calls) factor)
-  index_sound {can_read} {calls} {fits} {equal} {R} {Q} {kf} {vf} query native itself reads kw vw =
+  index_sound {calls} {fits} {equal} {R} {Q} {kf} {vf} query native itself kw vw =
       index_is_format w kind ps e pe pk index back k v kl vl key value kf vf kw vw
       (hash_of hasher calls) (hash_at hasher key_calls)
       (λ a b q valid there. ap (hash_of_calls hasher) (hashes_as_written k same
-      key_calls can_read calls fits key equal itself query native a b q (reads a) valid there))
+      key_calls calls fits key equal itself query native a b q valid there))
       factor

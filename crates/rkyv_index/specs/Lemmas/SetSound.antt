@@ -30,16 +30,16 @@ module _ {State : Type 0} (hasher : Hasher State)
   -- in any archive that has them
   pub index_set_sound : {P : Type 0} (ps : ElementSpec) (e : Encoding P) → IsElement ps
       → IsScalar ps e → IsIndexEncoding w e → CodesReadBack e
-      → {can_read : A → Type 0} {calls : A → List HasherCall} {fits : A → List ℕ → ℕ → Bool}
+      → {calls : A → List HasherCall} {fits : A → List ℕ → ℕ → Bool}
       {equal : A → A → Bool} {R : Type 0} {kf : Format A R}
-      → IsQuery k same key_calls can_read calls fits → FitsItsEqual k key equal fits
-      → ((a : A) → equal a a ≡ true) → ((a : A) → can_read a) → IsFormat k key kf
+      → IsQuery k same key_calls calls fits → FitsItsEqual k key equal fits
+      → ((a : A) → equal a a ≡ true) → IsFormat k key kf
       → IsFormat (index_set_spec w k) (IndexSetRepresents w k key (hash_at hasher key_calls) factor)
       (index_set_format w ps e k kf (hash_of hasher calls) factor)
-  index_set_sound ps e pe pk index back {can_read} {calls} {fits} {equal} {R} {kf} query native
-      itself reads kw =
+  index_set_sound ps e pe pk index back {calls} {fits} {equal} {R} {kf} query native
+      itself kw =
       written_as-format with_units (index_set_spec w k)
       (IndexRepresents w k unit_spec key unit_represents (hash_at hasher key_calls) factor)
       (index_format w ps e k unit_spec kf unit_format (hash_of hasher calls) factor)
       (index_sound hasher w kind ps e pe pk index back kl unit_element factor query native
-      itself reads kw unit_is_format)
+      itself kw unit_is_format)

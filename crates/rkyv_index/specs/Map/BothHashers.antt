@@ -4,7 +4,6 @@ use Rattle.std.specs.Int.{Width}
 use Rattle.rkyv_scan.specs.{HasherCall, IsFixed, SizeWords, fx_hash}
 use Rattle.rkyv_base.specs.{ElementSpec, Viewable, entry_spec}
 use Rattle.rkyv_keys.specs.{fx_hash_at}
-use Rattle.rkyv_keys.specs.declared.hash.KeyHash.{Ghosts as KeyHashes}
 use Rattle.rkyv_index.specs.Map.{fits_in, index_found}
 use Rattle.rkyv_index.specs.Map.IndexFormat.{IndexWrittenAt}
 use Rattle.rkyv_index.specs.Map.IndexLayout.{index_spec}
@@ -29,12 +28,12 @@ module _ (w : Width) (k v : ElementSpec) where
       → IndexWrittenAt w (entry_spec k v).size (fx_hash_at other key_calls) b p homes
 
   -- in a written index map, a query finds the same index under both rules
-  abbrev pub QueriedAlike : {Q : Type 0} → (List ℕ → ℕ → List HasherCall) → KeyHashes Q
-      → (Q → List ℕ → ℕ → Bool) → Type 0
-  QueriedAlike {Q} key_calls queries fits =
+  abbrev pub QueriedAlike : {Q : Type 0} → (List ℕ → ℕ → List HasherCall)
+      → (Q → List HasherCall) → (Q → List ℕ → ℕ → Bool) → Type 0
+  QueriedAlike {Q} key_calls calls fits =
       (one other : SizeWords) (b : List ℕ) (p : ℕ) (homes : List ℕ)
       → Viewable (index_spec w (entry_spec k v)) b p
       → IndexWrittenAt w (entry_spec k v).size (fx_hash_at one key_calls) b p homes
-      → (query : Q) → queries.can_read query
-      → fx_index_found w one (queries.calls query) b p (fits_in w k v b p (fits query))
-      ≡ fx_index_found w other (queries.calls query) b p (fits_in w k v b p (fits query))
+      → (query : Q)
+      → fx_index_found w one (calls query) b p (fits_in w k v b p (fits query))
+      ≡ fx_index_found w other (calls query) b p (fits_in w k v b p (fits query))

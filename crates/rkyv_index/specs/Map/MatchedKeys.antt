@@ -23,12 +23,12 @@ module _ {K : Type 0} (m : Index K) (same_key : Comparison) where
     pub same : same_key m.bytes (key_at m index) m.bytes (key_at m i) ≡ true
     pub alone : HasDistinctKeys → index ≡ i
 
--- in a written index map, each query that can be read finds a key if it matches one.
+-- in a written index map, each query finds a key if it matches one.
 -- `wt`: word of the archive, `lookup_of`: the lookup of a query
 abbrev pub FindsMatchedKeys : {K V W Q : Type 0} → (H : Type 0) → Words W → Specs K → Specs V
-    → (Q → Type 0) → (Q → KeyLookup) → Type 0
-FindsMatchedKeys {K} {V} {W} {Q} H wt ks vs can_read lookup_of =
-    (m : ArchivedIndexMap K V H W ks vs wt) (q : Q) (homes : List ℕ) (i : ℕ) → can_read q
+    → (Q → KeyLookup) → Type 0
+FindsMatchedKeys {K} {V} {W} {Q} H wt ks vs lookup_of =
+    (m : ArchivedIndexMap K V H W ks vs wt) (q : Q) (homes : List ℕ) (i : ℕ)
     → IsWritten (index_of m) (lookup_of q).key_hash homes → i < index_len m
     → fits_at (index_of m) (lookup_of q).fits i ≡ true
     → FindsSameKey (index_of m) (lookup_of q).same i

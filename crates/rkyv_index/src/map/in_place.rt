@@ -64,7 +64,6 @@ impl<'a, K: KeyElement, V: Element, H: KeyHasher, W: IndexWidth> ArchivedIndexMa
     #[inline]
     fn value_pos_in<Q: Query<K>>(archive: &[u8], root: u64, key: &Q) -> Option<u64>
         requires map { Viewable (index_spec W.word (entry_spec K.spec V.spec)) archive.now root }
-        requires query { Q.can_read key.now }
         ensures inside { IfSome result (λ pos. pos + V.spec.size ≤ length archive.now) }
         ensures viewable { IfSome result (λ pos. Viewable V.spec archive.now pos) }
         ensures finds { FoundValueHas (index_over W.Word K.HasSpec V.HasSpec archive.now root)
@@ -85,7 +84,6 @@ impl<'a, K: KeyElement, V: Element, H: KeyHasher, W: IndexWidth> ArchivedIndexMa
         cmp: F,
     ) -> Option<u64>
         requires map { Viewable (index_spec W.word (entry_spec K.spec V.spec)) archive.now root }
-        requires query { Q.can_read key.now }
         requires callable { CanCompareKeysOf
             (index_over W.Word K.HasSpec V.HasSpec archive.now root) (F.pre cmp key) }
         ensures inside { IfSome result (λ pos. pos + V.spec.size ≤ length archive.now) }
@@ -102,7 +100,6 @@ impl<'a, K: KeyElement, V: Element, H: KeyHasher, W: IndexWidth> ArchivedIndexMa
     #[inline]
     fn index_in<Q: Query<K>>(archive: &[u8], root: u64, key: &Q) -> Option<usize>
         requires map { Viewable (index_spec W.word (entry_spec K.spec V.spec)) archive.now root }
-        requires query { Q.can_read key.now }
         ensures below { IfSome result (λ index. index < len_at W.word archive.now root) }
         ensures finds { FoundKeyHas (index_over W.Word K.HasSpec V.HasSpec archive.now root)
             (query_of H.hasher K.key_calls K.same (Q.calls key.now) (Q.fits key.now))
@@ -121,7 +118,6 @@ impl<'a, K: KeyElement, V: Element, H: KeyHasher, W: IndexWidth> ArchivedIndexMa
     /// # Requires
     ///
     /// - The archive has a valid index map at `root`.
-    /// - The query can be read.
     /// - `write` can be called with the archive and each position of a valid value.
     ///
     /// # Examples
@@ -143,7 +139,6 @@ impl<'a, K: KeyElement, V: Element, H: KeyHasher, W: IndexWidth> ArchivedIndexMa
         write: F,
     ) -> Option<R>
         requires map { Viewable (index_spec W.word (entry_spec K.spec V.spec)) archive.old root }
-        requires query { Q.can_read key.now }
         requires callable { MayWriteIn F.pre V.spec write archive.old }
         ensures { FoundValueHas (index_over W.Word K.HasSpec V.HasSpec archive.old root)
             (query_of H.hasher K.key_calls K.same (Q.calls key.now) (Q.fits key.now))
@@ -163,7 +158,6 @@ impl<'a, K: KeyElement, V: Element, H: KeyHasher, W: IndexWidth> ArchivedIndexMa
     /// # Requires
     ///
     /// - The archive has a valid index map at `root`.
-    /// - `key` can be read.
     /// - The comparison can be called with `key` and each key of the map.
     /// - `write` can be called with the archive and each position of a valid value.
     #[inline]
@@ -175,7 +169,6 @@ impl<'a, K: KeyElement, V: Element, H: KeyHasher, W: IndexWidth> ArchivedIndexMa
         write: G,
     ) -> Option<R>
         requires map { Viewable (index_spec W.word (entry_spec K.spec V.spec)) archive.old root }
-        requires query { Q.can_read key.now }
         requires callable { CanCompareKeysOf
             (index_over W.Word K.HasSpec V.HasSpec archive.old root) (F.pre cmp key) }
         requires writable { MayWriteIn G.pre V.spec write archive.old }
@@ -247,7 +240,6 @@ pub fn set_value_at<A, K: KeyElement + Represents<A>, N: Scalar, H: KeyHasher, W
 /// # Requires
 ///
 /// - The archive has a valid index map at `root`.
-/// - The key can be read, as each native key can.
 ///
 /// # Examples
 ///
@@ -268,7 +260,6 @@ pub fn set_value_of<
     W: IndexWidth,
 >(archive: &mut [u8], root: u64, key: &A, value: N) -> bool
     requires map { Viewable (index_spec W.word (entry_spec K.spec N.spec)) archive.old root }
-    requires query { A.can_read key.now }
     ensures sets { SetsValue (index_over W.Word K.HasSpec N.HasSpec archive.old root)
         (query_of H.hasher K.key_calls K.same (A.calls key.now) (A.fits key.now))
         N.encoding value result archive.new }

@@ -49,7 +49,7 @@ pub fn value_writes_keep_lookups<
     H: KeyHasher,
     W: IndexWidth,
 >()
-    ensures { (q : _) → Q.can_read q → WritesKeepLookups W.word K.spec V.spec
+    ensures { (q : _) → WritesKeepLookups W.word K.spec V.spec
         (WritesValue K.spec V.spec) (hash_of H.hasher Q.calls q) (Q.fits q) }
 {}
 
@@ -95,7 +95,7 @@ pub fn pairs_read_back_are_listed<
 pub fn both_hashers_look_up_alike<Q: Query<K>, K: FixedKey, V: Element, W: IndexWidth>()
     ensures written { WrittenAlike W.word K.spec V.spec K.key_calls }
     ensures compared { ComparedAlike W.word }
-    ensures queried { QueriedAlike W.word K.spec V.spec K.key_calls Q.KeyHash Q.fits }
+    ensures queried { QueriedAlike W.word K.spec V.spec K.key_calls Q.calls Q.fits }
 {}
 
 /// States the layout of an index map, and that it represents the pairs of a list in order.
@@ -166,7 +166,7 @@ pub fn lookups_find_listed<
 ///
 /// The found key is not after it. If no two keys of the index map are the same, it is that key.
 pub fn matched_keys_are_found<Q: Query<K>, K: KeyElement, V: Element, H: KeyHasher, W: IndexWidth>()
-    ensures { FindsMatchedKeys H W.Word K.HasSpec V.HasSpec Q.can_read
+    ensures { FindsMatchedKeys H W.Word K.HasSpec V.HasSpec
         (λ q. query_of H.hasher K.key_calls K.same (Q.calls q) (Q.fits q)) }
 {}
 

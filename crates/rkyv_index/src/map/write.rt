@@ -33,7 +33,6 @@ fn write_indices<W: IndexWidth, H, S: Writer, U: HashedEntry<H>>(
     serializer: &mut S,
 ) -> WriteResult<HashTableResolver<W>, S>
     requires capacity { HasCapacity (length entries.now) load_factor W.MAX_CAPACITY }
-    requires hashes { (entry : U) → U.can_hash entry }
     ensures { WritesIndices W.Width (indices W.Index.spec W.Index.encoding)
         (hashed U.hash load_factor entries.now)
         (S.output serializer.old) (S.output serializer.new) result }
@@ -60,7 +59,6 @@ pub(crate) fn write_index<W: IndexWidth, H, S: Writer, U: HashedEntry<H> + Seria
     serializer: &mut S,
 ) -> WriteResult<IndexMapResolver<W>, S>
     requires capacity { HasCapacity (length entries.now) load_factor W.MAX_CAPACITY }
-    requires hashes { (entry : U) → U.can_hash entry }
     requires empty { resolvers.items ≡ [] }
     requires resolvers { length entries.now ≤ vec_capacity resolvers }
     requires room { 0 < length entries.now → length scratch.old ≡ U.Archived.spec.size }

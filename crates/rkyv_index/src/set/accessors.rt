@@ -194,13 +194,8 @@ impl<'a, K: KeyElement, H: KeyHasher, W: IndexWidth> ArchivedIndexSet<'a, K, H, 
     ///
     /// A lookup in an untrusted set may read all of its control bytes.
     /// `FxHasher64` takes no secret key, so it doesn't protect from chosen input.
-    ///
-    /// # Requires
-    ///
-    /// - The query can be read.
     #[inline]
     pub fn get_full<Q: Query<K>>(self, key: &Q) -> Option<(usize, View<'a, K>)>
-        requires query { Q.can_read key.now }
         ensures { GetsKey full_key_part (keys_of self.entry)
             (query_of H.hasher K.key_calls K.same (Q.calls key.now) (Q.fits key.now)) result }
     {
@@ -214,10 +209,6 @@ impl<'a, K: KeyElement, H: KeyHasher, W: IndexWidth> ArchivedIndexSet<'a, K, H, 
     ///
     /// A lookup in an untrusted set may read all of its control bytes.
     ///
-    /// # Requires
-    ///
-    /// - The query can be read.
-    ///
     /// # Examples
     ///
     /// ```rust
@@ -229,7 +220,6 @@ impl<'a, K: KeyElement, H: KeyHasher, W: IndexWidth> ArchivedIndexSet<'a, K, H, 
     /// ```
     #[inline]
     pub fn get<Q: Query<K>>(self, key: &Q) -> Option<View<'a, K>>
-        requires query { Q.can_read key.now }
         ensures { GetsKey key_part (keys_of self.entry)
             (query_of H.hasher K.key_calls K.same (Q.calls key.now) (Q.fits key.now)) result }
     {
@@ -251,10 +241,6 @@ impl<'a, K: KeyElement, H: KeyHasher, W: IndexWidth> ArchivedIndexSet<'a, K, H, 
     ///
     /// A lookup in an untrusted set may read all of its control bytes.
     ///
-    /// # Requires
-    ///
-    /// - The query can be read.
-    ///
     /// # Examples
     ///
     /// ```rust
@@ -266,7 +252,6 @@ impl<'a, K: KeyElement, H: KeyHasher, W: IndexWidth> ArchivedIndexSet<'a, K, H, 
     /// ```
     #[inline]
     pub fn get_index_of<Q: Query<K>>(self, key: &Q) -> Option<usize>
-        requires query { Q.can_read key.now }
         ensures { GetsKey index_part (keys_of self.entry)
             (query_of H.hasher K.key_calls K.same (Q.calls key.now) (Q.fits key.now)) result }
     {
@@ -276,13 +261,8 @@ impl<'a, K: KeyElement, H: KeyHasher, W: IndexWidth> ArchivedIndexSet<'a, K, H, 
     /// Returns `true` if and only if the query finds a key.
     ///
     /// A lookup in an untrusted set may read all of its control bytes.
-    ///
-    /// # Requires
-    ///
-    /// - The query can be read.
     #[inline]
     pub fn contains<Q: Query<K>>(self, key: &Q) -> bool
-        requires query { Q.can_read key.now }
         ensures { FoundKeyHas (index_of_set self.entry)
             (query_of H.hasher K.key_calls K.same (Q.calls key.now) (Q.fits key.now))
             (IsFoundAt result) }

@@ -82,7 +82,7 @@ pub fn walks_visit_in_order<A, K: KeyElement + Represents<A>, H: KeyHasher, W: I
 pub fn both_hashers_look_up_alike<Q: Query<K>, K: FixedKey, W: IndexWidth>()
     ensures written { WrittenAlike W.word K.spec unit_spec K.key_calls }
     ensures compared { ComparedAlike W.word }
-    ensures queried { QueriedAlike W.word K.spec unit_spec K.key_calls Q.KeyHash Q.fits }
+    ensures queried { QueriedAlike W.word K.spec unit_spec K.key_calls Q.calls Q.fits }
 {
     maps_look_up_alike::<Q, K, (), W>();
 }

@@ -51,7 +51,6 @@ impl<'a, K: KeyElement, V: Element, H: KeyHasher, W: IndexWidth> ArchivedIndexMa
         cmp: F,
     ) -> Option<usize>
         requires map { IsIndexSeal W.word K.spec V.spec this.now }
-        requires query { Q.can_read key.now }
         requires callable { CanCompareKeysOf (index_in W.word K.spec V.spec this.now)
             (F.pre cmp key) }
         ensures stored { IfSome result (IsStoredIn W.word this.now) }
@@ -69,7 +68,6 @@ impl<'a, K: KeyElement, V: Element, H: KeyHasher, W: IndexWidth> ArchivedIndexMa
         key: &Q,
     ) -> Option<usize>
         requires map { IsIndexSeal W.word K.spec V.spec this.now }
-        requires query { Q.can_read key.now }
         ensures stored { IfSome result (IsStoredIn W.word this.now) }
         ensures finds { FoundKeyHas (index_in W.word K.spec V.spec this.now)
             (query_of H.hasher K.key_calls K.same (Q.calls key.now) (Q.fits key.now))
@@ -186,7 +184,6 @@ impl<'a, K: KeyElement, V: Element, H: KeyHasher, W: IndexWidth> ArchivedIndexMa
     /// # Requires
     ///
     /// - The archive has a valid index map at the position of the seal.
-    /// - `key` can be read.
     /// - The comparison can be called with `key` and each key of the map.
     #[inline]
     pub fn get_full_seal_with<Q: KeyHash, F: Fn(&Q, View<'_, K>) -> bool>(
@@ -195,7 +192,6 @@ impl<'a, K: KeyElement, V: Element, H: KeyHasher, W: IndexWidth> ArchivedIndexMa
         cmp: F,
     ) -> Option<(usize, View<'a, K>, Seal<'a, V>)>
         requires map { IsIndexSeal W.word K.spec V.spec this }
-        requires query { Q.can_read key.now }
         requires callable { CanCompareKeysOf (index_in W.word K.spec V.spec this)
             (F.pre cmp key) }
         ensures inside { IfSome result (λ full. LiesIn V.spec full.2) }
@@ -223,7 +219,6 @@ impl<'a, K: KeyElement, V: Element, H: KeyHasher, W: IndexWidth> ArchivedIndexMa
     /// # Requires
     ///
     /// - The archive has a valid index map at the position of the seal.
-    /// - The query can be read.
     ///
     /// # Examples
     ///
@@ -246,7 +241,6 @@ impl<'a, K: KeyElement, V: Element, H: KeyHasher, W: IndexWidth> ArchivedIndexMa
         key: &Q,
     ) -> Option<(usize, View<'a, K>, Seal<'a, V>)>
         requires map { IsIndexSeal W.word K.spec V.spec this }
-        requires query { Q.can_read key.now }
         ensures inside { IfSome result (λ full. LiesIn V.spec full.2) }
         ensures viewable { IfSome result (λ full. IsValidView K.spec full.1) }
         ensures walked { IfSome result (IsFullSeal W.word K.spec V.spec this.entry) }
@@ -272,7 +266,6 @@ impl<'a, K: KeyElement, V: Element, H: KeyHasher, W: IndexWidth> ArchivedIndexMa
     /// # Requires
     ///
     /// - The archive has a valid index map at the position of the seal.
-    /// - `key` can be read.
     /// - The comparison can be called with `key` and each key of the map.
     #[inline]
     pub fn get_key_value_seal_with<Q: KeyHash, F: Fn(&Q, View<'_, K>) -> bool>(
@@ -281,7 +274,6 @@ impl<'a, K: KeyElement, V: Element, H: KeyHasher, W: IndexWidth> ArchivedIndexMa
         cmp: F,
     ) -> Option<(View<'a, K>, Seal<'a, V>)>
         requires map { IsIndexSeal W.word K.spec V.spec this }
-        requires query { Q.can_read key.now }
         requires callable { CanCompareKeysOf (index_in W.word K.spec V.spec this)
             (F.pre cmp key) }
         ensures inside { IfSome result (λ pair. LiesIn V.spec pair.1) }
@@ -309,14 +301,12 @@ impl<'a, K: KeyElement, V: Element, H: KeyHasher, W: IndexWidth> ArchivedIndexMa
     /// # Requires
     ///
     /// - The archive has a valid index map at the position of the seal.
-    /// - The query can be read.
     #[inline]
     pub fn get_key_value_seal<Q: Query<K>>(
         this: ArchiveSeal<'a, IndexMapOf<K, V, H, W>>,
         key: &Q,
     ) -> Option<(View<'a, K>, Seal<'a, V>)>
         requires map { IsIndexSeal W.word K.spec V.spec this }
-        requires query { Q.can_read key.now }
         ensures inside { IfSome result (λ pair. LiesIn V.spec pair.1) }
         ensures viewable { IfSome result (λ pair. IsValidView K.spec pair.0) }
         ensures walked { IfSome result (IsPairSeal W.word K.spec V.spec this.entry) }
@@ -339,7 +329,6 @@ impl<'a, K: KeyElement, V: Element, H: KeyHasher, W: IndexWidth> ArchivedIndexMa
     /// # Requires
     ///
     /// - The archive has a valid index map at the position of the seal.
-    /// - `key` can be read.
     /// - The comparison can be called with `key` and each key of the map.
     #[inline]
     pub fn get_seal_with<Q: KeyHash, F: Fn(&Q, View<'_, K>) -> bool>(
@@ -348,7 +337,6 @@ impl<'a, K: KeyElement, V: Element, H: KeyHasher, W: IndexWidth> ArchivedIndexMa
         cmp: F,
     ) -> Option<Seal<'a, V>>
         requires map { IsIndexSeal W.word K.spec V.spec this }
-        requires query { Q.can_read key.now }
         requires callable { CanCompareKeysOf (index_in W.word K.spec V.spec this)
             (F.pre cmp key) }
         ensures inside { IfSome result (LiesIn V.spec) }
@@ -374,7 +362,6 @@ impl<'a, K: KeyElement, V: Element, H: KeyHasher, W: IndexWidth> ArchivedIndexMa
     /// # Requires
     ///
     /// - The archive has a valid index map at the position of the seal.
-    /// - The query can be read.
     ///
     /// # Examples
     ///
@@ -397,7 +384,6 @@ impl<'a, K: KeyElement, V: Element, H: KeyHasher, W: IndexWidth> ArchivedIndexMa
         key: &Q,
     ) -> Option<Seal<'a, V>>
         requires map { IsIndexSeal W.word K.spec V.spec this }
-        requires query { Q.can_read key.now }
         ensures inside { IfSome result (LiesIn V.spec) }
         ensures viewable { IfSome result (λ value. Viewable V.spec (bytes_in value)
             (seal_pos value)) }

@@ -73,7 +73,6 @@ pub fn make_ascii_uppercase_at<A, K: KeyElement + Represents<A>, H: KeyHasher, W
 /// # Requires
 ///
 /// - The archive has a valid index map to texts at `root`.
-/// - The key can be read, as each native key can.
 ///
 /// # Examples
 ///
@@ -91,7 +90,6 @@ pub fn make_ascii_uppercase_of<
     W: IndexWidth,
 >(archive: &mut [u8], root: u64, key: &A) -> Option<bool>
     requires map { Viewable (index_to_texts_spec W.word K.spec) archive.old root }
-    requires query { A.can_read key.now }
     ensures uppercases { UppercasesText (index_to_texts_over W.Word K.HasSpec archive.old root)
         (query_of H.hasher K.key_calls K.same (A.calls key.now) (A.fits key.now))
         result archive.new }

@@ -35,7 +35,7 @@ pub fn nested_writes_keep_lookups<
     H: KeyHasher,
     W: IndexWidth,
 >()
-    ensures { (q : _) → Q.can_read q → WritesKeepLookups W.word K.spec V.spec
+    ensures { (q : _) → WritesKeepLookups W.word K.spec V.spec
         (λ b c at. WritesAmongParts V.spec b c (value_pos K.spec V.spec at))
         (hash_of H.hasher Q.calls q) (Q.fits q) }
 {}

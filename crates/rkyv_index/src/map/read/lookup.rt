@@ -40,7 +40,6 @@ impl<'a, K: KeyElement, V: Element, H: KeyHasher, W: IndexWidth> ArchivedIndexMa
     pub(crate) fn find<Q: KeyHash, F>(self, key: &Q, cmp: F, strides: &mut Strides) -> Option<usize>
     where
         F: Fn(&Q, View<'a, K>) -> bool,
-        requires query { Q.can_read key.now }
         requires room { strides.old ≤ 2 ^ 63 }
         requires callable { CanCompareKeys self (F.pre cmp key) }
         ensures found { GetsBy index_part self.entry (hash_of H.hasher Q.calls key.now)
@@ -82,7 +81,6 @@ impl<'a, K: KeyElement, V: Element, H: KeyHasher, W: IndexWidth> ArchivedIndexMa
     ///
     /// # Requires
     ///
-    /// - `key` can be read.
     /// - The comparison can be called with `key` and each key of the map.
     #[inline]
     pub fn get_full_with<Q: KeyHash, F>(
@@ -92,7 +90,6 @@ impl<'a, K: KeyElement, V: Element, H: KeyHasher, W: IndexWidth> ArchivedIndexMa
     ) -> Option<(usize, View<'a, K>, View<'a, V>)>
     where
         F: Fn(&Q, View<'a, K>) -> bool,
-        requires query { Q.can_read key.now }
         requires callable { CanCompareKeys self (F.pre cmp key) }
         ensures { GetsBy full_part self.entry (hash_of H.hasher Q.calls key.now)
             (hash_at H.hasher K.key_calls) (F.post cmp key.entry) result }
@@ -105,7 +102,6 @@ impl<'a, K: KeyElement, V: Element, H: KeyHasher, W: IndexWidth> ArchivedIndexMa
     /// Returns the index of the key that the query finds, and counts the strides it reads.
     #[inline]
     pub(crate) fn find_counted<Q: Query<K>>(self, key: &Q, strides: &mut Strides) -> Option<usize>
-        requires query { Q.can_read key.now }
         requires room { strides.old ≤ 2 ^ 63 }
         ensures found { GetsKey index_part self.entry
             (query_of H.hasher K.key_calls K.same (Q.calls key.now) (Q.fits key.now)) result }
@@ -116,8 +112,7 @@ impl<'a, K: KeyElement, V: Element, H: KeyHasher, W: IndexWidth> ArchivedIndexMa
         self.find(
             key,
             |key, stored|
-                requires query { Q.can_read key.now }
-                requires key { IsValidView K.spec stored }
+                requires { IsValidView K.spec stored }
                 ensures { result ≡ Q.fits key.entry.now stored.entry.archive.now stored.entry.pos }
             { key.same(stored) },
             strides,
@@ -127,7 +122,6 @@ impl<'a, K: KeyElement, V: Element, H: KeyHasher, W: IndexWidth> ArchivedIndexMa
     /// Returns the index of the key that the query finds, or `None`.
     #[inline]
     pub(crate) fn find_key<Q: Query<K>>(self, key: &Q) -> Option<usize>
-        requires query { Q.can_read key.now }
         ensures { GetsKey index_part self.entry
             (query_of H.hasher K.key_calls K.same (Q.calls key.now) (Q.fits key.now)) result }
     {
@@ -145,10 +139,6 @@ impl<'a, K: KeyElement, V: Element, H: KeyHasher, W: IndexWidth> ArchivedIndexMa
     /// A lookup in an untrusted map may read all of its control bytes.
     /// `FxHasher64` takes no secret key, so it doesn't protect from chosen input.
     ///
-    /// # Requires
-    ///
-    /// - The query can be read.
-    ///
     /// # Examples
     ///
     /// ```rust
@@ -163,7 +153,6 @@ impl<'a, K: KeyElement, V: Element, H: KeyHasher, W: IndexWidth> ArchivedIndexMa
     /// ```
     #[inline]
     pub fn get_full<Q: Query<K>>(self, key: &Q) -> Option<(usize, View<'a, K>, View<'a, V>)>
-        requires query { Q.can_read key.now }
         ensures { GetsKey full_part self.entry
             (query_of H.hasher K.key_calls K.same (Q.calls key.now) (Q.fits key.now)) result }
     {
@@ -198,13 +187,11 @@ impl<'a, K: KeyElement, V: Element, H: KeyHasher, W: IndexWidth> ArchivedIndexMa
     ///
     /// # Requires
     ///
-    /// - `key` can be read.
     /// - The comparison can be called with `key` and each key of the map.
     #[inline]
     pub fn get_key_value_with<Q: KeyHash, F>(self, key: &Q, cmp: F) -> Option<PairView<'a, K, V>>
     where
         F: Fn(&Q, View<'a, K>) -> bool,
-        requires query { Q.can_read key.now }
         requires callable { CanCompareKeys self (F.pre cmp key) }
         ensures { GetsBy pair_part self.entry (hash_of H.hasher Q.calls key.now)
             (hash_at H.hasher K.key_calls) (F.post cmp key.entry) result }
@@ -217,13 +204,8 @@ impl<'a, K: KeyElement, V: Element, H: KeyHasher, W: IndexWidth> ArchivedIndexMa
     /// It looks up as `get_full` does.
     ///
     /// A lookup in an untrusted map may read all of its control bytes.
-    ///
-    /// # Requires
-    ///
-    /// - The query can be read.
     #[inline]
     pub fn get_key_value<Q: Query<K>>(self, key: &Q) -> Option<PairView<'a, K, V>>
-        requires query { Q.can_read key.now }
         ensures { GetsKey pair_part self.entry
             (query_of H.hasher K.key_calls K.same (Q.calls key.now) (Q.fits key.now)) result }
     {
@@ -238,13 +220,11 @@ impl<'a, K: KeyElement, V: Element, H: KeyHasher, W: IndexWidth> ArchivedIndexMa
     ///
     /// # Requires
     ///
-    /// - `key` can be read.
     /// - The comparison can be called with `key` and each key of the map.
     #[inline]
     pub fn get_with<Q: KeyHash, F>(self, key: &Q, cmp: F) -> Option<View<'a, V>>
     where
         F: Fn(&Q, View<'a, K>) -> bool,
-        requires query { Q.can_read key.now }
         requires callable { CanCompareKeys self (F.pre cmp key) }
         ensures { GetsBy value_part self.entry (hash_of H.hasher Q.calls key.now)
             (hash_at H.hasher K.key_calls) (F.post cmp key.entry) result }
@@ -257,10 +237,6 @@ impl<'a, K: KeyElement, V: Element, H: KeyHasher, W: IndexWidth> ArchivedIndexMa
     /// It looks up as `get_full` does.
     ///
     /// A lookup in an untrusted map may read all of its control bytes.
-    ///
-    /// # Requires
-    ///
-    /// - The query can be read.
     ///
     /// # Examples
     ///
@@ -275,7 +251,6 @@ impl<'a, K: KeyElement, V: Element, H: KeyHasher, W: IndexWidth> ArchivedIndexMa
     /// ```
     #[inline]
     pub fn get<Q: Query<K>>(self, key: &Q) -> Option<View<'a, V>>
-        requires query { Q.can_read key.now }
         ensures { GetsKey value_part self.entry
             (query_of H.hasher K.key_calls K.same (Q.calls key.now) (Q.fits key.now)) result }
     {
@@ -290,13 +265,11 @@ impl<'a, K: KeyElement, V: Element, H: KeyHasher, W: IndexWidth> ArchivedIndexMa
     ///
     /// # Requires
     ///
-    /// - `key` can be read.
     /// - The comparison can be called with `key` and each key of the map.
     #[inline]
     pub fn get_index_of_with<Q: KeyHash, F>(self, key: &Q, cmp: F) -> Option<usize>
     where
         F: Fn(&Q, View<'a, K>) -> bool,
-        requires query { Q.can_read key.now }
         requires callable { CanCompareKeys self (F.pre cmp key) }
         ensures { GetsBy index_part self.entry (hash_of H.hasher Q.calls key.now)
             (hash_at H.hasher K.key_calls) (F.post cmp key.entry) result }
@@ -314,7 +287,6 @@ impl<'a, K: KeyElement, V: Element, H: KeyHasher, W: IndexWidth> ArchivedIndexMa
     ///
     /// # Requires
     ///
-    /// - `key` can be read.
     /// - `strides` has at most 2^63 strides.
     /// - The comparison can be called with `key` and each key of the map.
     ///
@@ -334,7 +306,6 @@ impl<'a, K: KeyElement, V: Element, H: KeyHasher, W: IndexWidth> ArchivedIndexMa
     ) -> Option<usize>
     where
         F: Fn(&Q, View<'a, K>) -> bool,
-        requires query { Q.can_read key.now }
         requires room { strides.old ≤ 2 ^ 63 }
         requires callable { CanCompareKeys self (F.pre cmp key) }
         ensures found { GetsBy index_part self.entry (hash_of H.hasher Q.calls key.now)
@@ -351,13 +322,8 @@ impl<'a, K: KeyElement, V: Element, H: KeyHasher, W: IndexWidth> ArchivedIndexMa
     /// It looks up as `get_full` does.
     ///
     /// A lookup in an untrusted map may read all of its control bytes.
-    ///
-    /// # Requires
-    ///
-    /// - The query can be read.
     #[inline]
     pub fn get_index_of<Q: Query<K>>(self, key: &Q) -> Option<usize>
-        requires query { Q.can_read key.now }
         ensures { GetsKey index_part self.entry
             (query_of H.hasher K.key_calls K.same (Q.calls key.now) (Q.fits key.now)) result }
     {
@@ -367,13 +333,8 @@ impl<'a, K: KeyElement, V: Element, H: KeyHasher, W: IndexWidth> ArchivedIndexMa
     /// Returns `true` if and only if the query finds a key.
     ///
     /// A lookup in an untrusted map may read all of its control bytes.
-    ///
-    /// # Requires
-    ///
-    /// - The query can be read.
     #[inline]
     pub fn contains_key<Q: Query<K>>(self, key: &Q) -> bool
-        requires query { Q.can_read key.now }
         ensures { FoundKeyHas (index_of self.entry)
             (query_of H.hasher K.key_calls K.same (Q.calls key.now) (Q.fits key.now))
             (IsFoundAt result) }
@@ -387,7 +348,6 @@ impl<'a, K: KeyElement, V: Element, H: KeyHasher, W: IndexWidth> ArchivedIndexMa
     ///
     /// # Requires
     ///
-    /// - The query can be read.
     /// - The query finds a key. `contains_key` then returns `true`.
     ///
     /// # Examples
@@ -405,7 +365,6 @@ impl<'a, K: KeyElement, V: Element, H: KeyHasher, W: IndexWidth> ArchivedIndexMa
     /// ```
     #[inline]
     pub fn index<Q: Query<K>>(self, key: &Q) -> View<'a, V>
-        requires query { Q.can_read key.now }
         requires found { FindsKey (index_of self) (hash_of H.hasher Q.calls key.now)
             (Q.fits key.now) IsSome }
         ensures { GetsKey value_part self.entry

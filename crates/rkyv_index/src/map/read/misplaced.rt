@@ -11,7 +11,7 @@ ghost use Rattle.rkyv_index.specs.{index_of, is_misplaced, own_strides};
 use crate::map::ArchivedIndexMap;
 use crate::width::IndexWidth;
 use rkyv_base::Element;
-use rkyv_keys::KeyElement;
+use rkyv_keys::{KeyElement, KeyView};
 use rkyv_scan::KeyHasher;
 use rkyv_table::Strides;
 use rkyv_table::table::misplaced::{finds_another_or_none, is_past};
@@ -31,7 +31,7 @@ impl<'a, K: KeyElement, V: Element, H: KeyHasher, W: IndexWidth> ArchivedIndexMa
         ensures counted { strides.new ≡ strides.old + own_strides (index_of self.entry)
             (hash_at H.hasher K.key_calls) K.same index }
     {
-        let key = self.entry(index).key();
+        let key = KeyView::of(self.entry(index).key());
         finds_another_or_none(index, self.find_counted(&key, strides))
     }
 

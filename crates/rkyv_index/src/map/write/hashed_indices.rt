@@ -14,26 +14,16 @@ use std::marker::PhantomData;
 
 /// A value that has a hash under the hasher `H`.
 pub(crate) trait HashedEntry<H> {
-    // The condition under which the value can be hashed.
-    ghost can_hash: { Self → Type 0 };
-
     // The hash of the value.
     ghost hash: { Self → ℕ };
 
     /// Returns the hash of the value.
-    ///
-    /// # Requires
-    ///
-    /// - The value can be hashed.
     fn hash(&self) -> u64
-        requires { can_hash self.now }
         ensures { result ≡ hash self.now };
 }
 
 // The hash of an entry is that of its key.
 impl<BK: Lend<A>, BV, A: KeyHash, B, H: KeyHasher> HashedEntry<H> for EntryAdapter<BK, BV, A, B> {
-    ghost can_hash = { λ entry. A.can_read (BK.lent entry.key) };
-
     ghost hash = { λ entry. hash_of H.hasher A.calls (BK.lent entry.key) };
 
     #[inline]
@@ -67,8 +57,7 @@ impl<'a, U, H, W> HashedIndices<'a, U, H, W> {
 impl<'a, U: HashedEntry<H>, H, W: IndexWidth> Iterator for HashedIndices<'a, U, H, W> {
     type Item = (u64, W::Index);
 
-    ghost can_next = { λ s. (s.index + length (iter_rest s.values) ≤ W.LIMIT)
-        × ((value : U) → U.can_hash value) };
+    ghost can_next = { λ s. s.index + length (iter_rest s.values) ≤ W.LIMIT };
 
     ghost next_gives = { YieldsFirst (λ s. indices_from U.hash W.Index.encoding.value s.index
         (iter_rest s.values)) };

@@ -6,7 +6,7 @@ use Rattle.rkyv_index.proofs.map.ArchivedIndexMap.find_counted.Goals as goal
 pub returns-clause-found : goal.returns-clause-found
 returns-clause-found g c =
     query_index c.args.self
-    g.H.KeyHasher.hasher g.K.ElementEq.same g.K.KeyElement.key_calls g.Q.KeyHash.can_read g.Q.KeyHash.calls g.Q.Query.fits g.met.Q.Query.query c.args.key.now c.requires.query c.find.ensures.hash
+    g.H.KeyHasher.hasher g.K.ElementEq.same g.K.KeyElement.key_calls g.Q.KeyHash.calls g.Q.Query.fits g.met.Q.Query.query c.args.key.now c.find.ensures.hash
     _ (λ key r e. e.1) c.find.result c.find.ensures.found
 
 pub returns-clause-counted : goal.returns-clause-counted

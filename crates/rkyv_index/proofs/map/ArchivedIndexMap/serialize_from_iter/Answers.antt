@@ -1,5 +1,4 @@
-use Rattle.std.proofs.Common.{arith, ◌≡◌, List, length, ap, sym, subst, ◌∙◌}
-use Rattle.std.proofs.lemmas.Grind.{common_steps}
+use Rattle.std.proofs.Common.{◌≡◌, List, length, ap, sym, subst, ◌∙◌}
 use Rattle.std.specs.Iterator.{Drains}
 use Rattle.rkyv_base.specs.declared.adapter.EntryAdapter.{EntryAdapter}
 use Rattle.rkyv_keys.specs.{hash_of}
@@ -21,6 +20,3 @@ returns g c =
     items_result g.row.S-Fault.Denot g.BK.Lend.lent g.BV.Lend.lent g.W.Word.word g.W.Index.HasSpec.spec g.W.Index.Scalar.encoding g.K.HasSpec.spec g.V.HasSpec.spec g.A.Archive.format g.B.Archive.format hash c.args.load_factor
     (Drains steps c.args.iter) (YieldsOtherCount steps c.args.len c.args.iter) c.args.len g.W.Width.MAX_CAPACITY g.W.Width.LIMIT has entries exactly count
     (g.S.Writer.output c.args.serializer.now) (g.S.Writer.output c.write_index.new.serializer) c.write_index.result c.write_index.ensures
-
-pub write_index-requires-clause-hashes : goal.write_index-requires-clause-hashes
-write_index-requires-clause-hashes g c = grind (arith, common_steps)

@@ -15,4 +15,4 @@ returns-clause-compared g c = λ one other calls fixed b p accept.
 pub returns-clause-queried : goal.returns-clause-queried
 returns-clause-queried g c =
     queried_alike g.W.Word.word g.met.W.Width.layout.kind g.K.HasSpec.spec g.V.HasSpec.spec g.K.HasSpec.laws g.V.HasSpec.laws g.K.KeyElement.key_calls g.met.K.FixedKey.fixed
-    g.K.ElementEq.same g.Q.KeyHash g.Q.Query.fits g.met.Q.Query.query
+    g.K.ElementEq.same g.Q.KeyHash.calls g.Q.Query.fits g.met.Q.Query.query
