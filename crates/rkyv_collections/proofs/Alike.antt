@@ -11,7 +11,6 @@ use Rattle.rkyv_base.specs.{ElementSpec, IsElement, Viewable, entry_spec}
 use Rattle.rkyv_keys.specs.{Comparison, IsQuery, MakesFixedCalls, fx_hash_at}
 use Rattle.rkyv_keys.specs.Lemmas.OfEntries.{valid_key}
 use Rattle.rkyv_table.specs.{WrittenAt, home_positions, item_at, pos_found}
-use Rattle.rkyv_keys.specs.declared.hash.KeyHash.{Ghosts as KeyHashes}
 use Rattle.rkyv_collections.specs.{MapWrittenAt, QueriedAlike, map_spec, pair_at}
 use Rattle.rkyv_collections.proofs.WrittenPairs.{first_accepted, key_valid, pair_valid, pos_of_pair}
 
@@ -42,14 +41,14 @@ module _ (w : Width) (k v : ElementSpec) (kl : IsElement k) (vl : IsElement v) (
 
 -- under either hasher, a query finds the first key that it fits
 pub queried_alike : (w : Width) (k v : ElementSpec) (kl : IsElement k) (vl : IsElement v) {Q : Type 0} (same : Comparison) (key_calls : List ℕ → ℕ → List HasherCall)
-    (queries : KeyHashes Q) (fits : Q → List ℕ → ℕ → Bool)
-    → IsQuery k same key_calls queries.can_read queries.calls fits → MakesFixedCalls k key_calls → QueriedAlike w k v key_calls queries fits
-queried_alike w k v kl vl same key_calls queries fits is fixed one other b p homes view written query ready =
+    (calls : Q → List HasherCall) (fits : Q → List ℕ → ℕ → Bool)
+    → IsQuery k same key_calls calls fits → MakesFixedCalls k key_calls → QueriedAlike w k v key_calls calls fits
+queried_alike w k v kl vl same key_calls calls fits is fixed one other b p homes view written query =
     first one written ∙ sym (first other (written_alike w k v kl vl key_calls fixed one other b p homes view written))
   where
     first : (sizes : SizeWords) → MapWrittenAt w (entry_spec k v) (fx_hash_at sizes key_calls) b p homes
-        → pos_found generic_kind w (entry_spec k v).size b p (fx_hash sizes (queries.calls query)) (fits query b) ≡ find (fits query b) (home_positions w (entry_spec k v).size b p homes)
+        → pos_found generic_kind w (entry_spec k v).size b p (fx_hash sizes (calls query)) (fits query b) ≡ find (fits query b) (home_positions w (entry_spec k v).size b p homes)
     first sizes there =
         let h = fx_hash_at sizes key_calls in
-        first_accepted w k v kl vl h b p homes view there (fx_hash sizes (queries.calls query)) (fits query b) (fx_fits sizes (queries.calls query))
+        first_accepted w k v kl vl h b p homes view there (fx_hash sizes (calls query)) (fits query b) (fx_fits sizes (calls query))
         (λ i below accepted. grind (arith, common_steps, pair_valid w k v kl vl h b p homes view there i below, valid_key))

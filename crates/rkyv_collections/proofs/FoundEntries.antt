@@ -87,8 +87,8 @@ module _ {K V H W : Type 0} {ks : Specs K} {vs : Specs V} {wt : Words W} (m : Ar
 
 -- if no key is misplaced, a lookup under the hash of a query finds the one key that fits
 pub one_found : {K V H W Q State : Type 0} {ks : Specs K} {vs : Specs V} {wt : Words W} (m : ArchivedHashMap K V H W ks vs wt) (kl : IsElement ks.spec) (vl : IsElement vs.spec) (hasher : Hasher State)
-    (same_key : Comparison) (key_calls : List ℕ → ℕ → List HasherCall) (can_read : Q → Type 0) (calls : Q → List HasherCall) (fits : Q → List ℕ → ℕ → Bool)
-    → IsQuery ks.spec same_key key_calls can_read calls fits → IsMap m → (q : Q) → can_read q → hash_of_calls hasher (calls q) < 2 ^ 64 → (P : Option ℕ → Type 0)
+    (same_key : Comparison) (key_calls : List ℕ → ℕ → List HasherCall) (calls : Q → List HasherCall) (fits : Q → List ℕ → ℕ → Bool)
+    → IsQuery ks.spec same_key key_calls calls fits → IsMap m → (q : Q) → hash_of_calls hasher (calls q) < 2 ^ 64 → (P : Option ℕ → Type 0)
     → FindsKey m (hash_of_calls hasher (calls q)) (fits q (map_bytes m)) P
     → FindsOneKey m (hash_at hasher key_calls) same_key (fits q (map_bytes m)) P
-one_found {ks = ks} {vs = vs} {wt = wt} m kl vl hasher same_key key_calls can_read calls fits query is q ready small P found = grind (arith, common_steps, finds_the_one)
+one_found {ks = ks} {vs = vs} {wt = wt} m kl vl hasher same_key key_calls calls fits query is q small P found = grind (arith, common_steps, finds_the_one)

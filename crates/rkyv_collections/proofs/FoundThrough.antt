@@ -32,20 +32,20 @@ module _ {K V H W : Type 0} {ks : Specs K} {vs : Specs V} {wt : Words W} (m : Ar
 
   -- a lookup by a comparison with the keys that a query fits is a lookup of the query
   pub gets_query : {Q X State : Type 0} (hasher : Hasher State) (kl : IsElement ks.spec) (vl : IsElement vs.spec) (same_key : Comparison) (key_calls : List ℕ → ℕ → List HasherCall)
-      (can_read : Q → Type 0) (calls : Q → List HasherCall) (fits : Q → List ℕ → ℕ → Bool) → IsQuery ks.spec same_key key_calls can_read calls fits → IsMap m
-      → (q : Q) → can_read q → hash_of_calls hasher (calls q) < 2 ^ 64
+      (calls : Q → List HasherCall) (fits : Q → List ℕ → ℕ → Bool) → IsQuery ks.spec same_key key_calls calls fits → IsMap m
+      → (q : Q) → hash_of_calls hasher (calls q) < 2 ^ 64
       → (post : View K → Bool → Type 0) → ((key : View K) (r : Bool) → post key r → r ≡ fits q key.archive.now key.pos)
       → (part : Part (ArchivedHashMap K V H W ks vs wt) X) (result : Option X)
       → GetsBy part m (hash_of_calls hasher (calls q)) (hash_at hasher key_calls) post result → GetsKey part m (query_of hasher key_calls same_key (calls q) (fits q)) result
-  gets_query hasher kl vl same_key key_calls can_read calls fits query is q ready small post tells part result h =
+  gets_query hasher kl vl same_key key_calls calls fits query is q small post tells part result h =
       let accept : ℕ → Bool = fits q (map_bytes m) in
       let compares : ComparesKeysBy m post accept = λ key r in_map e. tells key r e ∙ ap (λ (a : Bor (List ℕ)). fits q a.now key.pos) in_map.archive in
       let found = h.finds accept compares in
       record {
         walked = h.walked;
         finds = found;
-        first = h.first accept compares (query_under_hash m kl vl hasher same_key key_calls can_read calls fits query is q ready);
-        complete = one_found m kl vl hasher same_key key_calls can_read calls fits query is q ready small (part.At result) found;
+        first = h.first accept compares (query_under_hash m kl vl hasher same_key key_calls calls fits query is q);
+        complete = one_found m kl vl hasher same_key key_calls calls fits query is q small (part.At result) found;
       }
 
 module _ {K V H W : Type 0} {ks : Specs K} {vs : Specs V} {wt : Words W} (m : ArchivedHashMap K V H W ks vs wt) where

@@ -38,11 +38,11 @@ module _ {K V H W : Type 0} {ks : Specs K} {vs : Specs V} {wt : Words W} (m : Ar
 
   -- a query accepts only keys under its own hash
   pub query_under_hash : {Q State : Type 0} (kl : IsElement ks.spec) (vl : IsElement vs.spec) (hasher : Hasher State)
-      (same : Comparison) (key_calls : List ℕ → ℕ → List HasherCall) (can_read : Q → Type 0) (calls : Q → List HasherCall) (fits : Q → List ℕ → ℕ → Bool)
-      → IsQuery ks.spec same key_calls can_read calls fits → IsMap m → (q : Q) → can_read q
+      (same : Comparison) (key_calls : List ℕ → ℕ → List HasherCall) (calls : Q → List HasherCall) (fits : Q → List ℕ → ℕ → Bool)
+      → IsQuery ks.spec same key_calls calls fits → IsMap m → (q : Q)
       → AreUnderHash m (hash_of_calls hasher (calls q)) (hash_at hasher key_calls) (fits q (map_bytes m))
-  query_under_hash kl vl hasher same key_calls can_read calls fits query is q ready key_pos key accepted =
+  query_under_hash kl vl hasher same key_calls calls fits query is q key_pos key accepted =
       let b = map_bytes m in
       let item = item_viewable wt.word (entry_spec ks.spec vs.spec) (entry_element ks.spec vs.spec kl vl) b (map_pos m) is key.0 key.1 in
       let valid : ValidAt ks.spec b key_pos = valid_key kl vl b key_pos (subst (ValidAt (entry_spec ks.spec vs.spec) b) (sym key.2) item.valid) in
-      ap (hash_of_calls hasher) (sym (query.same_calls q b key_pos ready valid accepted))
+      ap (hash_of_calls hasher) (sym (query.same_calls q b key_pos valid accepted))

@@ -20,10 +20,10 @@ first_not_after : (test : ℕ → Bool) (xs : List ℕ) (i : ℕ) → test (get_
 first_not_after test xs i passes = grind (arith, common_steps, cases_lt, prefix_len_passes)
 
 pub finds_matched : {Q State : Type 0} (w : Width) (k v : ElementSpec) (kl : IsElement k) (vl : IsElement v) (hasher : Hasher State) (same : Comparison)
-    (key_calls : List ℕ → ℕ → List HasherCall) (can_read : Q → Type 0) (calls : Q → List HasherCall) (fits : Q → List ℕ → ℕ → Bool)
-    → IsQuery k same key_calls can_read calls fits → ((q : Q) → hash_of_calls hasher (calls q) < 2 ^ 64)
-    → FindsMatchedKeys w k v can_read (λ q. query_of hasher key_calls same (calls q) (fits q))
-finds_matched {State = State} w k v kl vl hasher same key_calls can_read calls fits query small = λ b p homes i q view written below ready matched.
+    (key_calls : List ℕ → ℕ → List HasherCall) (calls : Q → List HasherCall) (fits : Q → List ℕ → ℕ → Bool)
+    → IsQuery k same key_calls calls fits → ((q : Q) → hash_of_calls hasher (calls q) < 2 ^ 64)
+    → FindsMatchedKeys w k v (λ q. query_of hasher key_calls same (calls q) (fits q))
+finds_matched {State = State} w k v kl vl hasher same key_calls calls fits query small = λ b p homes i q view written below matched.
     let key_hash : List ℕ → ℕ → ℕ = λ c r. hash_of_calls hasher (key_calls c r) in
     let at : ℕ → ℕ = pair_at w k v b p homes in
     let xs = home_positions w (entry_spec k v).size b p homes in
@@ -36,12 +36,12 @@ finds_matched {State = State} w k v kl vl hasher same key_calls can_read calls f
     let in_list : number < length xs = omega arith in
     let passes : fits q b (at number) ≡ true = ap (fits q b) (sym (place number inside)) ∙ passes_at_first (fits q b) xs 0 in_list in
     let equal : same b (at number) b (at i) ≡ true =
-    sym (query.respects_same q b b (at number) (at i) ready (valid number inside) (valid i below) passes) ∙ matched in
+    sym (query.respects_same q b b (at number) (at i) (valid number inside) (valid i below) passes) ∙ matched in
     record {
       number = number;
       not_after = not_after;
       at = first_accepted w k v kl vl key_hash b p homes view written (hash_of_calls hasher (calls q)) (fits q b) (small q)
-          (λ j l accepted. ap (hash_of_calls hasher) (sym (query.same_calls q b (at j) ready (valid j l) accepted)))
+          (λ j l accepted. ap (hash_of_calls hasher) (sym (query.same_calls q b (at j) (valid j l) accepted)))
           ∙ find_at (fits q b) xs ∙ slice_get-get_or xs number 0 in_list ∙ ap Some (place number inside);
       same = equal;
       alone = λ distinct. distinct number i inside below equal;

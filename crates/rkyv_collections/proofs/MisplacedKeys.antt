@@ -71,8 +71,8 @@ module _ (w : Width) (k v : ElementSpec) (kl : IsElement k) (vl : IsElement v) (
 
 -- if no key is misplaced, a lookup finds the one key that fits
 module _ {Q State : Type 0} (w : Width) (k v : ElementSpec) (kl : IsElement k) (vl : IsElement v) (hasher : Hasher State)
-    (same : Comparison) (key_calls : List ℕ → ℕ → List HasherCall) (can_read : Q → Type 0) (calls : Q → List HasherCall) (fits : Q → List ℕ → ℕ → Bool)
-    (query : IsQuery k same key_calls can_read calls fits) (b : List ℕ) (p : ℕ) (view : Viewable (map_spec w k v) b p) (q : Q) (ready : can_read q)
+    (same : Comparison) (key_calls : List ℕ → ℕ → List HasherCall) (calls : Q → List HasherCall) (fits : Q → List ℕ → ℕ → Bool)
+    (query : IsQuery k same key_calls calls fits) (b : List ℕ) (p : ℕ) (view : Viewable (map_spec w k v) b p) (q : Q)
     (small : hash_of_calls hasher (calls q) < 2 ^ 64) (none : map_misplaced w k v (hash_at hasher key_calls) same b p ≡ 0) where
   abbrev size : ℕ
   size = (entry_spec k v).size

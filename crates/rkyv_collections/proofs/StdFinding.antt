@@ -62,59 +62,59 @@ some_either x t = grind (arith, common_steps)
 
 module _ {State : Type 0} (hasher : Hasher State) (small : NumbersFit hasher) (w : Width) {k v : ElementSpec} (kl : IsElement k) (vl : IsElement v)
     {A B Q : Type 0} {key : List ℕ → ℕ → A → Type 0} {value : List ℕ → ℕ → B → Type 0} {same : Comparison} {key_calls : List ℕ → ℕ → List HasherCall}
-    {can_read : Q → Type 0} {calls : Q → List HasherCall} {fits : Q → List ℕ → ℕ → Bool} (query : IsQuery k same key_calls can_read calls fits) (factor : ℕ × ℕ) where
+    {calls : Q → List HasherCall} {fits : Q → List ℕ → ℕ → Bool} (query : IsQuery k same key_calls calls fits) (factor : ℕ × ℕ) where
   -- in a map that represents these entries
   entries_found : (b : List ℕ) (p : ℕ) → Viewable (map_spec w k v) b p → (entries : List (A × B))
       → MapRepresents w k v key value (hash_at hasher key_calls) factor b p entries
-      → FindsEntries w k (hash_of hasher calls) fits key can_read v value b p entries
-  entries_found b p view entries st q accept_value ready agrees =
+      → FindsEntries w k (hash_of hasher calls) fits key v value b p entries
+  entries_found b p view entries st q accept_value agrees =
       let hash = hash_at hasher key_calls in
       let accept = fits q b in
       let positions = home_positions w (entry_spec k v).size b p st.homes in
       let found = first_accepted w k v kl vl hash b p st.homes view st.written (hash_of hasher calls q) accept (small (calls q))
       (λ i h accepted.
       ap (hash_of_calls hasher)
-      (sym (query.same_calls q b (pair_at w k v b p st.homes i) ready (valid_key kl vl b (pair_at w k v b p st.homes i) (pair_valid w k v kl vl hash b p st.homes view st.written i h)) accepted))) in
+      (sym (query.same_calls q b (pair_at w k v b p st.homes i) (valid_key kl vl b (pair_at w k v b p st.homes i) (pair_valid w k v kl vl hash b p st.homes view st.written i h)) accepted))) in
       grind (arith, common_steps, first_listed w k v kl vl key value hash factor b p entries view accept accept_value agrees st, first_looked_up accept_value entries, value_behind)
 
   -- in any archive with the written bytes of a map of std
   looked_up : IsArchiveWord w → (equal : A → A → Bool) {R : Type 0} (f : Format (List (A × B)) R)
       → IsFormat (map_spec w k v) (MapRepresents w k v key value (hash_at hasher key_calls) factor) f
-      → IsFormat (map_spec w k v) (FindsEntries w k (hash_of hasher calls) fits key can_read v value) (of_entries equal f)
+      → IsFormat (map_spec w k v) (FindsEntries w k (hash_of hasher calls) fits key v value) (of_entries equal f)
   looked_up kind equal f base =
-      of_entries-format w kind kl vl factor equal (FindsEntries w k (hash_of hasher calls) fits key can_read v value) (λ b p view es st apart. entries_found b p view es st) f base
+      of_entries-format w kind kl vl factor equal (FindsEntries w k (hash_of hasher calls) fits key v value) (λ b p view es st apart. entries_found b p view es st) f base
 
 -- in any archive with the written bytes of a value that is written as a list of entries
 -- with distinct keys
 module _ {State : Type 0} (hasher : Hasher State) (small : NumbersFit hasher) (w : Width) (kind : IsArchiveWord w) (max : ℕ) {k v : ElementSpec} (kl : IsElement k) (vl : IsElement v)
     {A B Q X R S : Type 0} {key : List ℕ → ℕ → A → Type 0} {value : List ℕ → ℕ → B → Type 0} {same : Comparison} {key_calls : List ℕ → ℕ → List HasherCall}
-    {can_read : Q → Type 0} {calls : Q → List HasherCall} {fits : Q → List ℕ → ℕ → Bool} (query : IsQuery k same key_calls can_read calls fits)
-    {own_read : A → Type 0} {own_calls : A → List HasherCall} {own_fits : A → List ℕ → ℕ → Bool} (own : IsQuery k same key_calls own_read own_calls own_fits)
-    {equal : A → A → Bool} (native : FitsItsEqual k key equal own_fits) (itself : (a : A) → equal a a ≡ true) (reads : (a : A) → own_read a)
+    {calls : Q → List HasherCall} {fits : Q → List ℕ → ℕ → Bool} (query : IsQuery k same key_calls calls fits)
+    {own_calls : A → List HasherCall} {own_fits : A → List ℕ → ℕ → Bool} (own : IsQuery k same key_calls own_calls own_fits)
+    {equal : A → A → Bool} (native : FitsItsEqual k key equal own_fits) (itself : (a : A) → equal a a ≡ true)
     {key_format : Format A R} {value_format : Format B S} (key_law : IsFormat k key key_format) (value_law : IsFormat v value value_format) (model : X → List (A × B)) where
   abbrev pub whole_format : Format (List (A × B)) TableResolver
   whole_format = of_entries equal (listed max (7, 8) (map_format w k v key_format value_format (hash_of hasher own_calls) (7, 8)))
 
-  pub entries_looked_up : IsFormat (map_spec w k v) (λ b p x. FindsEntries w k (hash_of hasher calls) fits key can_read v value b p (model x)) (written_as model whole_format)
+  pub entries_looked_up : IsFormat (map_spec w k v) (λ b p x. FindsEntries w k (hash_of hasher calls) fits key v value b p (model x)) (written_as model whole_format)
   entries_looked_up =
       let f = listed max (7, 8) (map_format w k v key_format value_format (hash_of hasher own_calls) (7, 8)) in
-      written_as-format model (map_spec w k v) (FindsEntries w k (hash_of hasher calls) fits key can_read v value) (of_entries equal f)
-      (looked_up hasher small w kl vl query (7, 8) kind equal f (listed_map_sound hasher w kl vl (7, 8) max kind own native itself reads key_law value_law))
+      written_as-format model (map_spec w k v) (FindsEntries w k (hash_of hasher calls) fits key v value) (of_entries equal f)
+      (looked_up hasher small w kl vl query (7, 8) kind equal f (listed_map_sound hasher w kl vl (7, 8) max kind own native itself key_law value_law))
 
 -- the same for a set
-pub members_looked_up : {X A Q R : Type 0} (w : Width) (k s : ElementSpec) (key : List ℕ → ℕ → A → Type 0) (can_read : Q → Type 0) (hash : Q → ℕ) (fits : Q → List ℕ → ℕ → Bool) (model : X → List A) (f : Format X R)
-    → IsFormat s (λ b p x. FindsEntries w k hash fits key can_read unit_spec unit_represents b p (with_units (model x))) f
-    → IsFormat s (λ b p x. FindsMembers w k hash fits key can_read b p (model x)) f
-members_looked_up w k s key can_read hash fits model f law = record {
+pub members_looked_up : {X A Q R : Type 0} (w : Width) (k s : ElementSpec) (key : List ℕ → ℕ → A → Type 0) (hash : Q → ℕ) (fits : Q → List ℕ → ℕ → Bool) (model : X → List A) (f : Format X R)
+    → IsFormat s (λ b p x. FindsEntries w k hash fits key unit_spec unit_represents b p (with_units (model x))) f
+    → IsFormat s (λ b p x. FindsMembers w k hash fits key b p (model x)) f
+members_looked_up w k s key hash fits model f law = record {
   size_exact = law.size_exact;
   exclusive = law.exclusive;
   sound = λ x r c p0 p part out h i t o q al.
       let d = law.sound x r c p0 p part out h i t o q al in (
         d.0,
         d.1,
-        λ query accept_value ready agrees.
+        λ query accept_value agrees.
             let key_pos = pos_found generic_kind w (entry_spec k unit_spec).size c p (hash query) (fits query c) in
-            both_or_none unit_represents c (value_offset k unit_spec) key_pos (lookup accept_value (with_units (model x))) (d.2 query accept_value ready agrees)
+            both_or_none unit_represents c (value_offset k unit_spec) key_pos (lookup accept_value (with_units (model x))) (d.2 query accept_value agrees)
             ∙ ap is_some (unit_lookup accept_value (model x)) ∙ some_either {X = Unit {0}} tt (list_any accept_value (model x)),
       );
 }

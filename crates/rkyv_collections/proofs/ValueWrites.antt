@@ -85,8 +85,8 @@ module _ (k v : ElementSpec) (kl : IsElement k) (vl : IsElement v) where
     }
 
 -- a comparison that depends only on the keys depends only on each key and its parts
-pub rests_on_parts : {Q : Type 0} (k : ElementSpec) (can_read : Q → Type 0) (fits : Q → List ℕ → ℕ → Bool) → RestsOnKeys k can_read fits → (q : Q) → can_read q → RestsOnParts k (fits q)
-rests_on_parts k can_read fits rests q ready b c p h = rests q b c p h.valid.lower h.valid.upper h.valid.rest ready h.valid.order h.valid.before h.valid.is_valid h.fixed h.parts
+pub rests_on_parts : {Q : Type 0} (k : ElementSpec) (fits : Q → List ℕ → ℕ → Bool) → RestsOnKeys k fits → (q : Q) → RestsOnParts k (fits q)
+rests_on_parts k fits rests q b c p h = rests q b c p h.valid.lower h.valid.upper h.valid.rest h.valid.order h.valid.before h.valid.is_valid h.fixed h.parts
 
 -- the same for a key at `q` and its value at `pos`
 pub map_kept_at : (k v : ElementSpec) (kl : IsElement k) (vl : IsElement v) (w : Width) (key_hash : List ℕ → ℕ → ℕ) → HashLocal k key_hash → (b c : List ℕ) (p q pos : ℕ) → Viewable (map_spec w k v) b p

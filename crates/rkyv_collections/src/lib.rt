@@ -32,6 +32,7 @@ pub use map::in_place::iter_seal::{IterMut, ValuesMut};
 pub use map::read::iter::{Iter, Keys, Values};
 pub use map::write::HashMapResolver;
 pub use map::{ArchivedHashMap, HashMapOf};
+pub use rkyv_keys::KeyView;
 pub use rkyv_keys::keys::{KeyElement, NativeKey, NativeQuery, Query};
 pub use rkyv_scan::hash::{FxHasher64, FxHasher64Wide, KeyHasher};
 pub use rkyv_table::Decoded;

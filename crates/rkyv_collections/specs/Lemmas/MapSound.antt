@@ -31,33 +31,29 @@ module _ {State : Type 0} (hasher : Hasher State) (w : Width) {k v : ElementSpec
   -- in any archive with the written bytes of a map and its header, the map is valid and represents
   -- the pairs
   pub map_sound : IsArchiveWord w
-      → {can_read : A → Type 0} {calls : A → List HasherCall} {fits : A → List ℕ → ℕ
-      → Bool} {equal : A → A → Bool} {R Q : Type 0} {kf : Format A R} {vf : Format B Q}
-      → IsQuery k same key_calls can_read calls fits → FitsItsEqual k key equal fits
-      → ((a : A) → equal a a ≡ true) → ((a : A) → can_read a)
-      → IsFormat k key kf → IsFormat v value vf
+      → {calls : A → List HasherCall} {fits : A → List ℕ → ℕ → Bool} {equal : A → A → Bool}
+      {R Q : Type 0} {kf : Format A R} {vf : Format B Q}
+      → IsQuery k same key_calls calls fits → FitsItsEqual k key equal fits
+      → ((a : A) → equal a a ≡ true) → IsFormat k key kf → IsFormat v value vf
       → IsFormat (map_spec w k v) (MapRepresents w k v key value (hash_at hasher key_calls) factor)
       (map_format w k v kf vf (hash_of hasher calls) factor)
-  map_sound kind {can_read} {calls} {fits} {equal} {R} {Q} {kf} {vf} query native itself reads kw
-      vw =
+  map_sound kind {calls} {fits} {equal} {R} {Q} {kf} {vf} query native itself kw vw =
       map_is_format k v kl vl w key value (hash_at hasher key_calls) factor (hash_of hasher calls)
       (λ a b q valid there. grind (
         arith,
         common_steps,
-        hashes_as_written k same key_calls can_read calls fits key equal itself query native a b
-            q (reads a) valid there,
+        hashes_as_written k same key_calls calls fits key equal itself query native a b q valid
+            there,
       ))
       kind kf vf kw vw
 
   -- the same for a list, written by a call that takes exactly its pairs
   pub listed_map_sound : (max : ℕ) → IsArchiveWord w
-      → {can_read : A → Type 0} {calls : A → List HasherCall} {fits : A → List ℕ → ℕ
-      → Bool} {equal : A → A → Bool}
+      → {calls : A → List HasherCall} {fits : A → List ℕ → ℕ → Bool} {equal : A → A → Bool}
       {R Q : Type 0} {kf : Format A R} {vf : Format B Q}
-      → IsQuery k same key_calls can_read calls fits → FitsItsEqual k key equal fits
-      → ((a : A) → equal a a ≡ true) → ((a : A) → can_read a)
-      → IsFormat k key kf → IsFormat v value vf
+      → IsQuery k same key_calls calls fits → FitsItsEqual k key equal fits
+      → ((a : A) → equal a a ≡ true) → IsFormat k key kf → IsFormat v value vf
       → IsFormat (map_spec w k v) (MapRepresents w k v key value (hash_at hasher key_calls) factor)
       (listed max factor (map_format w k v kf vf (hash_of hasher calls) factor))
-  listed_map_sound max kind {can_read} {calls} {fits} {equal} {R} {Q} {kf} {vf} query native itself
-      reads kw vw = search (rules, listed-format, map_sound)
+  listed_map_sound max kind {calls} {fits} {equal} {R} {Q} {kf} {vf} query native itself kw vw =
+      search (rules, listed-format, map_sound)

@@ -23,14 +23,14 @@ module _ {State : Type 0} (hasher : Hasher State) (w : Width) {k : ElementSpec} 
   -- in any archive with the written bytes of a set and its header, the set is valid and represents
   -- the keys
   pub set_sound : IsArchiveWord w
-      → {can_read : A → Type 0} {calls : A → List HasherCall} {fits : A → List ℕ → ℕ
-      → Bool} {equal : A → A → Bool} {R : Type 0} {kf : Format A R}
-      → IsQuery k same key_calls can_read calls fits → FitsItsEqual k key equal fits
-      → ((a : A) → equal a a ≡ true) → ((a : A) → can_read a) → IsFormat k key kf
+      → {calls : A → List HasherCall} {fits : A → List ℕ → ℕ → Bool} {equal : A → A → Bool}
+      {R : Type 0} {kf : Format A R}
+      → IsQuery k same key_calls calls fits → FitsItsEqual k key equal fits
+      → ((a : A) → equal a a ≡ true) → IsFormat k key kf
       → IsFormat (set_spec w k) (SetRepresents w k key (hash_at hasher key_calls) factor)
       (set_format w k kf (hash_of hasher calls) factor)
-  set_sound kind {can_read} {calls} {fits} {equal} {R} {kf} query native itself reads kw =
+  set_sound kind {calls} {fits} {equal} {R} {kf} query native itself kw =
       written_as-format with_units (set_spec w k)
       (MapRepresents w k unit_spec key unit_represents (hash_at hasher key_calls) factor)
       (map_format w k unit_spec kf unit_format (hash_of hasher calls) factor)
-      (map_sound hasher w kl unit_element factor kind query native itself reads kw unit_is_format)
+      (map_sound hasher w kl unit_element factor kind query native itself kw unit_is_format)

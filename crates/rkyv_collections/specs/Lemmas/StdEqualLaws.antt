@@ -139,17 +139,16 @@ module _ (w : Width) (k v : ElementSpec) (kl : IsElement k) (vl : IsElement v) {
 pub entries_equal : {State : Type 0} (hasher : Hasher State) (w : Width) (kind : IsArchiveWord w)
     {k v : ElementSpec} (kl : IsElement k) (vl : IsElement v) {A B R : Type 0}
     {key : List ℕ → ℕ → A → Type 0} {equals : List ℕ → ℕ → B → Type 0} {same : Comparison}
-    {key_calls : List ℕ → ℕ → List HasherCall} {can_read : A → Type 0}
-    {calls : A → List HasherCall} {fits : A → List ℕ → ℕ → Bool} {equal : A → A → Bool}
-    (factor : ℕ × ℕ) → IsQuery k same key_calls can_read calls fits
-    → FitsItsEqual k key equal fits → IsEquivalence equal → ((a : A) → can_read a)
+    {key_calls : List ℕ → ℕ → List HasherCall} {calls : A → List HasherCall}
+    {fits : A → List ℕ → ℕ → Bool} {equal : A → A → Bool} (factor : ℕ × ℕ)
+    → IsQuery k same key_calls calls fits → FitsItsEqual k key equal fits → IsEquivalence equal
     → (f : Format (List (A × B)) R)
     → IsFormat (map_spec w k v) (MapRepresents w k v key equals (hash_at hasher key_calls) factor) f
     → IsFormat (map_spec w k v) (EntriesEqual w k v (hash_of hasher calls) fits equals)
     (of_entries equal f)
-entries_equal hasher w kind {k} {v} kl vl {A} {B} {R} {key} {equals} {same} {key_calls} {can_read}
-    {calls} {fits} {equal} factor query native laws reads f base =
+entries_equal hasher w kind {k} {v} kl vl {A} {B} {R} {key} {equals} {same} {key_calls} {calls}
+    {fits} {equal} factor query native laws f base =
     written_equal w k v kl vl key equals (hash_of hasher calls) (hash_at hasher key_calls) fits
     equal
-    (λ q b p h yes'. ap (hash_of_calls hasher) (sym (query.same_calls q b p (reads q) h yes')))
+    (λ q b p h yes'. ap (hash_of_calls hasher) (sym (query.same_calls q b p h yes')))
     native laws factor kind f base

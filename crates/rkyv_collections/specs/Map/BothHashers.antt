@@ -4,7 +4,6 @@ use Rattle.std.specs.Int.{Width}
 use Rattle.rkyv_scan.specs.{HasherCall, IsFixed, SizeWords, fx_hash, generic_kind}
 use Rattle.rkyv_base.specs.{ElementSpec, Viewable, entry_spec}
 use Rattle.rkyv_keys.specs.{fx_hash_at}
-use Rattle.rkyv_keys.specs.declared.hash.KeyHash.{Ghosts as KeyHashes}
 use Rattle.rkyv_table.specs.{pos_found}
 use Rattle.rkyv_collections.specs.Map.{MapWrittenAt}
 use Rattle.rkyv_collections.specs.Map.MapSpec.{map_spec}
@@ -29,12 +28,12 @@ module _ (w : Width) (k v : ElementSpec) where
       → fx_found one calls b p accept ≡ fx_found other calls b p accept
 
   -- in a written map, a query finds the same key under both rules
-  abbrev pub QueriedAlike : {Q : Type 0} → (List ℕ → ℕ → List HasherCall) → KeyHashes Q
+  abbrev pub QueriedAlike : {Q : Type 0} → (List ℕ → ℕ → List HasherCall) → (Q → List HasherCall)
       → (Q → List ℕ → ℕ → Bool) → Type 0
-  QueriedAlike {Q} key_calls queries fits =
+  QueriedAlike {Q} key_calls calls fits =
       (one other : SizeWords) (b : List ℕ) (p : ℕ) (homes : List ℕ)
       → Viewable (map_spec w k v) b p
       → MapWrittenAt w (entry_spec k v) (fx_hash_at one key_calls) b p homes
-      → (query : Q) → queries.can_read query
-      → fx_found one (queries.calls query) b p (fits query b)
-      ≡ fx_found other (queries.calls query) b p (fits query b)
+      → (query : Q)
+      → fx_found one (calls query) b p (fits query b)
+      ≡ fx_found other (calls query) b p (fits query b)

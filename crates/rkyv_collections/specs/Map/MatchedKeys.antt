@@ -25,12 +25,12 @@ module _ (w : Width) (k v : ElementSpec) where
     pub same : same_key b (pair_at w k v b p homes number) b (pair_at w k v b p homes i) ≡ true
     pub alone : HasDistinctKeys same_key b p homes → number ≡ i
 
-  -- in a valid written map, each query that can be read finds a key if it matches one.
+  -- in a valid written map, each query finds a key if it matches one.
   -- `lookup_of`: the lookup of a query
-  abbrev pub FindsMatchedKeys : {Q : Type 0} → (Q → Type 0) → (Q → KeyLookup) → Type 0
-  FindsMatchedKeys {Q} can_read lookup_of = (b : List ℕ) (p : ℕ) (homes : List ℕ) (i : ℕ) (q : Q)
+  abbrev pub FindsMatchedKeys : {Q : Type 0} → (Q → KeyLookup) → Type 0
+  FindsMatchedKeys {Q} lookup_of = (b : List ℕ) (p : ℕ) (homes : List ℕ) (i : ℕ) (q : Q)
       → Viewable (map_spec w k v) b p
       → MapWrittenAt w (entry_spec k v) (lookup_of q).key_hash b p homes → i < length homes
-      → can_read q → (lookup_of q).fits b (pair_at w k v b p homes i) ≡ true
+      → (lookup_of q).fits b (pair_at w k v b p homes i) ≡ true
       → FindsSameKey (lookup_of q).same b p homes i
       (pos_found generic_kind w (entry_spec k v).size b p (lookup_of q).hash ((lookup_of q).fits b))

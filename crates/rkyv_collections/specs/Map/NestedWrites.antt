@@ -49,11 +49,10 @@ module _ (w : Width) (k v : ElementSpec) where
 
   -- after a write among the parts of the value of a key, each query `q` finds the same key.
   -- `hash q`: its hash
-  abbrev pub NestedWritesKeepLookups : {Q : Type 0} → (Q → Type 0) → (Q → ℕ)
-      → (Q → List ℕ → ℕ → Bool) → Type 0
-  NestedWritesKeepLookups {Q} can_read hash fits =
+  abbrev pub NestedWritesKeepLookups : {Q : Type 0} → (Q → ℕ) → (Q → List ℕ → ℕ → Bool) → Type 0
+  NestedWritesKeepLookups {Q} hash fits =
       (b c : List ℕ) (p pos : ℕ) → Viewable (map_spec w k v) b p → IsKeyPosAt w k v b p pos
-      → WritesAmongParts v b c (value_pos k v pos) → (q : Q) → can_read q
+      → WritesAmongParts v b c (value_pos k v pos) → (q : Q)
       → pos_found generic_kind w (entry_spec k v).size c p (hash q) (fits q c)
       ≡ pos_found generic_kind w (entry_spec k v).size b p (hash q) (fits q b)
 

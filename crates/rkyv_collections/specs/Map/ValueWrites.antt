@@ -43,12 +43,10 @@ module _ (w : Width) (k v : ElementSpec) where
       → WritesValue k v b c (entry_at b p i) → KeepsMap key_hash b c p i
 
   -- after a write of one value in place, a query with a hash of its own finds the same key
-  abbrev pub ValueWritesKeepLookups : {Q : Type 0} → (Q → Type 0) → (Q → ℕ)
-      → (Q → List ℕ → ℕ → Bool) → Type 0
-  ValueWritesKeepLookups {Q} can_read hash fits =
+  abbrev pub ValueWritesKeepLookups : {Q : Type 0} → (Q → ℕ) → (Q → List ℕ → ℕ → Bool) → Type 0
+  ValueWritesKeepLookups {Q} hash fits =
       (b c : List ℕ) (p i : ℕ) → Viewable (map_spec w k v) b p → IsWalked w b p i
-      → WritesValue k v b c (entry_at b p i)
-      → (q : Q) → can_read q
+      → WritesValue k v b c (entry_at b p i) → (q : Q)
       → pos_found generic_kind w (entry_spec k v).size c p (hash q) (fits q c)
       ≡ pos_found generic_kind w (entry_spec k v).size b p (hash q) (fits q b)
 

@@ -39,17 +39,17 @@ module _ {Q A : Type 0} (w : Width) (k : ElementSpec) (hash : Q → ℕ)
       (pos_found generic_kind w (entry_spec k v).size b p (hash q) (fits q b))
       (lookup accept_value entries)
 
-  module _ (key : List ℕ → ℕ → A → Type 0) (can_read : Q → Type 0) where
-    -- each query that can be read finds in the map at `p` the value that `entries` have
+  module _ (key : List ℕ → ℕ → A → Type 0) where
+    -- each query finds in the map at `p` the value that `entries` have
     abbrev pub FindsEntries : {B : Type 0} → ElementSpec → (List ℕ → ℕ → B → Type 0) → List ℕ → ℕ
         → List (A × B) → Type 0
-    FindsEntries v value b p entries = (q : Q) (accept_value : A → Bool) → can_read q
+    FindsEntries v value b p entries = (q : Q) (accept_value : A → Bool)
         → AgreesOnKeys k key b (fits q b) accept_value
         → FindsFirstAccepted v value b p q accept_value entries
 
-    -- each query that can be read is found in the set at `p` if and only if a key is accepted
+    -- each query is found in the set at `p` if and only if a key is accepted
     abbrev pub FindsMembers : List ℕ → ℕ → List A → Type 0
-    FindsMembers b p keys = (q : Q) (accept_value : A → Bool) → can_read q
+    FindsMembers b p keys = (q : Q) (accept_value : A → Bool)
         → AgreesOnKeys k key b (fits q b) accept_value
         → is_some (pos_found generic_kind w (entry_spec k unit_spec).size b p (hash q) (fits q b))
         ≡ list_any accept_value keys
@@ -64,20 +64,19 @@ FindsFirstAcceptedIn {ks = ks} {vs = vs} {wt = wt} m queries value q accept_valu
     FindsFirstAccepted wt.word ks.spec queries.hash queries.fits vs.spec value (map_bytes m)
     (map_pos m) q accept_value entries
 
--- In any archive with the written bytes of a map of std, each query that can be read finds
--- the value that the map has. `k`, `v`: what represents the keys and the values
+-- In any archive with the written bytes of a map of std, each query finds the value
+-- that the map has. `k`, `v`: what represents the keys and the values
 abbrev pub FindsInWrittenMap : {A B S H R Q : Type 0} → Width → ElementMembers A
-    → ElementMembers B → Queried Q → (Q → Type 0) → Format (Hashed (HashMap A B S) H) R → Type 0
-FindsInWrittenMap w k v queries can_read f = IsFormat (map_spec w k.spec v.spec)
-    (λ b p x. FindsEntries w k.spec queries.hash queries.fits k.represents can_read v.spec
-    v.represents
+    → ElementMembers B → Queried Q → Format (Hashed (HashMap A B S) H) R → Type 0
+FindsInWrittenMap w k v queries f = IsFormat (map_spec w k.spec v.spec)
+    (λ b p x. FindsEntries w k.spec queries.hash queries.fits k.represents v.spec v.represents
     b p x.map.entries)
     f
 
--- In any archive with the written bytes of a set of std, each query
--- that can be read is looked up. It is found if and only if the set has an accepted key
+-- In any archive with the written bytes of a set of std, each query is looked up.
+-- It is found if and only if the set has an accepted key
 abbrev pub FindsInWrittenSet : {A S H R Q : Type 0} → Width → ElementMembers A → Queried Q
-    → (Q → Type 0) → Format (Hashed (HashSet A S) H) R → Type 0
-FindsInWrittenSet w k queries can_read f = IsFormat (set_spec w k.spec)
-    (λ b p x. FindsMembers w k.spec queries.hash queries.fits k.represents can_read b p x.map.keys)
+    → Format (Hashed (HashSet A S) H) R → Type 0
+FindsInWrittenSet w k queries f = IsFormat (set_spec w k.spec)
+    (λ b p x. FindsMembers w k.spec queries.hash queries.fits k.represents b p x.map.keys)
     f

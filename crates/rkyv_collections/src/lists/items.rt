@@ -102,7 +102,7 @@ where
         (SetRepresents W.word A.Archived.spec A.Archived.represents hash x.load_factor)
         (set_format W.word A.Archived.spec A.format own x.load_factor)
         (set_sound H.hasher W.word A.Archived.laws x.load_factor W.layout.kind
-        A.query A.native A.Eq.laws.refl A.reads A.Archive.laws)) };
+        A.query A.native A.Eq.laws.refl A.Archive.laws)) };
 }
 
 impl<'a, S: Writer, W: Width, H: KeyHasher, A: Serialize<S, W>> Serialize<S, W>

@@ -105,7 +105,7 @@ where
         x.load_factor))
         (λ x. listed_map_sound H.hasher W.word A.Archived.laws B.Archived.laws x.load_factor
         W.MAX_CAPACITY W.layout.kind
-        A.query A.native A.Eq.laws.refl A.reads A.Archive.laws B.laws) };
+        A.query A.native A.Eq.laws.refl A.Archive.laws B.laws) };
 }
 
 impl<'a, S: Writer, W: Width, H: KeyHasher, A: Serialize<S, W>, B: Serialize<S, W>> Serialize<S, W>

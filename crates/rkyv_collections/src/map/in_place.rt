@@ -56,7 +56,6 @@ impl<'a, K: KeyElement, V: Element, H: KeyHasher, W: Width> ArchivedHashMap<'a, 
     #[inline]
     pub(crate) fn value_pos_in<Q: Query<K>>(archive: &[u8], root: u64, key: &Q) -> Option<u64>
         requires map { Viewable (map_spec W.word K.spec V.spec) archive.now root }
-        requires query { Q.can_read key.now }
         ensures walked { IfSome result (λ pos. (key_pos : ℕ)
             × IsKeyPosAt W.word K.spec V.spec archive.now root key_pos
             × (pos ≡ value_pos K.spec V.spec key_pos)) }
@@ -79,7 +78,6 @@ impl<'a, K: KeyElement, V: Element, H: KeyHasher, W: Width> ArchivedHashMap<'a, 
         cmp: F,
     ) -> Option<u64>
         requires map { Viewable (map_spec W.word K.spec V.spec) archive.now root }
-        requires query { Q.can_read key.now }
         requires callable { CanCompareKeysAt W.word K.spec V.spec archive.now root
             (F.pre cmp key) }
         ensures inside { IfSome result (λ pos. pos + V.spec.size ≤ length archive.now) }
@@ -101,7 +99,6 @@ impl<'a, K: KeyElement, V: Element, H: KeyHasher, W: Width> ArchivedHashMap<'a, 
     /// # Requires
     ///
     /// - The archive has a valid map at `root`.
-    /// - The query can be read.
     /// - `write` can be called with the archive and each position of a valid value.
     ///
     /// # Examples
@@ -126,7 +123,6 @@ impl<'a, K: KeyElement, V: Element, H: KeyHasher, W: Width> ArchivedHashMap<'a, 
         write: F,
     ) -> Option<R>
         requires map { Viewable (map_spec W.word K.spec V.spec) archive.old root }
-        requires query { Q.can_read key.now }
         requires callable { MayWriteIn F.pre V.spec write archive.old }
         ensures { FoundValueHasAt (map_at W.Word K.HasSpec V.HasSpec archive.old root)
             (query_of H.hasher K.key_calls K.same (Q.calls key.now) (Q.fits key.now))
@@ -146,7 +142,6 @@ impl<'a, K: KeyElement, V: Element, H: KeyHasher, W: Width> ArchivedHashMap<'a, 
     /// # Requires
     ///
     /// - The archive has a valid map at `root`.
-    /// - `key` can be read.
     /// - The comparison can be called with `key` and each key of the map.
     /// - `write` can be called with the archive and each position of a valid value.
     #[inline]
@@ -158,7 +153,6 @@ impl<'a, K: KeyElement, V: Element, H: KeyHasher, W: Width> ArchivedHashMap<'a, 
         write: G,
     ) -> Option<R>
         requires map { Viewable (map_spec W.word K.spec V.spec) archive.old root }
-        requires query { Q.can_read key.now }
         requires callable { CanCompareKeysAt W.word K.spec V.spec archive.old root
             (F.pre cmp key) }
         requires writable { MayWriteIn G.pre V.spec write archive.old }
@@ -182,7 +176,6 @@ impl<'a, K: KeyElement, V: Element, H: KeyHasher, W: Width> ArchivedHashMap<'a, 
 /// # Requires
 ///
 /// - The archive has a valid map at `root`.
-/// - The key can be read, as each native key can.
 ///
 /// # Examples
 ///
@@ -203,7 +196,6 @@ pub fn set_value_of<
     W: Width,
 >(archive: &mut [u8], root: u64, key: &A, value: N) -> bool
     requires map { Viewable (map_spec W.word K.spec N.spec) archive.old root }
-    requires query { A.can_read key.now }
     ensures sets { SetsValue (map_at W.Word K.HasSpec N.HasSpec archive.old root)
         (query_of H.hasher K.key_calls K.same (A.calls key.now) (A.fits key.now))
         N.encoding value result archive.new }

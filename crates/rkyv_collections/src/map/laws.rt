@@ -94,7 +94,7 @@ pub fn repeated_keys_are_misplaced<K: KeyElement, V: Element, H: KeyHasher, W: W
 ///
 /// The found key was not inserted later. If no two keys of the map are the same, it is that key.
 pub fn matched_keys_are_found<Q: Query<K>, K: KeyElement, V: Element, H: KeyHasher, W: Width>()
-    ensures { FindsMatchedKeys W.word K.spec V.spec Q.can_read
+    ensures { FindsMatchedKeys W.word K.spec V.spec
         (λ q. query_of H.hasher K.key_calls K.same (Q.calls q) (Q.fits q)) }
 {}
 
@@ -148,7 +148,7 @@ pub fn walks_visit_each<
 pub fn both_hashers_look_up_alike<Q: Query<K>, K: FixedKey, V: Element, W: Width>()
     ensures written { WrittenAlike W.word K.spec V.spec K.key_calls }
     ensures compared { ComparedAlike W.word K.spec V.spec }
-    ensures queried { QueriedAlike W.word K.spec V.spec K.key_calls Q.KeyHash Q.fits }
+    ensures queried { QueriedAlike W.word K.spec V.spec K.key_calls Q.calls Q.fits }
 {}
 
 /// States the layout of a map, and that it represents the pairs of a list in insertion order.

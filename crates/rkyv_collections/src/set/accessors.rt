@@ -165,10 +165,6 @@ impl<'a, K: KeyElement, H: KeyHasher, W: Width> ArchivedHashSet<'a, K, H, W> {
     ///
     /// A lookup in an untrusted set may read all of its control bytes.
     ///
-    /// # Requires
-    ///
-    /// - The query can be read.
-    ///
     /// # Examples
     ///
     /// ```rust
@@ -183,7 +179,6 @@ impl<'a, K: KeyElement, H: KeyHasher, W: Width> ArchivedHashSet<'a, K, H, W> {
     /// ```
     #[inline]
     pub fn get<Q: Query<K>>(self, key: &Q) -> Option<View<'a, K>>
-        requires query { Q.can_read key.now }
         ensures { GetsMember self.entry
             (query_of H.hasher K.key_calls K.same (Q.calls key.now) (Q.fits key.now)) result }
     {
@@ -194,10 +189,6 @@ impl<'a, K: KeyElement, H: KeyHasher, W: Width> ArchivedHashSet<'a, K, H, W> {
     /// Returns `true` if and only if the query finds a key.
     ///
     /// A lookup in an untrusted set may read all of its control bytes.
-    ///
-    /// # Requires
-    ///
-    /// - The query can be read.
     ///
     /// # Examples
     ///
@@ -210,7 +201,6 @@ impl<'a, K: KeyElement, H: KeyHasher, W: Width> ArchivedHashSet<'a, K, H, W> {
     /// ```
     #[inline]
     pub fn contains<Q: Query<K>>(self, key: &Q) -> bool
-        requires query { Q.can_read key.now }
         ensures { FoundMemberHas self.entry
             (query_of H.hasher K.key_calls K.same (Q.calls key.now) (Q.fits key.now)) (IsFoundAt
             result) }

@@ -91,7 +91,7 @@ pub fn members_found_are_listed<
 pub fn both_hashers_look_up_alike<Q: Query<K>, K: FixedKey, W: Width>()
     ensures written { WrittenAlike W.word K.spec unit_spec K.key_calls }
     ensures compared { ComparedAlike W.word K.spec unit_spec }
-    ensures queried { QueriedAlike W.word K.spec unit_spec K.key_calls Q.KeyHash Q.fits }
+    ensures queried { QueriedAlike W.word K.spec unit_spec K.key_calls Q.calls Q.fits }
 {
     maps_look_up_alike::<Q, K, (), W>();
 }

@@ -28,7 +28,6 @@ impl<'a, K: KeyElement, V: HasSpec, H: KeyHasher, W: Width> ArchivedHashMap<'a, 
     pub(crate) fn finds_equal<A: Query<K>, B>(self, key: &A, value: &B) -> bool
     where
         V: MatchesNative<B>,
-        requires query { A.can_read key.now }
         ensures { let queries = queried H.hasher A.calls A.fits in
             IsTrue result ↔ FindsPairIn self.entry queries V.equals (key.now, value.now) }
     {
@@ -149,7 +148,7 @@ where
     A: NativeKey<A::Archived>,
 {
     ghost equal = { std_map_equal (λ x. x.map.entries) H.hasher W.word A.Archived.laws
-        B.Archived.laws W.MAX_CAPACITY W.layout.kind A.query A.native A.Eq.laws A.reads
+        B.Archived.laws W.MAX_CAPACITY W.layout.kind A.query A.native A.Eq.laws
         A.Archive.laws B.equal };
 }
 

@@ -57,7 +57,7 @@ where
     }
 
     ghost laws = { std_map_sound (λ x. x.map.entries) H.hasher W.word A.Archived.laws
-        B.Archived.laws W.MAX_CAPACITY W.layout.kind A.query A.native A.Eq.laws A.reads
+        B.Archived.laws W.MAX_CAPACITY W.layout.kind A.query A.native A.Eq.laws
         A.Archive.laws B.laws };
 }
 

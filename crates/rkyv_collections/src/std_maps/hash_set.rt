@@ -68,7 +68,7 @@ where
     }
 
     ghost laws = { std_map_sound (λ x. with_units x.map.keys) H.hasher W.word A.Archived.laws
-        unit_element W.MAX_CAPACITY W.layout.kind A.query A.native A.Eq.laws A.reads
+        unit_element W.MAX_CAPACITY W.layout.kind A.query A.native A.Eq.laws
         A.Archive.laws unit_is_format };
 }
 
@@ -259,7 +259,7 @@ where
         set_equal_written W.word A.Archived.spec set (hash_of H.hasher A.calls) A.fits
         (λ x. x.map.keys) ⟦<Hashed<HashSet<A, T>, H> as Archive<W>>⟧.format
         (std_map_equal (λ x. with_units x.map.keys) H.hasher W.word A.Archived.laws unit_element
-        W.MAX_CAPACITY W.layout.kind A.query A.native A.Eq.laws A.reads A.Archive.laws
+        W.MAX_CAPACITY W.layout.kind A.query A.native A.Eq.laws A.Archive.laws
         unit_is_format) };
 }
 

@@ -34,7 +34,7 @@ use std::hash::{BuildHasher, Hash};
 /// States that a lookup in an archive of a map of std agrees with that map.
 ///
 /// It finds the value of the accepted key, and no key if and only if the map has none.
-/// The law is about any archive that has the written bytes, and about any query that can be read.
+/// The law is about any archive that has the written bytes, and about any query.
 ///
 /// The comparison must decide by the values that the keys represent. That of a native key accepts
 /// the keys that equal it.
@@ -51,7 +51,7 @@ where
     A: NativeKey<A::Archived>,
     ensures { let format = ⟦<Hashed<HashMap<A, B, T>, H> as Archive<W>>⟧.format in
         FindsInWrittenMap W.word A.Archived.Represents B.Archived.Represents
-        (queried H.hasher Q.calls Q.fits) Q.can_read format }
+        (queried H.hasher Q.calls Q.fits) format }
 {
     nested_maps_are_looked_up::<Q, W, H, A, B, T, ValueRelation>();
 }
@@ -60,7 +60,7 @@ where
 ///
 /// It finds a key if and only if the set has an accepted key.
 ///
-/// The law is about any archive that has the written bytes, and about any query that can be read.
+/// The law is about any archive that has the written bytes, and about any query.
 ///
 /// The comparison must decide by the values that the keys represent.
 pub fn written_sets_are_looked_up<
@@ -74,7 +74,7 @@ where
     A::Archived: KeyElement,
     A: NativeKey<A::Archived>,
     ensures { let format = ⟦<Hashed<HashSet<A, T>, H> as Archive<W>>⟧.format in
-        FindsInWrittenSet W.word A.Archived.Represents (queried H.hasher Q.calls Q.fits) Q.can_read
+        FindsInWrittenSet W.word A.Archived.Represents (queried H.hasher Q.calls Q.fits)
         format }
 {}
 

@@ -68,7 +68,7 @@ where
         (with_relation B.Archived.Represents R.related) (hash_at H.hasher A.Archived.key_calls) };
 
     ghost written = { entries_listed H.hasher W.word W.layout.kind W.MAX_CAPACITY A.Archived.laws
-        B.Archived.laws A.query A.native A.Eq.laws.refl A.reads A.Archive.laws R.written
+        B.Archived.laws A.query A.native A.Eq.laws.refl A.Archive.laws R.written
         (λ x. x.map.entries) };
 }
 
@@ -87,7 +87,7 @@ where
         (hash_at H.hasher A.Archived.key_calls) };
 
     ghost written = { entries_listed H.hasher W.word W.layout.kind W.MAX_CAPACITY A.Archived.laws
-        unit_element A.query A.native A.Eq.laws.refl A.reads A.Archive.laws unit_is_format
+        unit_element A.query A.native A.Eq.laws.refl A.Archive.laws unit_is_format
         (λ x. with_units x.map.keys) };
 }
 
@@ -139,7 +139,7 @@ where
     A: NativeKey<A::Archived>,
     ensures { FindsInWrittenMap W.word A.Archived.Represents
         (with_relation B.Archived.Represents R.related) (queried H.hasher Q.calls Q.fits)
-        Q.can_read ⟦<Hashed<HashMap<A, B, T>, H> as Archive<W>>⟧.format }
+        ⟦<Hashed<HashMap<A, B, T>, H> as Archive<W>>⟧.format }
 {}
 
 /// States that a written map of std represents the list of its entries, each value by `R`.

@@ -58,7 +58,7 @@ where
     }
 
     ghost laws = { std_map_sound (λ x. x.map.now.entries) H.hasher W.word A.Archived.laws
-        B.Archived.laws W.MAX_CAPACITY W.layout.kind A.query A.native A.Eq.laws A.reads
+        B.Archived.laws W.MAX_CAPACITY W.layout.kind A.query A.native A.Eq.laws
         A.Archive.laws B.laws };
 }
 
@@ -108,7 +108,7 @@ where
     }
 
     ghost laws = { std_map_sound (λ x. with_units x.map.now.keys) H.hasher W.word A.Archived.laws
-        unit_element W.MAX_CAPACITY W.layout.kind A.query A.native A.Eq.laws A.reads
+        unit_element W.MAX_CAPACITY W.layout.kind A.query A.native A.Eq.laws
         A.Archive.laws unit_is_format };
 }
 

@@ -43,7 +43,6 @@ impl<'a, K: KeyElement, V: Element, H: KeyHasher, W: Width> ArchivedHashMap<'a, 
         cmp: F,
     ) -> Option<u64>
         requires map { IsMapSeal W.word K.spec V.spec this.now }
-        requires query { Q.can_read key.now }
         requires callable { CanCompareKeysIn W.word K.spec V.spec this.now (F.pre cmp key) }
         ensures walked { IfSome result (IsKeyPosIn W.word K.spec V.spec this.now) }
         ensures finds { FoundByHasAt (map_sealed W.Word K.HasSpec V.HasSpec this.now)
@@ -60,7 +59,6 @@ impl<'a, K: KeyElement, V: Element, H: KeyHasher, W: Width> ArchivedHashMap<'a, 
         key: &Q,
     ) -> Option<u64>
         requires map { IsMapSeal W.word K.spec V.spec this.now }
-        requires query { Q.can_read key.now }
         ensures walked { IfSome result (IsKeyPosIn W.word K.spec V.spec this.now) }
         ensures finds { FoundKeyHasAt (map_sealed W.Word K.HasSpec V.HasSpec this.now)
             (query_of H.hasher K.key_calls K.same (Q.calls key.now) (Q.fits key.now))
@@ -116,7 +114,6 @@ impl<'a, K: KeyElement, V: Element, H: KeyHasher, W: Width> ArchivedHashMap<'a, 
     /// # Requires
     ///
     /// - The archive has a valid map at the position of the seal.
-    /// - `key` can be read.
     /// - The comparison can be called with `key` and each key of the map.
     #[inline]
     pub fn get_key_value_seal_with<Q: KeyHash, F: Fn(&Q, View<'_, K>) -> bool>(
@@ -125,7 +122,6 @@ impl<'a, K: KeyElement, V: Element, H: KeyHasher, W: Width> ArchivedHashMap<'a, 
         cmp: F,
     ) -> Option<(View<'a, K>, Seal<'a, V>)>
         requires map { IsMapSeal W.word K.spec V.spec this }
-        requires query { Q.can_read key.now }
         requires callable { CanCompareKeysIn W.word K.spec V.spec this (F.pre cmp key) }
         ensures inside { IfSome result (λ pair. LiesIn V.spec pair.1) }
         ensures viewable { IfSome result (λ pair. IsValidView K.spec pair.0) }
@@ -150,7 +146,6 @@ impl<'a, K: KeyElement, V: Element, H: KeyHasher, W: Width> ArchivedHashMap<'a, 
     /// # Requires
     ///
     /// - The archive has a valid map at the position of the seal.
-    /// - The query can be read.
     ///
     /// # Examples
     ///
@@ -173,7 +168,6 @@ impl<'a, K: KeyElement, V: Element, H: KeyHasher, W: Width> ArchivedHashMap<'a, 
         key: &Q,
     ) -> Option<(View<'a, K>, Seal<'a, V>)>
         requires map { IsMapSeal W.word K.spec V.spec this }
-        requires query { Q.can_read key.now }
         ensures inside { IfSome result (λ pair. LiesIn V.spec pair.1) }
         ensures viewable { IfSome result (λ pair. IsValidView K.spec pair.0) }
         ensures walked { IfSome result (IsPairSeal W.word K.spec V.spec this.entry) }
@@ -194,7 +188,6 @@ impl<'a, K: KeyElement, V: Element, H: KeyHasher, W: Width> ArchivedHashMap<'a, 
     /// # Requires
     ///
     /// - The archive has a valid map at the position of the seal.
-    /// - `key` can be read.
     /// - The comparison can be called with `key` and each key of the map.
     #[inline]
     pub fn get_seal_with<Q: KeyHash, F: Fn(&Q, View<'_, K>) -> bool>(
@@ -203,7 +196,6 @@ impl<'a, K: KeyElement, V: Element, H: KeyHasher, W: Width> ArchivedHashMap<'a, 
         cmp: F,
     ) -> Option<Seal<'a, V>>
         requires map { IsMapSeal W.word K.spec V.spec this }
-        requires query { Q.can_read key.now }
         requires callable { CanCompareKeysIn W.word K.spec V.spec this (F.pre cmp key) }
         ensures inside { IfSome result (LiesIn V.spec) }
         ensures viewable { IfSome result (λ value. Viewable V.spec (bytes_in value)
@@ -226,7 +218,6 @@ impl<'a, K: KeyElement, V: Element, H: KeyHasher, W: Width> ArchivedHashMap<'a, 
     /// # Requires
     ///
     /// - The archive has a valid map at the position of the seal.
-    /// - The query can be read.
     ///
     /// # Examples
     ///
@@ -252,7 +243,6 @@ impl<'a, K: KeyElement, V: Element, H: KeyHasher, W: Width> ArchivedHashMap<'a, 
         key: &Q,
     ) -> Option<Seal<'a, V>>
         requires map { IsMapSeal W.word K.spec V.spec this }
-        requires query { Q.can_read key.now }
         ensures inside { IfSome result (LiesIn V.spec) }
         ensures viewable { IfSome result (λ value. Viewable V.spec (bytes_in value)
             (seal_pos value)) }

@@ -27,7 +27,6 @@ use rkyv_scan::KeyHasher;
 /// # Requires
 ///
 /// - The archive has a valid map to texts at `root`.
-/// - The key can be read, as each native key can.
 ///
 /// # Examples
 ///
@@ -45,7 +44,6 @@ pub fn make_ascii_uppercase_of<
     W: Width,
 >(archive: &mut [u8], root: u64, key: &A) -> Option<bool>
     requires map { Viewable (map_to_texts_spec W.word K.spec) archive.old root }
-    requires query { A.can_read key.now }
     ensures uppercases { UppercasesText (map_to_texts_at W.Word K.HasSpec archive.old root)
         (query_of H.hasher K.key_calls K.same (A.calls key.now) (A.fits key.now))
         result archive.new }

@@ -21,7 +21,7 @@ pub fn value_writes_keep_maps<K: KeyElement, V: Element, H: KeyHasher, W: Width>
 /// States that each query finds the same key after a write of one value that keeps it valid.
 pub fn value_writes_keep_lookups<K: KeyElement, V: Element, Q: Query<K>, H: KeyHasher, W: Width>()
     ensures { let hash = hash_of H.hasher Q.calls in
-        ValueWritesKeepLookups W.word K.spec V.spec Q.can_read hash Q.fits }
+        ValueWritesKeepLookups W.word K.spec V.spec hash Q.fits }
 {}
 
 /// States that a write of one value in place replaces it in the represented list of pairs.

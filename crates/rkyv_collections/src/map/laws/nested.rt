@@ -27,7 +27,7 @@ pub fn nested_writes_keep_maps<K: KeyElement, V: Element, H: KeyHasher, W: Width
 /// States that each query finds the same key after a write among the parts of a value.
 pub fn nested_writes_keep_lookups<K: KeyElement, V: Element, Q: Query<K>, H: KeyHasher, W: Width>()
     ensures { let hash = hash_of H.hasher Q.calls in
-        NestedWritesKeepLookups W.word K.spec V.spec Q.can_read hash Q.fits }
+        NestedWritesKeepLookups W.word K.spec V.spec hash Q.fits }
 {}
 
 /// States that a write among the parts of a found value replaces it in the represented list.

@@ -9,7 +9,7 @@ ghost use Rattle.rkyv_collections.specs.{finds_same, map_equal, map_spec, map_vi
 
 use crate::map::{ArchivedHashMap, HashMapOf};
 use rkyv_base::{View, Width};
-use rkyv_keys::{ElementEq, KeyElement};
+use rkyv_keys::{ElementEq, KeyElement, KeyView};
 use rkyv_scan::KeyHasher;
 
 impl<'a, K: KeyElement, V: ElementEq, H: KeyHasher, W: Width> ArchivedHashMap<'a, K, V, H, W> {
@@ -22,7 +22,7 @@ impl<'a, K: KeyElement, V: ElementEq, H: KeyHasher, W: Width> ArchivedHashMap<'a
         ensures { let key_hash = hash_at H.hasher K.key_calls in
             result ≡ finds_same self.entry key_hash K.same V.same key.entry }
     {
-        match self.get(&key) {
+        match self.get(&KeyView::of(key)) {
             Some(found) => V::same(value, found),
             None => false,
         }

@@ -59,7 +59,6 @@ impl<'a, K: KeyElement, V: Element, H: KeyHasher, W: Width> ArchivedHashMap<'a, 
     pub(crate) fn find<Q: KeyHash, F>(self, key: &Q, cmp: F) -> Option<View<'a, Entry<K, V>>>
     where
         F: Fn(&Q, View<'a, K>) -> bool,
-        requires query { Q.can_read key.now }
         requires callable { CanCompareKeys self (F.pre cmp key) }
         ensures found { GetsBy entry_part self.entry (hash_of H.hasher Q.calls key.now)
             (hash_at H.hasher K.key_calls) (F.post cmp key.entry) result }
@@ -91,13 +90,11 @@ impl<'a, K: KeyElement, V: Element, H: KeyHasher, W: Width> ArchivedHashMap<'a, 
     ///
     /// # Requires
     ///
-    /// - `key` can be read.
     /// - The comparison can be called with `key` and each key of the map.
     #[inline]
     pub fn get_key_value_with<Q: KeyHash, F>(self, key: &Q, cmp: F) -> Option<PairView<'a, K, V>>
     where
         F: Fn(&Q, View<'a, K>) -> bool,
-        requires query { Q.can_read key.now }
         requires callable { CanCompareKeys self (F.pre cmp key) }
         ensures { GetsBy pair_part self.entry (hash_of H.hasher Q.calls key.now)
             (hash_at H.hasher K.key_calls) (F.post cmp key.entry) result }
@@ -113,13 +110,11 @@ impl<'a, K: KeyElement, V: Element, H: KeyHasher, W: Width> ArchivedHashMap<'a, 
     ///
     /// # Requires
     ///
-    /// - `key` can be read.
     /// - The comparison can be called with `key` and each key of the map.
     #[inline]
     pub fn get_with<Q: KeyHash, F>(self, key: &Q, cmp: F) -> Option<View<'a, V>>
     where
         F: Fn(&Q, View<'a, K>) -> bool,
-        requires query { Q.can_read key.now }
         requires callable { CanCompareKeys self (F.pre cmp key) }
         ensures { GetsBy value_part self.entry (hash_of H.hasher Q.calls key.now)
             (hash_at H.hasher K.key_calls) (F.post cmp key.entry) result }
@@ -130,15 +125,13 @@ impl<'a, K: KeyElement, V: Element, H: KeyHasher, W: Width> ArchivedHashMap<'a, 
     /// Returns the entry of the key that the query finds, or `None`.
     #[inline]
     pub(crate) fn find_key<Q: Query<K>>(self, key: &Q) -> Option<View<'a, Entry<K, V>>>
-        requires query { Q.can_read key.now }
         ensures { GetsKey entry_part self.entry
             (query_of H.hasher K.key_calls K.same (Q.calls key.now) (Q.fits key.now)) result }
     {
         self.find(
             key,
             |key, stored|
-                requires query { Q.can_read key.now }
-                requires key { IsValidView K.spec stored }
+                requires { IsValidView K.spec stored }
                 ensures { result ≡ Q.fits key.entry.now stored.entry.archive.now stored.entry.pos }
             { key.same(stored) },
         )
@@ -154,13 +147,8 @@ impl<'a, K: KeyElement, V: Element, H: KeyHasher, W: Width> ArchivedHashMap<'a, 
     ///
     /// A lookup in an untrusted map may read all of its control bytes.
     /// `FxHasher64` takes no secret key, so it doesn't protect from chosen input.
-    ///
-    /// # Requires
-    ///
-    /// - The query can be read.
     #[inline]
     pub fn get_key_value<Q: Query<K>>(self, key: &Q) -> Option<PairView<'a, K, V>>
-        requires query { Q.can_read key.now }
         ensures { GetsKey pair_part self.entry
             (query_of H.hasher K.key_calls K.same (Q.calls key.now) (Q.fits key.now)) result }
     {
@@ -172,10 +160,6 @@ impl<'a, K: KeyElement, V: Element, H: KeyHasher, W: Width> ArchivedHashMap<'a, 
     /// It looks up as `get_key_value` does.
     ///
     /// A lookup in an untrusted map may read all of its control bytes.
-    ///
-    /// # Requires
-    ///
-    /// - The query can be read.
     ///
     /// # Examples
     ///
@@ -189,7 +173,6 @@ impl<'a, K: KeyElement, V: Element, H: KeyHasher, W: Width> ArchivedHashMap<'a, 
     /// ```
     #[inline]
     pub fn get<Q: Query<K>>(self, key: &Q) -> Option<View<'a, V>>
-        requires query { Q.can_read key.now }
         ensures { GetsKey value_part self.entry
             (query_of H.hasher K.key_calls K.same (Q.calls key.now) (Q.fits key.now)) result }
     {
@@ -199,13 +182,8 @@ impl<'a, K: KeyElement, V: Element, H: KeyHasher, W: Width> ArchivedHashMap<'a, 
     /// Returns `true` if and only if the query finds a key.
     ///
     /// A lookup in an untrusted map may read all of its control bytes.
-    ///
-    /// # Requires
-    ///
-    /// - The query can be read.
     #[inline]
     pub fn contains_key<Q: Query<K>>(self, key: &Q) -> bool
-        requires query { Q.can_read key.now }
         ensures { FoundKeyHas self.entry
             (query_of H.hasher K.key_calls K.same (Q.calls key.now) (Q.fits key.now)) (IsFoundAt
             result) }
@@ -219,7 +197,6 @@ impl<'a, K: KeyElement, V: Element, H: KeyHasher, W: Width> ArchivedHashMap<'a, 
     ///
     /// # Requires
     ///
-    /// - The query can be read.
     /// - The query finds a key. `contains_key` then returns `true`.
     ///
     /// # Examples
@@ -237,7 +214,6 @@ impl<'a, K: KeyElement, V: Element, H: KeyHasher, W: Width> ArchivedHashMap<'a, 
     /// ```
     #[inline]
     pub fn index<Q: Query<K>>(self, key: &Q) -> View<'a, V>
-        requires query { Q.can_read key.now }
         requires found { FindsKey self
             (hash_of H.hasher Q.calls key.now)
             (Q.fits key.now (map_bytes self)) IsSome }

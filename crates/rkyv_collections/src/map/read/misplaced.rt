@@ -11,8 +11,8 @@ ghost use Rattle.rkyv_keys.specs.{hash_at};
 ghost use Rattle.rkyv_collections.specs.{CountsKeysUpTo, misplaced_keys};
 
 use crate::map::ArchivedHashMap;
-use rkyv_base::{Element, View, Width};
-use rkyv_keys::{KeyElement, hash_value};
+use rkyv_base::{Element, Width};
+use rkyv_keys::{KeyElement, KeyView, hash_value};
 use rkyv_scan::KeyHasher;
 use rkyv_table::Strides;
 
@@ -47,7 +47,7 @@ impl<'a, K: KeyElement, V: Element, H: KeyHasher, W: Width> ArchivedHashMap<'a, 
                 requires { IsValidView (entry_spec K.spec V.spec) entry }
                 ensures { result ≡ hash_at H.hasher K.key_calls (bytes_of entry.entry)
                     (pos_of entry.entry) }
-            { hash_value::<View<'_, K>, H>(&entry.key()) },
+            { hash_value::<KeyView<'_, K>, H>(&KeyView::of(entry.key())) },
             |own, other|
                 requires own { IsValidView (entry_spec K.spec V.spec) own }
                 requires other { IsValidView (entry_spec K.spec V.spec) other }
@@ -90,7 +90,7 @@ impl<'a, K: KeyElement, V: Element, H: KeyHasher, W: Width> ArchivedHashMap<'a, 
                 requires { IsValidView (entry_spec K.spec V.spec) entry }
                 ensures { result ≡ hash_at H.hasher K.key_calls (bytes_of entry.entry)
                     (pos_of entry.entry) }
-            { hash_value::<View<'_, K>, H>(&entry.key()) },
+            { hash_value::<KeyView<'_, K>, H>(&KeyView::of(entry.key())) },
             |entry, other|
                 requires entry { IsValidView (entry_spec K.spec V.spec) entry }
                 requires other { IsValidView (entry_spec K.spec V.spec) other }

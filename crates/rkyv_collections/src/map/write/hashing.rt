@@ -32,7 +32,7 @@ impl<A: KeyHash, B, H: KeyHasher, BK: Lend<A>, BV: Lend<B>, I: Iterator<Item = (
     for HashedEntries<I, A, B, H> {
     type Item = (u64, EntryAdapter<BK, BV, A, B>);
 
-    ghost can_next = { λ s. I.can_next s.pairs × ((key : A) → A.can_read key) };
+    ghost can_next = { λ s. I.can_next s.pairs };
 
     ghost next_gives = { λ s r t. HashedStep I.next_gives (λ key.
         hash_of H.hasher A.calls (BK.lent key)) s.pairs r t.pairs };

@@ -5,5 +5,5 @@ use Rattle.rkyv_collections.proofs.map.ArchivedHashMap.find_key.Goals as goal
 pub returns : goal.returns
 returns g c =
     gets_query c.args.self g.H.KeyHasher.hasher g.K.HasSpec.laws g.V.HasSpec.laws g.K.ElementEq.same g.K.KeyElement.key_calls
-    g.Q.KeyHash.can_read g.Q.KeyHash.calls g.Q.Query.fits g.met.Q.Query.query c.args.self.valid c.args.key.now c.requires.query c.find.ensures.hash
+    g.Q.KeyHash.calls g.Q.Query.fits g.met.Q.Query.query c.args.self.valid c.args.key.now c.find.ensures.hash
     _ (λ key r e. e.1) entry_part c.find.result c.find.ensures.found

@@ -14,4 +14,4 @@ returns-clause-compared g c = grind (arith, common_steps, fixed_alike)
 pub returns-clause-queried : goal.returns-clause-queried
 returns-clause-queried g c =
     queried_alike g.W.Word.word g.K.HasSpec.spec g.V.HasSpec.spec g.K.HasSpec.laws g.V.HasSpec.laws g.K.ElementEq.same g.K.KeyElement.key_calls
-    g.Q.KeyHash g.Q.Query.fits g.met.Q.Query.query g.met.K.FixedKey.fixed
+    g.Q.KeyHash.calls g.Q.Query.fits g.met.Q.Query.query g.met.K.FixedKey.fixed

@@ -20,10 +20,10 @@ returns-clause-same g c =
     let b : List ℕ = c.in_ok-bytes.bytes.items in
     let finds_at : List ℕ → ℕ → Type 0 = λ b p. FindsFirstAccepted w g.A.Archived.HasSpec.spec (hash_of g.H.KeyHasher.hasher g.A.KeyHash.calls) g.A.Query.fits g.B.Archived.HasSpec.spec g.B.Archived.MatchesNative.equals b p key (g.A.PartialEq.eq key) c.args.map.now.map.entries in
     let at = root_keeps g.W.Width.LIMIT s (table_element w g.met.W.Width.layout.kind _ (entry_element _ _ kl vl)) _ _
-    (entries_looked_up g.H.KeyHasher.hasher g.met.H.KeyHasher.fits w g.met.W.Width.layout.kind g.W.Width.MAX_CAPACITY kl vl met.Query.query met.Query.query met.NativeKey.native met.Eq.laws.refl met.NativeKey.reads
+    (entries_looked_up g.H.KeyHasher.hasher g.met.H.KeyHasher.fits w g.met.W.Width.layout.kind g.W.Width.MAX_CAPACITY kl vl met.Query.query met.Query.query met.NativeKey.native met.Eq.laws.refl
     met.Archive.laws g.met.B.EqualsWritten.equal (λ x. x.map.entries))
     c.args.map.now b (length b - s.size) c.in_ok-bytes.ensures.2 in
-    let found : finds_at b (length b - s.size) = at key (g.A.PartialEq.eq key) (met.NativeKey.reads key) (λ a q valid there. met.NativeKey.native key a b q valid there) in
+    let found : finds_at b (length b - s.size) = at key (g.A.PartialEq.eq key) (λ a q valid there. met.NativeKey.native key a b q valid there) in
     let here = subst (λ (xs : List ℕ). finds_at xs (length xs - s.size)) (sym c.as_slice.ensures.value) found in
     let at_root = back_at c.in-Ok.root c.as_slice.result _ c.in-Ok.ensures.root.1 finds_at here in
     c.agrees_on.ensures.1 (subst (λ view. finds_at (bytes_of view) (pos_of view)) (sym c.of.ensures.view) at_root)

@@ -8,7 +8,7 @@ use Rattle.rkyv_collections.proofs.ValueWrites.{rests_on_parts}
 use Rattle.rkyv_collections.proofs.map.laws.nested.nested_writes_keep_lookups.Goals as goal
 
 pub returns : goal.returns
-returns g c = λ b d p pos view at writes q ready.
+returns g c = λ b d p pos view at writes q.
     let h = g.H.KeyHasher in
     let k = g.K.HasSpec.spec in
     let v = g.V.HasSpec.spec in
@@ -17,4 +17,4 @@ returns g c = λ b d p pos view at writes q ready.
     b d p at.0 view at.1 (subst (λ z. WritesAmongParts v b d (value_pos k v z)) at.2 writes) in
     let rests = rests_on_keys g.K.HasSpec.laws g.met.K.ElementEquiv.equivalence g.met.K.KeyElement.key g.met.Q.Query.query in
     kept.lookups (hash_of h.hasher g.Q.KeyHash.calls q) (g.Q.Query.fits q) (g.met.H.KeyHasher.fits (g.Q.KeyHash.calls q))
-    (rests_on_parts k g.Q.KeyHash.can_read g.Q.Query.fits rests q ready)
+    (rests_on_parts k g.Q.Query.fits rests q)

@@ -6,4 +6,4 @@ returns g c = λ factor.
     let h = g.H.KeyHasher in
     let key = g.met.A in
     set_sound h.hasher g.W.Word.word g.K.HasSpec.laws factor g.met.W.Width.layout.kind
-    key.Query.query key.NativeKey.native key.Eq.laws.refl key.NativeKey.reads key.Archive.laws
+    key.Query.query key.NativeKey.native key.Eq.laws.refl key.Archive.laws
