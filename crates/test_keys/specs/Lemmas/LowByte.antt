@@ -6,7 +6,7 @@ use Rattle.std.proofs.Common.{inl, inr, refl, subst}
 use Rattle.rkyv_base.specs.{IsElement, RepresentsLocally, unsigned}
 use Rattle.rkyv_base.specs.Lemmas.Numbers.{unsigned_codes}
 use Rattle.rkyv_base.specs.Lemmas.Scalar.{scalar_element, scalar_laws, scalar_local}
-use Rattle.rkyv_keys.specs.{IsEquivalence, IsKey, IsQuery, ReadsAnywhere}
+use Rattle.rkyv_keys.specs.{IsEquivalence, IsKey, IsQuery}
 use Rattle.rkyv_keys.specs.Lemmas.OfValues.{value_equivalence, value_key, value_query}
 use Rattle.test_keys.specs.LowByte.{byte_call, low_byte, low_calls, low_fits, low_represents}
 use Rattle.test_keys.specs.LowByte.{low_same, low_spec}
@@ -25,5 +25,5 @@ low_key = value_key low_spec low_byte nat_eq unsigned_Decides byte_call
     (λ v b c p lo hi l o h fixed part st. subst (λ s. from_le_bytes w32 s % 256 ≡ v) fixed st)
 
 pub low_query : {Q : Type 0} (model : Q → ℕ)
-    → IsQuery low_spec low_same low_calls ReadsAnywhere (λ q. byte_call (model q)) (low_fits model)
+    → IsQuery low_spec low_same low_calls (λ q. byte_call (model q)) (low_fits model)
 low_query model = value_query low_spec low_byte nat_eq unsigned_Decides byte_call model

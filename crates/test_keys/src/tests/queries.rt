@@ -1,8 +1,9 @@
 //! Tests of keys in archives, looked up by native values and by keys of other archives.
 use rkyv_base::access::access;
-use rkyv_base::{Entry, ReadError, Text, VerifyError, View, Wide};
+use rkyv_base::{Entry, ReadError, Text, VerifyError, Wide};
 use rkyv_keys::{
-    Deserialize, ElementDebug, ElementEq, KeyElement, MatchesNative, Query, Shown, hash_value, laws,
+    Deserialize, ElementDebug, ElementEq, KeyElement, KeyView, MatchesNative, Query, Shown,
+    hash_value, laws,
 };
 use rkyv_scan::{FxHasher64, KeyHasher};
 use std::alloc::Global;
@@ -30,11 +31,9 @@ const HELLO_SEVEN: [u8; 12] = [0x68, 0x65, 0x6c, 0x6c, 0x6f, 0xff, 0xff, 0xff, 7
 // The entry of "hello" and 8.
 const HELLO_EIGHT: [u8; 12] = [0x68, 0x65, 0x6c, 0x6c, 0x6f, 0xff, 0xff, 0xff, 8, 0, 0, 0];
 
-// Each of the next five functions returns `None` if an archive is not valid.
+// Each of the next six functions returns `None` if an archive is not valid.
 
-fn query_matches<K: KeyElement, Q: Query<K>>(query: &Q, bytes: &[u8]) -> Option<bool>
-    requires { Q.can_read query.now }
-{
+fn query_matches<K: KeyElement, Q: Query<K>>(query: &Q, bytes: &[u8]) -> Option<bool> {
     match access::<K>(bytes) {
         Ok(key) => Some(query.same(key)),
         Err(_) => None,
@@ -43,8 +42,23 @@ fn query_matches<K: KeyElement, Q: Query<K>>(query: &Q, bytes: &[u8]) -> Option<
 
 fn key_matches<K: KeyElement>(archive: &[u8], other: &[u8]) -> Option<bool> {
     match access::<K>(archive) {
-        Ok(query) => query_matches::<K, View<'_, K>>(&query, other),
+        Ok(view) => query_matches::<K, KeyView<'_, K>>(&KeyView::of(view), other),
         Err(_) => None,
+    }
+}
+
+// Returns the hash of an archived key as a query, and whether it and its clone match another key.
+fn hashes_and_matches<K: KeyElement>(archive: &[u8], other: &[u8]) -> Option<(u64, bool, bool)> {
+    match (access::<K>(archive), access::<K>(other)) {
+        (Ok(view), Ok(other)) => {
+            let key = KeyView::of(view);
+            let hash = hash_value::<KeyView<'_, K>, FxHasher64>(&key);
+            match key.clone() {
+                Ok(clone) => Some((hash, key.same(other), clone.same(other))),
+                Err(_) => None,
+            }
+        }
+        _ => None,
     }
 }
 
@@ -182,6 +196,29 @@ fn archived_keys_match_keys_of_other_archives(rt: HostRuntime) {
         key_matches::<u16>(&[1, 2], &[1, 2]),
     ];
     expect_eq!(rt; compared, [yes, no, yes, no, yes]);
+}
+
+#[test]
+fn archived_keys_hash_and_match_as_queries(rt: HostRuntime) {
+    laws::views_match_same_keys::<u16>();
+    laws::key_views_are_cloned::<u16>();
+    let found = [
+        hashes_and_matches::<Text>(&HELLO, &HELLO_AGAIN),
+        hashes_and_matches::<Text>(&HELLO, &WONDERFUL),
+        hashes_and_matches::<u16>(&[1, 2], &[1, 2]),
+        hashes_and_matches::<u16>(&[1, 2], &[1, 3]),
+    ];
+    let text = hash_value::<&str, FxHasher64>(&"hello");
+    let number = hash_value::<u16, FxHasher64>(&0x0201);
+    expect_eq!(rt;
+        found,
+        [
+            Some((text, true, true)),
+            Some((text, false, false)),
+            Some((number, true, true)),
+            Some((number, false, false))
+        ]
+    );
 }
 
 #[test]

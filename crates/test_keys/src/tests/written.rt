@@ -14,7 +14,6 @@ fn finds_itself<W: Width, V: Serialize<VecWriter, W> + NativeKey<V::Archived>>(
 ) -> Result<bool, WriteError<NoMemory>>
 where
     V::Archived: KeyElement,
-    requires { V.can_read key.now }
     ensures { IfOk result (λ found. found ≡ true) }
 {
     let bytes = to_bytes_in::<W, V>(alloc, key)?;
