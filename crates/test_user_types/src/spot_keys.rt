@@ -72,8 +72,6 @@ impl Query<ArchivedSpot> for Spot {
 
 impl NativeKey<ArchivedSpot> for Spot {
     ghost native = { spot_fits_its_equal };
-
-    ghost reads = { λ key. tt };
 }
 
 impl MatchesNative<Spot> for ArchivedSpot {

@@ -4,7 +4,7 @@ use Rattle.std.specs.Int.{w32}
 use Rattle.std.specs.Ordering.{int_eq}
 use Rattle.rkyv_scan.specs.{I32}
 use Rattle.rkyv_base.specs.{ScalarRepresents, signed}
-use Rattle.rkyv_keys.specs.{FitsItsEqual, IsEquivalence, IsKey, IsQuery, ReadsAnywhere, scalar_fits}
+use Rattle.rkyv_keys.specs.{FitsItsEqual, IsEquivalence, IsKey, IsQuery, scalar_fits}
 use Rattle.rkyv_keys.specs.Lemmas.OfEntries.{entry_equivalence, entry_fits_its_equal, entry_key}
 use Rattle.rkyv_keys.specs.Lemmas.OfEntries.{entry_query}
 use Rattle.rkyv_keys.specs.Lemmas.OfScalars.{scalar_equivalence, scalar_fits_its_equal, scalar_key}
@@ -24,15 +24,14 @@ spot_key = entry_key int_element int_element
     (scalar_key int_spec (signed w32) int_eq signed_Decides I32 int_laws)
     (scalar_key int_spec (signed w32) int_eq signed_Decides I32 int_laws)
 
-pub spot_query : IsQuery spot_spec spot_same spot_key_calls ReadsAnywhere spot_calls spot_fits
+pub spot_query : IsQuery spot_spec spot_same spot_key_calls spot_calls spot_fits
 spot_query =
     let q = entry_query int_element int_element
     (scalar_query int_spec (signed w32) int_eq signed_Decides I32)
     (scalar_query int_spec (signed w32) int_eq signed_Decides I32) in
     record {
-      same_calls = λ spot b p r h f. q.same_calls (as_pair spot) b p (tt, tt) h f;
-      respects_same =
-          λ spot b c p r ready h g f. q.respects_same (as_pair spot) b c p r (tt, tt) h g f;
+      same_calls = λ spot. q.same_calls (as_pair spot);
+      respects_same = λ spot. q.respects_same (as_pair spot);
     }
 
 pub spot_fits_its_equal : FitsItsEqual spot_spec SpotRepresents spot_eq spot_fits
