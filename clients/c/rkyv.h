@@ -204,6 +204,13 @@ typedef struct rkyv_map {
     rkyv_table_header header;
 } rkyv_map;
 
+/* The initializer of a pair or a member of any type: all zeros. An iteration begins with it. */
+#ifdef __cplusplus
+#define RKYV_PAIR_INIT {}
+#else
+#define RKYV_PAIR_INIT {0}
+#endif
+
 /* A pair of a map with number keys. `next` is the bucket at which the iteration continues. */
 typedef struct rkyv_number_pair {
     uint64_t next;
@@ -499,8 +506,9 @@ rkyv_status rkyv_map_set_long_number(const rkyv_map *map, uint64_t key, uint64_t
 rkyv_status rkyv_map_set_text(const rkyv_map *map, const char *key, size_t length,
                               uint64_t value);
 
-/* Stores the next pair of a map with number keys, in the order of the archive. After a pair of
- * zeros this is the first pair. Each pair of the map is stored once before RKYV_END.
+/* Stores the next pair of a map with number keys, in the order of the archive. After a pair that
+ * RKYV_PAIR_INIT initializes, this is the first pair. Each pair of the map is stored once before
+ * RKYV_END.
  *
  * Errors:
  *   - RKYV_NULL: `map` is null;

@@ -129,6 +129,37 @@ static void sizes(void) {
     same("item", sizeof(rkyv_set_text), 16);
 }
 
+/* Each pair and each member that RKYV_PAIR_INIT initializes is zero. */
+static void initializers(void) {
+    rkyv_number_pair number = RKYV_PAIR_INIT;
+    rkyv_long_number_pair long_number = RKYV_PAIR_INIT;
+    rkyv_text_pair text = RKYV_PAIR_INIT;
+    rkyv_number_text_pair number_text = RKYV_PAIR_INIT;
+    rkyv_long_number_text_pair long_number_text = RKYV_PAIR_INIT;
+    rkyv_text_text_pair text_text = RKYV_PAIR_INIT;
+    rkyv_number_member number_item = RKYV_PAIR_INIT;
+    rkyv_long_number_member long_number_item = RKYV_PAIR_INIT;
+    rkyv_text_member text_item = RKYV_PAIR_INIT;
+    rkyv_index_number_pair index_number = RKYV_PAIR_INIT;
+    rkyv_index_text_text_pair index_text_text = RKYV_PAIR_INIT;
+
+    same("numbers", number.next + number.value + number.key, 0);
+    same("long numbers", long_number.next + long_number.value + long_number.key, 0);
+    same("texts", text.next + text.value + text.key_length, 0);
+    same("to texts", number_text.next + number_text.value_length + number_text.key, 0);
+    same("to texts", long_number_text.next + long_number_text.value_length, 0);
+    same("to texts", long_number_text.key, 0);
+    same("to texts", text_text.next + text_text.value_length + text_text.key_length, 0);
+    same("no text", text.key == NULL && number_text.value == NULL, 1);
+    same("no text", long_number_text.value == NULL && text_text.value == NULL, 1);
+    same("no text", text_text.key == NULL && text_item.item == NULL, 1);
+    same("items", number_item.next + number_item.item + long_number_item.next, 0);
+    same("items", long_number_item.item + text_item.next + text_item.item_length, 0);
+    same("index", index_number.value + index_number.key + index_text_text.value_length, 0);
+    same("index", index_text_text.key_length, 0);
+    same("no text", index_text_text.value == NULL && index_text_text.key == NULL, 1);
+}
+
 /* A status and its name. */
 #define NAMED(status) {status, #status}
 
@@ -204,8 +235,8 @@ static void numbers(void) {
     size_t length = one_to_two(bytes), count = 9;
     uint64_t value = 9;
     rkyv_map map, closed = {NULL, NULL, 0, 0, 0, {0, 0, 0, 0, 0}};
-    rkyv_number_pair pair = {0, 0, 0};
-    rkyv_text_pair text = {0, 0, NULL, 0};
+    rkyv_number_pair pair = RKYV_PAIR_INIT;
+    rkyv_text_pair text = RKYV_PAIR_INIT;
 
     returns("open", rkyv_map_open(bytes, length, RKYV_NUMBER_TO_U32, 32, &map), RKYV_OK);
     returns("count", rkyv_map_count(&map, &count), RKYV_OK);
@@ -298,9 +329,9 @@ static void overlapping_keys(void) {
     uint64_t value = 9;
     const rkyv_text_item items[] = {{7, "abcd", 4}, {8, "", 0}};
     rkyv_map map;
-    rkyv_text_pair pair = {0, 0, NULL, 0};
+    rkyv_text_pair pair = RKYV_PAIR_INIT;
     rkyv_index_map index_map;
-    rkyv_index_text_pair index_pair = {0, NULL, 0};
+    rkyv_index_text_pair index_pair = RKYV_PAIR_INIT;
 
     returns("build", rkyv_build_texts(items, 2, RKYV_TEXT_TO_U32, 64, &bytes, &length), RKYV_OK);
     returns("open", rkyv_map_open_writable(bytes, length, RKYV_TEXT_TO_U32, 64, &map), RKYV_OK);
@@ -379,7 +410,7 @@ static void several_numbers(void) {
     size_t length, count = 9;
     uint8_t *bytes = forty_pairs(RKYV_NUMBER_TO_U32, &length);
     rkyv_map map, closed = {NULL, NULL, 0, 0, 0, {0, 0, 0, 0, 0}};
-    rkyv_number_pair pairs[50], text = {0, 0, 0};
+    rkyv_number_pair pairs[50], text = RKYV_PAIR_INIT;
     rkyv_text_pair others[1];
 
     returns("open", rkyv_map_open(bytes, length, RKYV_NUMBER_TO_U32, 32, &map), RKYV_OK);
@@ -426,7 +457,7 @@ static void several_texts(void) {
 
     returns("open", rkyv_map_open(bytes, length, RKYV_TEXT_TO_U32, 32, &map), RKYV_OK);
     for (size_t room = 1; room <= 50; room++) {
-        rkyv_text_pair one = {0, 0, NULL, 0};
+        rkyv_text_pair one = RKYV_PAIR_INIT;
         size_t seen = 0;
         do {
             returns("next pairs", rkyv_map_next_texts(&map, one.next, pairs, room, &count),
@@ -483,7 +514,7 @@ static void errors(void) {
     uint64_t value = 9;
     size_t length = one_to_two(bytes), count;
     rkyv_map map, closed = {NULL, NULL, 0, 0, 0, {0, 0, 0, 0, 0}};
-    rkyv_number_pair pair = {0, 0, 0};
+    rkyv_number_pair pair = RKYV_PAIR_INIT;
 
     returns("no map", rkyv_map_open(bytes, length, RKYV_NUMBER_TO_U32, 32, NULL), RKYV_NULL);
     returns("null", rkyv_map_open(NULL, 1, RKYV_NUMBER_TO_U32, 32, &map), RKYV_NULL);
@@ -1235,7 +1266,7 @@ static void numbers_to_texts(void) {
     rkyv_map map, closed = {NULL, NULL, 0, 0, 0, {0, 0, 0, 0, 0}};
     rkyv_number_text_pair pair = {0, NULL, 9, 9}, pairs[3];
     rkyv_text_text_pair texts[1];
-    rkyv_number_pair none = {0, 0, 0};
+    rkyv_number_pair none = RKYV_PAIR_INIT;
 
     returns("open", rkyv_map_open(bytes, length, kind, 32, &map), RKYV_OK);
     returns("count", rkyv_map_count(&map, &count), RKYV_OK);
@@ -1319,7 +1350,7 @@ static void texts_to_texts(void) {
     rkyv_map map, closed = {NULL, NULL, 0, 0, 0, {0, 0, 0, 0, 0}};
     rkyv_text_text_pair pair = {0, NULL, 9, NULL, 9}, pairs[2];
     rkyv_number_text_pair numbers[1];
-    rkyv_text_pair none = {0, 0, NULL, 0};
+    rkyv_text_pair none = RKYV_PAIR_INIT;
 
     returns("open", rkyv_map_open_writable(bytes, length, kind, 64, &map), RKYV_OK);
     returns("count", rkyv_map_count(&map, &count), RKYV_OK);
@@ -1574,7 +1605,7 @@ static void number_sets(void) {
     uint64_t value = 9;
     rkyv_map set, closed = {NULL, NULL, 0, 0, 0, {0, 0, 0, 0, 0}};
     rkyv_number_member member = {0, 9}, members[2] = {{9, 9}, {9, 9}};
-    rkyv_text_member text = {0, NULL, 0};
+    rkyv_text_member text = RKYV_PAIR_INIT;
     rkyv_error error = {9, 9, 9, 9};
 
     returns("open", rkyv_map_open(bytes, length, kind, 32, &set), RKYV_OK);
@@ -2013,7 +2044,7 @@ static void long_numbers(void) {
     uint64_t value = 9;
     rkyv_map map, closed = {NULL, NULL, 0, 0, 0, {0, 0, 0, 0, 0}};
     rkyv_long_number_pair pair = {0, 9, 9}, pairs[2] = {{9, 9, 9}, {9, 9, 9}};
-    rkyv_number_pair number = {0, 0, 0};
+    rkyv_number_pair number = RKYV_PAIR_INIT;
     rkyv_error error = {9, 9, 9, 9};
 
     returns("open", rkyv_map_open(bytes, length, kind, 32, &map), RKYV_OK);
@@ -2695,12 +2726,12 @@ static void calls_of_maps(const rkyv_map *map, rkyv_status wanted) {
     uint64_t number = 9;
     size_t length = 9, count = 9;
     const char *text = NULL;
-    rkyv_number_pair numbers = {0, 0, 0};
-    rkyv_long_number_pair long_numbers = {0, 0, 0};
-    rkyv_text_pair texts = {0, 0, NULL, 0};
-    rkyv_number_text_pair number_texts = {0, NULL, 0, 0};
-    rkyv_long_number_text_pair long_number_texts = {0, NULL, 0, 0};
-    rkyv_text_text_pair text_texts = {0, NULL, 0, NULL, 0};
+    rkyv_number_pair numbers = RKYV_PAIR_INIT;
+    rkyv_long_number_pair long_numbers = RKYV_PAIR_INIT;
+    rkyv_text_pair texts = RKYV_PAIR_INIT;
+    rkyv_number_text_pair number_texts = RKYV_PAIR_INIT;
+    rkyv_long_number_text_pair long_number_texts = RKYV_PAIR_INIT;
+    rkyv_text_text_pair text_texts = RKYV_PAIR_INIT;
     returns("get", rkyv_map_get_number(map, 1, &number), wanted);
     returns("get", rkyv_map_get_long_number(map, 1, &number), wanted);
     returns("get", rkyv_map_get_text(map, "", 0, &number), wanted);
@@ -2729,9 +2760,9 @@ static void calls_of_maps(const rkyv_map *map, rkyv_status wanted) {
 /* The calls of sets with a handle for which they fail. */
 static void calls_of_sets(const rkyv_map *set, rkyv_status wanted) {
     size_t count = 9;
-    rkyv_number_member numbers = {0, 0};
-    rkyv_long_number_member long_numbers = {0, 0};
-    rkyv_text_member texts = {0, NULL, 0};
+    rkyv_number_member numbers = RKYV_PAIR_INIT;
+    rkyv_long_number_member long_numbers = RKYV_PAIR_INIT;
+    rkyv_text_member texts = RKYV_PAIR_INIT;
     returns("contains", rkyv_set_contains_number(set, 1), wanted);
     returns("contains", rkyv_set_contains_long_number(set, 1), wanted);
     returns("contains", rkyv_set_contains_text(set, "", 0), wanted);
@@ -2748,9 +2779,9 @@ static void calls_of_sets(const rkyv_map *set, rkyv_status wanted) {
 static void calls_of_index_maps(const rkyv_index_map *map, rkyv_status wanted) {
     uint64_t value = 9;
     size_t index = 9, count = 9;
-    rkyv_index_number_pair numbers = {0, 0};
-    rkyv_index_long_number_pair long_numbers = {0, 0};
-    rkyv_index_text_pair texts = {0, NULL, 0};
+    rkyv_index_number_pair numbers = RKYV_PAIR_INIT;
+    rkyv_index_long_number_pair long_numbers = RKYV_PAIR_INIT;
+    rkyv_index_text_pair texts = RKYV_PAIR_INIT;
     returns("get", rkyv_index_get_number(map, 1, &index, &value), wanted);
     returns("get", rkyv_index_get_long_number(map, 1, &index, &value), wanted);
     returns("get", rkyv_index_get_text(map, "", 0, &index, &value), wanted);
@@ -2770,9 +2801,9 @@ static void calls_of_index_maps(const rkyv_index_map *map, rkyv_status wanted) {
 static void calls_of_index_maps_to_texts(const rkyv_index_map *map, rkyv_status wanted) {
     const char *value = NULL;
     size_t index = 9, length = 9, count = 9;
-    rkyv_index_number_text_pair numbers = {NULL, 0, 0};
-    rkyv_index_long_number_text_pair long_numbers = {NULL, 0, 0};
-    rkyv_index_text_text_pair texts = {NULL, 0, NULL, 0};
+    rkyv_index_number_text_pair numbers = RKYV_PAIR_INIT;
+    rkyv_index_long_number_text_pair long_numbers = RKYV_PAIR_INIT;
+    rkyv_index_text_text_pair texts = RKYV_PAIR_INIT;
     returns("get", rkyv_index_get_text_of_number(map, 1, &index, &value, &length), wanted);
     returns("get", rkyv_index_get_text_of_long_number(map, 1, &index, &value, &length), wanted);
     returns("get", rkyv_index_get_text_of_text(map, "", 0, &index, &value, &length), wanted);
@@ -2910,10 +2941,10 @@ static void orders_of_lookups(void) {
     const size_t length = one_to_two(bytes), index_length = three_pairs(index_bytes);
     rkyv_map map;
     rkyv_index_map index_map;
-    rkyv_number_pair pair = {0, 0, 0};
-    rkyv_text_pair text = {0, 0, NULL, 0};
-    rkyv_index_number_pair index_pair = {0, 0};
-    rkyv_index_text_pair index_text = {0, NULL, 0};
+    rkyv_number_pair pair = RKYV_PAIR_INIT;
+    rkyv_text_pair text = RKYV_PAIR_INIT;
+    rkyv_index_number_pair index_pair = RKYV_PAIR_INIT;
+    rkyv_index_text_pair index_text = RKYV_PAIR_INIT;
     size_t count = 9;
 
     key_orders(get_by_key, open_to_read, RKYV_TEXT_TO_U32);
@@ -3104,6 +3135,7 @@ static void orders(void) {
 
 int main(void) {
     sizes();
+    initializers();
     names();
     numbers();
     texts();
