@@ -9,7 +9,20 @@ use crate::{Error, Width};
 /// A checksum detects accidental changes of an archive: each change of one byte, and most others.
 /// It is no protection from an attacker, who can compute it too. Opening a container with a
 /// checksum reads all bytes of its archive.
+///
+/// A program that matches on it needs an arm for others, which a later version may have:
+///
+/// ```compile_fail,E0004
+/// # use rkyv_maps::Checksum;
+/// fn is_checked(checksum: Checksum) -> bool {
+///     match checksum {
+///         Checksum::None => false,
+///         Checksum::Adler32 => true,
+///     }
+/// }
+/// ```
 #[derive(Clone, Copy, Debug, Default, PartialEq, Eq, Hash)]
+#[non_exhaustive]
 pub enum Checksum {
     /// No checksum.
     #[default]

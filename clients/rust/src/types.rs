@@ -9,7 +9,19 @@ use crate::raw::RawText;
 /// The width of an archive: the size of its counts, distances and positions.
 ///
 /// The width is not recorded in the bytes: open an archive with the width that it was built with.
+/// A program that matches on a width needs an arm for others, which a later version may have:
+///
+/// ```compile_fail,E0004
+/// # use rkyv_maps::Width;
+/// fn bits(width: Width) -> u32 {
+///     match width {
+///         Width::Narrow => 32,
+///         Width::Wide => 64,
+///     }
+/// }
+/// ```
 #[derive(Clone, Copy, Debug, Default, PartialEq, Eq, Hash)]
+#[non_exhaustive]
 pub enum Width {
     /// 32 bits: archives of up to 4,294,967,295 bytes. This is rkyv's default.
     #[default]

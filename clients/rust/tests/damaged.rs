@@ -175,10 +175,9 @@ fn damaged_bytes_are_safe() {
 #[test]
 fn damaged_headers_are_safe() {
     for (width, mut bytes) in archives() {
-        let (word, max) = match width {
-            Width::Narrow => (4, u64::from(u32::MAX)),
-            Width::Wide => (8, u64::MAX),
-        };
+        let is_wide = width == Width::Wide;
+        let word = if is_wide { 8 } else { 4 };
+        let max = if is_wide { u64::MAX } else { u32::MAX.into() };
         for field in (bytes.len() - 3 * word..bytes.len()).step_by(word) {
             let kept = bytes[field..field + word].to_vec();
             for number in (0..40).chain([max / 2, max / 2 + 1, max / 8]) {
