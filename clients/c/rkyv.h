@@ -1,7 +1,7 @@
 /*
- * Hash maps, hash sets and index maps in a byte format modelled on rkyv's. That a build of rkyv
- * reads it is not tested. An index map keeps its pairs in the order in which they were added, and
- * is looked up by key or by index.
+ * Hash maps, hash sets and index maps in the byte format of rkyv 0.8.18, as far as it was compared:
+ * README.md says which archives are the same bytes. An index map keeps its pairs in the order in
+ * which they were added, and is looked up by key or by index.
  *
  * A map has the keys and values of a `rkyv_kind`, and a set its items. Sets are opened as maps are,
  * and what is said of a map applies to a set too. Its archive has a width: 32 or 64, the number of
@@ -32,7 +32,7 @@
  *     otherwise. No other thread uses it. A call that writes a value may write the whole archive.
  *   - The bytes of a map stay at their address while a handle of it is in use. Only the calls that
  *     write values in place change them, as `rkyv_map_set_number`, by a handle of the same bytes,
- *     kind and width.
+ *     kind and width. A private mapping of a file may change with the file.
  *   - A handle was filled by a call that opens a map, or is all zeros.
  *   - A builder is one of `rkyv_builder_new` that is not freed, used by one thread at a time.
  *   - The argument of `rkyv_bytes_free` is null, or an archive that a call built and that is not freed.
@@ -113,7 +113,7 @@ typedef enum rkyv_status {
     RKYV_CAPACITY_TOO_LARGE = 24,
     /* The archive would exceed the width's limit: 4294967295 bytes, or PTRDIFF_MAX. */
     RKYV_POSITION_TOO_LARGE = 25,
-    /* A distance between two parts of the archive does not fit the width. */
+    /* A distance between two parts of the archive does not fit the width. Distances are signed. */
     RKYV_DISTANCE_TOO_LARGE = 26,
     /* A text reaches the width's limit: 1073741824 bytes, or 4611686018427387904. */
     RKYV_TEXT_TOO_LONG = 27,
