@@ -25,8 +25,8 @@ use crate::raw::RawText;
 pub enum Width {
     /// 32 bits: archives of up to 4,294,967,295 bytes. This is rkyv's default.
     ///
-    /// Distances are signed. So the texts and the table of a map with texts have about 2 GiB at
-    /// most, and so have the texts, the pairs and the control bytes of an index map.
+    /// Distances are signed. So the texts and the table of a map or a set with texts have about
+    /// 2 GiB at most, and so have the texts, the pairs and the control bytes of an index map.
     #[default]
     Narrow = 32,
     /// 64 bits.
