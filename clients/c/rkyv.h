@@ -1,7 +1,7 @@
 /*
- * Hash maps, hash sets and index maps in the byte format of rkyv 0.8.18, as far as it was compared:
- * README.md says which archives are the same bytes. An index map keeps its pairs in the order in
- * which they were added, and is looked up by key or by index.
+ * Hash maps, hash sets and index maps with the bytes of rkyv 0.8.18, tested on the archives that
+ * README.md names. An index map keeps its pairs in the order in which they were added, and is looked
+ * up by key or by index.
  *
  * A map has the keys and values of a `rkyv_kind`, and a set its items. Sets are opened as maps are,
  * and what is said of a map applies to a set too. Its archive has a width: 32 or 64, the number of

@@ -1,5 +1,5 @@
-//! Hash maps, hash sets and index maps in the byte format of rkyv 0.8.18, as far as it was
-//! [compared](#archives-of-rkyv), over the proved static library `ffi_rkyv`.
+//! Hash maps, hash sets and index maps with [the bytes of rkyv 0.8.18](#archives-of-rkyv), over the
+//! proved static library `ffi_rkyv`.
 //!
 //! A [`Builder`] collects pairs and builds the bytes of an archive. A [`Map`] borrows such bytes:
 //! [`Map::open`] validates them once, and lookups and iteration then read them in place. Keys and
@@ -59,11 +59,11 @@
 //!
 //! # Archives of rkyv
 //!
-//! Archives of maps, sets and index maps are byte for byte those of rkyv 0.8.18's table code: little
-//! endian, aligned, with 32-bit or 64-bit pointers. This is tested on 346 archives of these
-//! collections. Relative pointers, archived integers, the zeros of padding and the layout of text
-//! follow rkyv's documentation. That code of rkyv was not run. The README has the types of rkyv that
-//! correspond to those of this crate.
+//! Maps, sets and index maps have the same archives, byte for byte, as in rkyv 0.8.18: little endian,
+//! aligned, with 32-bit or 64-bit pointers. This is tested on 346 archives that its table code wrote.
+//! Relative pointers, archived integers, the zeros of padding and the layout of text follow rkyv's
+//! documentation. That code of rkyv was not run. The README has the types of rkyv that correspond to
+//! those of this crate.
 //!
 //! # Linking
 //!
