@@ -126,7 +126,7 @@ where
         (listed W.MAX_CAPACITY (7, 8) format)
         (listed-format W.MAX_CAPACITY (7, 8) spec represents format
         (map_sound H.hasher W.word A.Archived.laws B.Archived.laws (7, 8) W.layout.kind A.query
-        A.native A.Eq.laws.refl A.reads A.Archive.laws B.laws)) };
+        A.native A.Eq.laws.refl A.Archive.laws B.laws)) };
 }
 
 impl<

@@ -67,7 +67,7 @@ where
         (listed-format W.MAX_CAPACITY (7, 8) spec represents format
         (index_sound H.hasher W.word W.layout.kind W.Index.spec W.Index.encoding
         W.Index.HasSpec.laws W.Index.Scalar.laws W.index W.reads_back A.Archived.laws
-        B.Archived.laws (7, 8) A.query A.native A.Eq.laws.refl A.reads A.Archive.laws B.laws)) };
+        B.Archived.laws (7, 8) A.query A.native A.Eq.laws.refl A.Archive.laws B.laws)) };
 }
 
 impl<

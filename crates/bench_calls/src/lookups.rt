@@ -19,7 +19,6 @@ pub(crate) trait Lookup<K: KeyElement>: Copy + Drop {
 
     /// Returns the value of a key, or 2^32 if the lookup doesn't find it.
     fn value_or_miss<Q: Query<K>>(&self, key: &Q) -> u64
-        requires read { Q.can_read key.now }
         ensures { result ≡ found_value self.now (Q.calls key.now) (Q.fits key.now) };
 }
 

@@ -17,7 +17,6 @@ pub(crate) fn hash_total<Q: KeyHash, B: Lend<Q> + Drop, I: Iterator<Item = B> + 
 ) -> u64
     requires ready { I.can_next keys }
     requires ends { IsFinite (I.remaining keys) }
-    requires read { (key : Q) → Q.can_read key }
     ensures { CountsAll (λ item. hash_by (Q.calls (B.lent item))) I.next_gives keys result }
 {
     let mut total = 0u64;
@@ -38,7 +37,6 @@ pub(crate) fn lookup_total<
 >(map: M, keys: I) -> u64
     requires ready { I.can_next keys }
     requires ends { IsFinite (I.remaining keys) }
-    requires read { (key : Q) → Q.can_read key }
     ensures { CountsAll (λ item. M.found_value map (Q.calls (B.lent item)) (Q.fits (B.lent item)))
         I.next_gives keys result }
 {

@@ -75,9 +75,8 @@ fn push_found<P: Printable, W: Width, Q: Query<P>>(
     key: &Q,
     out: &mut String,
 ) -> Result<(), AllocError>
-    requires archive { let m = parts_by W.word W.LIMIT P.spec P.text P.same P.key_calls in
+    requires { let m = parts_by W.word W.LIMIT P.spec P.text P.same P.key_calls in
         IsMapArchive m bytes.now }
-    requires query { Q.can_read key.now }
     ensures found { let m = parts_by W.word W.LIMIT P.spec P.text P.same P.key_calls in
         AppendsText result out.old out.new (value_line (value_under m bytes.now (Q.calls key.now)
         (Q.fits key.now bytes.now))) }

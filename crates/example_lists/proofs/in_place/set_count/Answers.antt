@@ -11,11 +11,11 @@ use Rattle.example_lists.proofs.Options.{some_either}
 use Rattle.example_lists.proofs.in_place.set_count.Goals as goal
 use Rattle.example_lists.proofs.in_place.set_count.Goals.{After-set_value_of}
 
-pub set_value_of-requires-clause-map : goal.set_value_of-requires-clause-map
-set_value_of-requires-clause-map c =
+pub set_value_of-requires : goal.set_value_of-requires
+set_value_of-requires c =
     let s = map_spec w32 (text_spec w32) (scalar_spec (unsigned w64)) in
     let at = c.in_ok-access.ensures.root.1 in
-    subst (Viewable s c.args.table.now) (sym c.pos-root.ensures) (subst (λ b. Viewable s b c.in_ok-access.field-0.pos) (ap (λ a. a.now) at.0) c.in_ok-access.ensures.viewable)
+    record { map = subst (Viewable s c.args.table.now) (sym c.pos-root.ensures) (subst (λ b. Viewable s b c.in_ok-access.field-0.pos) (ap (λ a. a.now) at.0) c.in_ok-access.ensures.viewable) }
 
 pub returns-in_err-access-clause-found : goal.returns-in_err-access-clause-found
 returns-in_err-access-clause-found c = λ pairs is.
