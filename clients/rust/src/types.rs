@@ -9,6 +9,7 @@ use crate::raw::RawText;
 /// The width of an archive: the size of its counts, distances and positions.
 ///
 /// The width is not recorded in the bytes: open an archive with the width that it was built with.
+///
 /// A program that matches on a width needs an arm for others, which a later version may have:
 ///
 /// ```compile_fail,E0004
