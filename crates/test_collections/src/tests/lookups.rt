@@ -14,9 +14,7 @@ use test_support::archives::{four_pairs, no_items, one_key_twice, one_wide_numbe
 fn found<K: KeyElement, N: Scalar, H: KeyHasher, W: Width, Q: Query<K>>(
     bytes: &[u8],
     key: &Q,
-) -> Result<(Option<N>, Option<(u64, u64)>, bool), VerifyError>
-    requires { Q.can_read key.now }
-{
+) -> Result<(Option<N>, Option<(u64, u64)>, bool), VerifyError> {
     let root = access_in::<W, HashMapOf<K, N, H, W>>(bytes)?;
     let map = ArchivedHashMap::<K, N, H, W>::of(root);
     let there = map.contains_key(key);

@@ -104,17 +104,14 @@ fn set_in_first<K: Element, A: NativeKey<L>, L: KeyElement + Represents<A>, N: S
     key: &A,
     value: N,
 ) -> Option<u64>
-    requires map { Viewable (map_spec W.word K.spec (map_spec W.word L.spec N.spec)) bytes.old
-        root }
-    requires query { A.can_read key.now }
+    requires { Viewable (map_spec W.word K.spec (map_spec W.word L.spec N.spec)) bytes.old root }
 {
     let mut maps = ArchivedHashMap::<K, HashMapOf<L, N, FxHasher64, W>, FxHasher64, W>::values_over(
         bytes, root,
     );
     maps.next_with(
         |archive: &mut [u8], pos: u64|
-            requires map { Viewable (map_spec W.word L.spec N.spec) archive.old pos }
-            requires query { A.can_read key.now }
+            requires { Viewable (map_spec W.word L.spec N.spec) archive.old pos }
             ensures { WritesAmongParts (map_spec W.word L.spec N.spec) archive.old archive.new pos }
         {
             let _found = set_value_of::<A, L, N, FxHasher64, W>(archive, pos, key, value);

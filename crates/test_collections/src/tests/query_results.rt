@@ -20,9 +20,7 @@ pub(crate) fn counts<K: Element, V: Element, H, W: Width>(
 pub(crate) fn number_of<K: KeyElement, N: Scalar, H: KeyHasher, W: Width, Q: Query<K>>(
     bytes: &[u8],
     key: &Q,
-) -> Result<Option<N>, VerifyError>
-    requires { Q.can_read key.now }
-{
+) -> Result<Option<N>, VerifyError> {
     let root = access_in::<W, HashMapOf<K, N, H, W>>(bytes)?;
     let map = ArchivedHashMap::<K, N, H, W>::of(root);
     match map.get(key) {
@@ -113,9 +111,7 @@ pub(crate) fn set_counts<K: KeyElement, H: KeyHasher, W: Width>(
 pub(crate) fn member_of<K: KeyElement, H: KeyHasher, W: Width, Q: Query<K>>(
     bytes: &[u8],
     key: &Q,
-) -> Result<(bool, Option<u64>), VerifyError>
-    requires { Q.can_read key.now }
-{
+) -> Result<(bool, Option<u64>), VerifyError> {
     let root = access_in::<W, HashSetOf<K, H, W>>(bytes)?;
     let set = ArchivedHashSet::<K, H, W>::of(root);
     match set.get(key) {

@@ -31,8 +31,7 @@ fn value_found<K: KeyElement, V: Element, H: KeyHasher, W: Width, Q: Query<K>>(
     root: u64,
     key: &Q,
 ) -> Option<u64>
-    requires map { Viewable (map_spec W.word K.spec V.spec) bytes.now root }
-    requires query { Q.can_read key.now }
+    requires { Viewable (map_spec W.word K.spec V.spec) bytes.now root }
     ensures walked { IfSome result (λ pos. (key_pos : ℕ)
         × IsKeyPosAt W.word K.spec V.spec bytes.now root key_pos
         × (pos ≡ value_pos K.spec V.spec key_pos)) }
@@ -72,8 +71,7 @@ fn stored<K: KeyElement, N: Scalar, H: KeyHasher, W: Width, Q: Query<K>>(
     key: &Q,
     value: N,
 ) -> Option<N>
-    requires map { Viewable (map_spec W.word K.spec N.spec) bytes.old root }
-    requires query { Q.can_read key.now }
+    requires { Viewable (map_spec W.word K.spec N.spec) bytes.old root }
     ensures { let hash = hash_of_calls H.hasher (Q.calls key.now) in
         FindsIn (map_at W.Word K.HasSpec N.HasSpec bytes.old root) hash (Q.fits key.now)
         (λ at. result ≡ option_map (λ _. value) at) }
@@ -95,7 +93,6 @@ fn stored_in<K: KeyElement, N: Scalar, H: KeyHasher, W: Width, Q: Query<K>>(
     key: &Q,
     value: N,
 ) -> Result<Option<N>, VerifyError>
-    requires { Q.can_read key.now }
     ensures { IfOk result (λ found. IfSome found (λ n. n ≡ value)) }
 {
     let root = access_in::<W, HashMapOf<K, N, H, W>>(&*bytes)?.pos();

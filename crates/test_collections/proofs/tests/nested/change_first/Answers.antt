@@ -4,8 +4,8 @@ use Rattle.rkyv_base.specs.{Viewable, entry_spec, scalar_spec, unsigned}
 use Rattle.rkyv_collections.specs.{map_spec}
 use Rattle.test_collections.proofs.tests.nested.change_first.Goals as goal
 
-pub set_in_first-requires-clause-map : goal.set_in_first-requires-clause-map
-set_in_first-requires-clause-map c =
+pub set_in_first-requires : goal.set_in_first-requires
+set_in_first-requires c =
     let byte = scalar_spec (unsigned w8) in
     let number = scalar_spec (unsigned w16) in
     let s = map_spec w32 (entry_spec byte byte) (map_spec w32 number number) in

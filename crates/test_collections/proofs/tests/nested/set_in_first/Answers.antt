@@ -6,4 +6,4 @@ use Rattle.test_collections.proofs.tests.nested.set_in_first.Goals as goal
 pub next_with-requires : goal.next_with-requires
 next_with-requires g c = λ b q same fits item.
     let inner = map_spec g.W.Word.word g.L.HasSpec.spec g.N.HasSpec.spec in
-    (subst (λ bytes. Viewable inner bytes q) (sym same) (item g.W.Word.word c.args.root c.values_over-maps.ensures.all.iter), c.requires.query)
+    subst (λ bytes. Viewable inner bytes q) (sym same) (item g.W.Word.word c.args.root c.values_over-maps.ensures.all.iter)

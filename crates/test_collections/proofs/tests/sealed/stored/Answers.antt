@@ -15,7 +15,7 @@ given f None x y e = absurd (none-some x (sym e))
 given f (Some z) x y e = refl
 
 pub value_found-requires-2 : goal.value_found-requires-2
-value_found-requires-2 g c = record { map = c.write_value.ensures.kept.1.valid; query = c.requires.query }
+value_found-requires-2 g c = c.write_value.ensures.kept.1.valid
 
 pub new-requires : goal.new-requires
 new-requires g c =
@@ -39,7 +39,7 @@ returns-in-Some-value_found g c =
     let d = c.write_value.new.bytes in
     let hash = hash_of_calls h.hasher (g.Q.KeyHash.calls c.args.key.now) in
     let one = c.write_value.ensures.kept.1.lookups hash (g.Q.Query.fits c.args.key.now) (g.met.H.KeyHasher.fits (g.Q.KeyHash.calls c.args.key.now))
-    (rests_on_key g.K.HasSpec.spec (g.Q.Query.fits c.args.key.now) (rests_on_parts g.K.HasSpec.spec g.Q.KeyHash.can_read g.Q.Query.fits (rests_on_keys g.K.HasSpec.laws g.met.K.ElementEquiv.equivalence g.met.K.KeyElement.key g.met.Q.Query.query) c.args.key.now c.requires.query)) in
+    (rests_on_key g.K.HasSpec.spec (g.Q.Query.fits c.args.key.now) (rests_on_parts g.K.HasSpec.spec g.Q.Query.fits (rests_on_keys g.K.HasSpec.laws g.met.K.ElementEquiv.equivalence g.met.K.KeyElement.key g.met.Q.Query.query) c.args.key.now)) in
     let first = c.in-Some.ensures.finds in
     let same_pos : c.in-Some-value_found.found ≡ c.in-Some.pos = same_Some c.in-Some-value_found.found c.in-Some.pos (c.in-Some-value_found.ensures.finds ∙ ap (option_map f) one ∙ sym first) in
     let read : ScalarRepresents e d c.in-Some-value_found.found c.to_native.result = rw (c.new.ensures.0, c.new.ensures.1) at c.to_native.ensures in
@@ -52,5 +52,5 @@ returns-in-None-value_found g c =
     let f : ℕ → ℕ = value_pos g.K.HasSpec.spec g.N.HasSpec.spec in
     let hash = hash_of_calls h.hasher (g.Q.KeyHash.calls c.args.key.now) in
     let one = c.write_value.ensures.kept.1.lookups hash (g.Q.Query.fits c.args.key.now) (g.met.H.KeyHasher.fits (g.Q.KeyHash.calls c.args.key.now))
-    (rests_on_key g.K.HasSpec.spec (g.Q.Query.fits c.args.key.now) (rests_on_parts g.K.HasSpec.spec g.Q.KeyHash.can_read g.Q.Query.fits (rests_on_keys g.K.HasSpec.laws g.met.K.ElementEquiv.equivalence g.met.K.KeyElement.key g.met.Q.Query.query) c.args.key.now c.requires.query)) in
+    (rests_on_key g.K.HasSpec.spec (g.Q.Query.fits c.args.key.now) (rests_on_parts g.K.HasSpec.spec g.Q.Query.fits (rests_on_keys g.K.HasSpec.laws g.met.K.ElementEquiv.equivalence g.met.K.KeyElement.key g.met.Q.Query.query) c.args.key.now)) in
     absurd (none-some c.in-Some.pos (c.in-None-value_found.ensures.finds ∙ ap (option_map f) one ∙ sym c.in-Some.ensures.finds))

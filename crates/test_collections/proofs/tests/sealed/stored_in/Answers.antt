@@ -10,8 +10,8 @@ new_value : {V : Type 0} (o : Option ℕ) (y : V) (result : Option V) → result
 new_value None y result e = rw e tt
 new_value (Some x) y result e = rw e refl
 
-pub stored-requires-clause-map : goal.stored-requires-clause-map
-stored-requires-clause-map g c =
+pub stored-requires : goal.stored-requires
+stored-requires g c =
     let s = map_spec g.W.Word.word g.K.HasSpec.spec g.N.HasSpec.spec in
     let at = c.in_ok-access_in.ensures.root.1 in
     subst (Viewable s c.args.bytes.now) (sym c.pos-root.ensures) (subst (λ b. Viewable s b c.in_ok-access_in.field-0.pos) (ap (λ a. a.now) at.0) c.in_ok-access_in.ensures.viewable)
