@@ -12,7 +12,7 @@ use crate::map_summary::{controls_of, most_strides};
 use crate::summary::{Lookups, Summary};
 use rkyv_base::{Element, View};
 use rkyv_index::{ArchivedIndexMap, IndexMapOf, IndexWidth};
-use rkyv_keys::KeyElement;
+use rkyv_keys::{KeyElement, KeyView};
 use rkyv_scan::KeyHasher;
 use rkyv_table::Strides;
 use std::alloc::{AllocError, Global};
@@ -43,13 +43,13 @@ fn strides_of<K: KeyElement, V: Element, H: KeyHasher, W: IndexWidth>(
     let key = key_at(map, index);
     let mut strides = Strides::new();
     let _ = map.get_index_of_counted(
-        &key,
-        |key, stored|
-            requires key { IsValidView K.spec key.now }
+        &KeyView::of(key),
+        |_, stored|
+            requires key { IsValidView K.spec key }
             requires stored { IsValidView K.spec stored }
-            ensures { result ≡ K.same (bytes_of key.entry.now) (pos_of key.entry.now)
+            ensures { result ≡ K.same (bytes_of key.entry) (pos_of key.entry)
                 (bytes_of stored.entry) (pos_of stored.entry) }
-        { K::same(*key, stored) },
+        { K::same(key, stored) },
         &mut strides,
     );
     strides.count() as usize

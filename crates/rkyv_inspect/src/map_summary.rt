@@ -11,7 +11,7 @@ use crate::histogram::{count_one, zeros};
 use crate::summary::{Lookups, Summary};
 use rkyv_base::{Element, Entry, View, Width};
 use rkyv_collections::{ArchivedHashMap, HashMapOf};
-use rkyv_keys::{KeyElement, hash_value};
+use rkyv_keys::{KeyElement, KeyView, hash_value};
 use rkyv_scan::KeyHasher;
 use rkyv_table::{ArchivedHashTable, Strides, TableOf};
 use std::alloc::{AllocError, Global};
@@ -31,7 +31,7 @@ fn strides_of<'a, K: KeyElement, V: Element, H: KeyHasher, W: Width>(
 {
     let mut strides = Strides::new();
     let _ = table.get_counted(
-        hash_value::<View<'_, K>, H>(&key),
+        hash_value::<KeyView<'_, K>, H>(&KeyView::of(key)),
         |other|
             requires key { IsValidView K.spec key }
             requires other { IsValidView (entry_spec K.spec V.spec) other }

@@ -1,7 +1,7 @@
 use Rattle.std.proofs.Common.{◌≡◌, ◌∙◌, ap, arith, Bool, ℕ, List}
 use Rattle.rkyv_base.specs.{bytes_of, pos_of}
 use Rattle.rkyv_base.proofs.AtViews.{read_at}
-use Rattle.rkyv_keys.specs.{hash_at}
+use Rattle.rkyv_keys.specs.{hash_at, key_view}
 use Rattle.rkyv_index.specs.{index_archive, index_bytes, index_pos, index_strides, key_pos}
 use Rattle.rkyv_inspect.proofs.index_summary.strides_of.Goals as goal
 
@@ -18,7 +18,7 @@ returns-clause-reads g c =
     let counted = c.get_index_of_counted.ensures.counted accept (λ i other r of returned.
     returned.1 ∙ read_at key (index_archive map) q is.at (λ a p. same a p (bytes_of other) (pos_of other))
     ∙ read_at other (index_archive map) (key_pos map i) of.at (same b q)) in
-    let hash = read_at key (index_archive map) q is.at key_hash in
+    let hash = ap (λ v. key_hash (bytes_of v) (pos_of v)) c.of.ensures ∙ read_at key (index_archive map) q is.at key_hash in
     let end : ℕ → ℕ = λ h. index_strides g.W.Word.word b (index_pos map) h accept in
-    let moved : end (key_hash (bytes_of key) (pos_of key)) ≡ end (key_hash b q) = ap end hash in
+    let moved : end (key_hash (bytes_of (key_view c.of.result)) (pos_of (key_view c.of.result))) ≡ end (key_hash b q) = ap end hash in
     omega (arith, counted, moved, c.count.ensures, c.new-strides.ensures)

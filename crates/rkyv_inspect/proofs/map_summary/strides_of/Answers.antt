@@ -17,7 +17,7 @@ returns-clause-reads g c =
     let here : bytes_of key ≡ b = ap (λ (a : Bor (List ℕ)). a.now) c.requires.archive in
     let counted = c.get_counted.ensures.counts.counted (same b (pos_of key) b)
     (compares_by_position t same (pos_of key) _ (λ v r e. e.1 ∙ ap (λ (a : List ℕ). same a (pos_of key) (bytes_of v) (pos_of v)) here)) in
-    let hash : c.hash_value.result ≡ key_hash b (pos_of key) = c.hash_value.ensures ∙ ap (λ (a : List ℕ). key_hash a (pos_of key)) here in
+    let hash : c.hash_value.result ≡ key_hash b (pos_of key) = c.hash_value.ensures ∙ ap (λ v. key_hash (bytes_of v) (pos_of v)) c.of.ensures ∙ ap (λ (a : List ℕ). key_hash a (pos_of key)) here in
     let end : ℕ → ℕ = λ h. probe_length_at generic_kind g.W.Word.word (entry_spec g.K.HasSpec.spec g.V.HasSpec.spec).size b (table_pos t) h (same b (pos_of key) b) in
     let moved : end c.hash_value.result ≡ end (key_hash b (pos_of key)) = ap end hash in
     omega (arith, counted, moved, c.count.ensures, c.new-strides.ensures)
