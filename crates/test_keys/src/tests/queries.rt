@@ -7,6 +7,7 @@ use rkyv_keys::{
 };
 use rkyv_scan::{FxHasher64, KeyHasher};
 use std::alloc::Global;
+use std::str;
 
 // "hello" in its fixed bytes.
 const HELLO: [u8; 8] = [0x68, 0x65, 0x6c, 0x6c, 0x6f, 0xff, 0xff, 0xff];
@@ -96,6 +97,25 @@ fn reads_text(alloc: Global, bytes: &[u8], text: &str) -> bool {
 // Returns `true` if an owned text is this one.
 fn is(text: &String, expected: &str) -> bool {
     text.as_str() == expected
+}
+
+// Returns a text of 300 bytes, `a`, 298 times `x`, and `z`, and its fixed bytes: its length and the
+// distance to it.
+fn long_text() -> [u8; 308] {
+    let mut bytes = [0x78; 308];
+    bytes[0] = 0x61;
+    bytes[299] = 0x7a;
+    bytes[300..].copy_from_slice(&[0xac, 4, 0, 0, 0xd4, 0xfe, 0xff, 0xff]);
+    bytes
+}
+
+// Returns `true` if the text of 300 bytes is deserialized.
+fn reads_long_text(alloc: Global) -> bool {
+    let bytes = long_text();
+    match str::from_utf8(&bytes[..300]) {
+        Ok(text) => reads_text(alloc, &bytes, text),
+        Err(_) => false,
+    }
 }
 
 // Returns `true` if this pair of a text and a number is deserialized.
@@ -257,6 +277,7 @@ fn values_are_read_back(rt: HostRuntime) {
     let pair = reads_pair(alloc, &HELLO_SEVEN, ("hello", 7)).ok();
     let unit = reads_unit(alloc, &[]).ok();
     expect_eq!(rt; (text, pair, unit), (true, Some(true), Some(true)));
+    assert!(rt; reads_long_text(alloc));
 }
 
 #[test]
