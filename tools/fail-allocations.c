@@ -19,7 +19,9 @@
 #include <unistd.h>
 
 extern void *__libc_malloc(size_t size);
+extern void *__libc_calloc(size_t count, size_t size);
 extern void *__libc_realloc(void *old, size_t size);
+extern void __libc_free(void *block);
 
 struct choice {
     unsigned long first;
@@ -28,6 +30,8 @@ struct choice {
 
 static struct choice fail_alloc, fail_read, short_read, fail_write, short_write, zero_write;
 static unsigned long allocations, reads, writes;
+/* Blocks that are allocated and not freed. */
+static long blocks;
 static int calls_fd = -1;
 
 static struct choice choice_of(const char *name) {
@@ -60,8 +64,8 @@ __attribute__((constructor)) static void start(void) {
 }
 
 __attribute__((destructor)) static void finish(void) {
-    char line[80];
-    int len = snprintf(line, sizeof line, "%lu %lu %lu\n", allocations, reads, writes);
+    char line[100];
+    int len = snprintf(line, sizeof line, "%lu %lu %lu %ld\n", allocations, reads, writes, blocks);
     if (calls_fd >= 0) {
         syscall(SYS_write, calls_fd, line, (size_t)len);
     }
@@ -77,11 +81,32 @@ static int allocation_fails(void) {
 }
 
 void *malloc(size_t size) {
-    return allocation_fails() ? NULL : __libc_malloc(size);
+    void *block = allocation_fails() ? NULL : __libc_malloc(size);
+    blocks += block != NULL;
+    return block;
+}
+
+void *calloc(size_t count, size_t size) {
+    void *block = __libc_calloc(count, size);
+    blocks += block != NULL;
+    return block;
 }
 
 void *realloc(void *old, size_t size) {
-    return allocation_fails() ? NULL : __libc_realloc(old, size);
+    void *block;
+    if (allocation_fails()) {
+        return NULL;
+    }
+    block = __libc_realloc(old, size);
+    blocks += block != NULL;
+    /* With no size, glibc frees the old block and returns none. */
+    blocks -= old != NULL && (block != NULL || size == 0);
+    return block;
+}
+
+void free(void *block) {
+    blocks -= block != NULL;
+    __libc_free(block);
 }
 
 ssize_t read(int fd, void *buf, size_t count) {
