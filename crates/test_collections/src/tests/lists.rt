@@ -2,7 +2,7 @@
 
 use crate::tests::opened::key_set;
 use crate::tests::round_trip::prints;
-use rkyv_base::{NoMemory, VerifyError, WriteError, to_bytes};
+use rkyv_base::{NoMemory, ReadError, VerifyError, WriteError, to_bytes};
 use rkyv_collections::lists::laws::{
     item_clones_are_the_same, item_lists_are_compared, pair_clones_are_the_same,
     pair_lists_are_compared,
@@ -10,6 +10,8 @@ use rkyv_collections::lists::laws::{
 use rkyv_collections::{MapPairs, SetItems};
 use rkyv_scan::FxHasher64;
 use std::alloc::Global;
+use std::collections::HashSet;
+use std::hash::BuildHasherDefault;
 use test_support::archives::{archive, one_pair, three_keys};
 
 // Returns the archive of a list of items, as a set.
@@ -79,6 +81,25 @@ fn equal_items_of_a_list_are_kept(rt: HostRuntime) {
     let list = SetItems::with_load_factor(&items, (1, 2));
     let read = written_and_read(rt.alloc(), list, &one_item_twice());
     expect_eq!(rt; read, Some((true, (2, 2, [true, false]))));
+}
+
+// Returns the length of the set of std that a list is read back into, and whether it has 1.
+fn read_into_std(alloc: Global, items: SetItems<'_, u8>) -> Option<(usize, bool)> {
+    let bytes = archive_of(alloc, items).ok()?;
+    let read: Result<HashSet<u8>, ReadError> = match key_set(bytes.as_slice()) {
+        Ok(set) => set.deserialize_std(alloc, BuildHasherDefault::new()),
+        Err(_) => return None,
+    };
+    match read {
+        Ok(set) => Some((set.len(), set.contains(&1))),
+        Err(_) => None,
+    }
+}
+
+#[test]
+fn equal_items_of_a_list_are_read_back_as_one(rt: HostRuntime) {
+    let items = [1, 1];
+    expect_eq!(rt; read_into_std(rt.alloc(), SetItems::new(&items)), Some((1, true)));
 }
 
 // Returns whether writing a list fails with the error for its load factor.

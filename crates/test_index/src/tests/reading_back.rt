@@ -61,13 +61,15 @@ fn items_are_read_back_in_their_order(rt: HostRuntime) -> Result<(), Fail> {
     items_read_back_are_listed::<i8, i8, FxHasher64, Narrow>();
     let alloc = rt.alloc();
     let written = set_archive(alloc, &[4, 1, 3])?;
+    let equal = set_archive(alloc, &[1, 1])?;
     let read = [
         are_items(alloc, written.as_slice(), &[4, 1, 3]),
         are_items(alloc, &one_index_key(), &[1]),
         are_items(alloc, &no_pairs(), &[]),
+        are_items(alloc, equal.as_slice(), &[1, 1]),
         are_items(alloc, written.as_slice(), &[1, 3, 4]),
     ];
-    expect_eq!(rt; read, [true, true, true, false]);
+    expect_eq!(rt; read, [true, true, true, true, false]);
     Ok(())
 }
 
