@@ -12,6 +12,7 @@ use rkyv_end_to_end::{
 };
 use rkyv_table::{ArchivedHashTable, TableOf};
 use std::alloc::{AllocError, Global};
+use std::cell::Cell;
 use std::fmt::{Debug, Display};
 use std::process::Abort;
 
@@ -108,6 +109,70 @@ fn a_list_is_written_by_any_writer(rt: HostRuntime) {
         is_limited::<Wide>(alloc, 63),
     ];
     expect_equal(&rt, results, [Ok(true), Err(true), Ok(true), Err(true)]);
+}
+
+// Counts a call of a comparison, and returns `accepts`.
+fn count_call(calls: &Cell<usize>, accepts: bool) -> bool {
+    calls.set(calls.get().wrapping_add(1));
+    accepts
+}
+
+// Writes the same list, and looks up the hash 2 of a number above `least`.
+// Returns the number of comparisons.
+fn compared_in_list(alloc: Global, least: u8) -> Option<usize> {
+    let mut writer = VecWriter::new(alloc);
+    let items = [10u8, 20, 30];
+    let hashes = [2u64, 2, 5];
+    let calls = Cell::new(0usize);
+    let result = write_and_look_over::<Narrow, u8, &u8, _, _, _>(
+        alloc,
+        items.iter(),
+        hashes.iter().copied(),
+        3,
+        (1, 1),
+        &mut writer,
+        2,
+        |item| count_call(&calls, item.to_native() > least),
+    );
+    match result {
+        Ok(_) => Some(calls.get()),
+        Err(_) => None,
+    }
+}
+
+// Returns the number of comparisons of a lookup in the table of one pair, in the second of two
+// buckets, by a comparison that always returns `accepts`.
+fn compared_in_bytes(alloc: Global, accepts: bool) -> Option<usize> {
+    let range = PartRange { lo: 0, hi: 48 };
+    let hash = 0x5000_0000_0000_0001;
+    let calls = Cell::new(0usize);
+    let result = look_over::<Narrow, Entry<u32, u32>, _>(
+        alloc,
+        &ONE_PAIR,
+        48,
+        range,
+        hash,
+        |_| count_call(&calls, accepts),
+    );
+    match result {
+        Ok(_) => Some(calls.get()),
+        Err(_) => None,
+    }
+}
+
+// The three items have one tag, and are in the buckets 2, 3 and 1 of four. The first stride begins
+// at bucket 2, and mirrors all four: it has them in the order 2, 3, 1, 2, 3.
+#[test]
+fn one_lookup_is_made(rt: HostRuntime) {
+    let alloc = rt.alloc();
+    let compared = [
+        compared_in_list(alloc, 0),
+        compared_in_list(alloc, 10),
+        compared_in_list(alloc, 99),
+        compared_in_bytes(alloc, true),
+        compared_in_bytes(alloc, false),
+    ];
+    expect_equal(&rt, compared, [Some(1), Some(2), Some(5), Some(1), Some(2)]);
 }
 
 // Writes a number over the first item that is accepted under the hash 2. Returns `None` if there

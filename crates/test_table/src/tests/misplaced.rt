@@ -6,6 +6,7 @@ use rkyv_base::{Entry, VerifyError};
 use rkyv_table::table::laws;
 use rkyv_table::table::misplaced::{finds_another_or_none, is_past};
 use rkyv_table::{ArchivedHashTable, Strides, TableOf};
+use std::cell::Cell;
 use std::cmp::Ordering;
 use test_support::archives::{four_pairs, no_items, one_key_twice, one_number, two_units};
 
@@ -127,6 +128,55 @@ fn counting_ends_with_the_first_stride_past_the_limit(rt: HostRuntime) {
             Ok((None, 4)),
             Ok((Some(0), 4)),
             Ok((Some(1), 2)),
+            Ok((Some(0), 0))
+        ]
+    );
+}
+
+// Counts a call of a comparison, and returns `accepts`.
+fn count_call(calls: &Cell<usize>, accepts: bool) -> bool {
+    calls.set(calls.get().wrapping_add(1));
+    accepts
+}
+
+// Returns the number of misplaced pairs of a table up to a limit, by a comparison that always
+// returns `accepts`, and the number of its calls.
+fn compared_up_to(
+    bytes: &[u8],
+    limit: u64,
+    accepts: bool,
+) -> Result<(Option<usize>, usize), VerifyError> {
+    let table = ArchivedHashTable::of(access::<TableOf<Entry<i8, i8>>>(bytes)?);
+    let calls = Cell::new(0usize);
+    let misplaced = table.misplaced_up_to_by(
+        |pair| hash_of_i8(pair.key().to_native()),
+        |_, _| count_call(&calls, accepts),
+        limit,
+        &mut Strides::new(),
+    );
+    Ok((misplaced, calls.get()))
+}
+
+// The keys of the four pairs have different tags, so a lookup that accepts compares one pair. One
+// key twice has one tag, and each control byte is mirrored: a lookup that rejects compares four.
+#[test]
+fn each_item_is_looked_up_once_up_to_the_limit(rt: HostRuntime) {
+    let compared = [
+        compared_up_to(&four_pairs(), 0, true),
+        compared_up_to(&four_pairs(), 3, true),
+        compared_up_to(&four_pairs(), 4, true),
+        compared_up_to(&one_key_twice(), 0, false),
+        compared_up_to(&one_key_twice(), 2, false),
+        compared_up_to(&no_items(), 0, true),
+    ];
+    expect_eq!(rt;
+        compared,
+        [
+            Ok((None, 1)),
+            Ok((None, 4)),
+            Ok((Some(0), 4)),
+            Ok((None, 4)),
+            Ok((Some(2), 8)),
             Ok((Some(0), 0))
         ]
     );
