@@ -1,10 +1,11 @@
 -- The archive of a state is valid.
-use Rattle.std.proofs.Common.{◌≡◌, ℕ, List, [], ◌∷◌, ◌++◌, Option, Some, None, Result, refl, sym, subst, ap, ◌∙◌, inl, inr}
+use Rattle.std.proofs.Common.{◌≡◌, ℕ, List, ◌++◌, Option, Some, None, Result, refl, sym, subst, ap, ◌∙◌, inl, inr}
 use Rattle.std.specs.Prelude.{OnOk}
 use Rattle.std.specs.Option.{ForSome}
 use Rattle.rkyv_dict.specs.declared.form.ArchiveWidth.{ArchiveWidth}
 use Rattle.rkyv_dict.specs.declared.form.Form.{Form}
-use Rattle.rkyv_dict.specs.{Archived, IsArchive, IsArchiveOf, IsBuilt, IsMapArchive, IsSound, IsSoundIn, LookupKey, Pairs, PairsRepresent, Request, RootRepresents, State, StepsIf, StepsLine, StepsTo, archive_output, build_archive, check_archive, count_misplaced, first_value_text, form_of, form_of_pairs, get_line, get_value, kind_of_pairs, list_pairs, numbers, put_numbers, put_texts, request_of, set_kind, set_load_factor, set_width, show_hex, start, texts, value_found, value_in, value_line, with_numbers, with_texts}
+use Rattle.std.proofs.lemmas.Result.{on_ok_weaker}
+use Rattle.rkyv_dict.specs.{AppendsSome, Archived, IsArchive, IsArchiveOf, IsBuilt, IsMapArchive, IsSound, IsSoundIn, LookupKey, Pairs, PairsRepresent, Request, RootRepresents, State, StepsTo, archive_output, build_archive, check_archive, count_misplaced, first_value_text, form_of, form_of_pairs, get_line, get_value, kind_of_pairs, list_pairs, numbers, put_numbers, put_texts, set_kind, set_load_factor, set_width, show_hex, start, texts, value_found, value_in, value_line, with_numbers, with_texts}
 
 kind_with_numbers : (pairs : Pairs) (key value : ℕ) → kind_of_pairs (with_numbers pairs key value) ≡ kind_of_pairs pairs
 kind_with_numbers (numbers pairs) key value = refl
@@ -65,7 +66,7 @@ pub checked_sound : (form : Form) (bytes : List ℕ) → IsArchive form bytes �
 checked_sound form bytes archive = record { archive = archive; built = λ pairs none. absurd (let bad : None ≡ Some pairs = none in cc) }
 
 -- a state without an archive is sound, and so is a state with a sound one
-none_sound : (s : State) → s.archive ≡ None → IsSound s
+pub none_sound : (s : State) → s.archive ≡ None → IsSound s
 unfolding IsSound
 none_sound s is = λ a some. absurd (let bad : None ≡ Some a = sym is ∙ some in cc)
 
@@ -94,11 +95,6 @@ does_sound s (get_value key) printed s' h does = subst IsSound (sym does.1) h
 does_sound s list_pairs printed s' h does = subst IsSound (sym does.1) h
 does_sound s count_misplaced printed s' h does = subst IsSound (sym does.1) h
 
-if_sound : (s : State) (request : Option Request) (printed : List ℕ) (s' : State) → IsSound s → StepsIf s request printed s' → IsSound s'
-if_sound s None printed s' h does = subst IsSound (sym does.1) h
-if_sound s (Some request) printed s' h does = does_sound s request printed s' h does
-
--- a line keeps the archive sound
-pub line_sound : (s : State) (l printed : List ℕ) (s' : State) → IsSound s → StepsLine s l printed s' → IsSound s'
-line_sound s [] printed s' h does = subst IsSound (sym does.1) h
-line_sound s (b ∷ bs) printed s' h does = if_sound s (request_of (kind_of_pairs s.pairs) (b ∷ bs)) printed s' h does
+-- a command that succeeds keeps the archive sound
+pub applied_sound : {A E : Type 0} (r : Result A E) (old new : List ℕ) (request : Request) (s s' : State) → IsSound s → OnOk r (AppendsSome old new (λ printed. StepsTo s request printed s')) → OnOk r (IsSound s')
+applied_sound r old new request s s' sound h = on_ok_weaker r (λ a. does_sound s request a.printed s' sound a.accepted) h

@@ -70,7 +70,8 @@ impl<'a> Dict<'a> {
 
     /// Returns the state before the first line.
     pub fn new(alloc: Global) -> Dict<'a>
-        ensures { state_of result ≡ start }
+        ensures state { state_of result ≡ start }
+        ensures sound { IsSound (state_of result) }
     {
         Dict {
             bits: ArchiveWidth::Bits32,
@@ -229,7 +230,8 @@ impl<'a> Dict<'a> {
     ///
     /// # Requires
     ///
-    /// - The archive of the state, if any, is valid (`IsSound`).
+    /// - The archive of the state, if any, is valid (`IsSound`). That is so after `new`, and after
+    ///   each line that succeeds.
     ///
     /// # Errors
     ///
@@ -244,6 +246,7 @@ impl<'a> Dict<'a> {
         requires { IsSound (state_of self.old) }
         ensures step { OnOk result (AppendsSome (string_bytes out.old) (string_bytes out.new)
             (λ printed. StepsLine (state_of self.old) line.now printed (state_of self.new))) }
+        ensures sound { OnOk result (IsSound (state_of self.new)) }
         ensures allocates { OnErr result (0 < length line.now) }
     {
         if line.is_empty() {

@@ -3,14 +3,13 @@ use Rattle.std.specs.Option.{option_copied}
 use Rattle.std.proofs.lemmas.Result.{on_err_weaker}
 use Rattle.rkyv_dict.specs.{AppendsProperFront, parts_after, state_of}
 use Rattle.rkyv_dict.proofs.Running.{progress_line, progress_moved, progress_none, progress_proper}
-use Rattle.rkyv_dict.proofs.Sound.{line_sound, start_sound}
 use Rattle.rkyv_dict.proofs.Writing.{of_error, on_err}
 use Rattle.rkyv_dict.proofs.run.write_output.Goals as goal
 
 pub loop-rest-init : goal.loop-rest-init
 loop-rest-init g c = record {
-  progress = progress_none _ _ _ _ c.new-dict.ensures c.new-buffered.ensures.bytes;
-  sound = start_sound _ c.new-dict.ensures;
+  progress = progress_none _ _ _ _ c.new-dict.ensures.state c.new-buffered.ensures.bytes;
+  sound = c.new-dict.ensures.sound;
 }
 
 pub loop-rest-preserved : goal.loop-rest-preserved
@@ -19,7 +18,7 @@ loop-rest-preserved g c =
     let line = progress_line _ _ _ _ _ _ _ _ (state_of c.loop-rest.dict) (state_of c.execute.new.self) c.loop-rest.invariant.progress cut c.in_ok-execute.ensures.step in
     record {
       progress = progress_moved _ _ _ _ _ _ _ _ line c.in_ok-write_much.ensures.ok;
-      sound = line_sound _ _ _ _ c.loop-rest.invariant.sound c.in_ok-execute.ensures.step.accepted;
+      sound = c.in_ok-execute.ensures.sound;
     }
 
 pub returns-in_err-write_much-clause-front : goal.returns-in_err-write_much-clause-front
