@@ -3,3 +3,5 @@ pub mod HeaderBytes
 pub mod HeaderChecks
 pub mod Summing
 pub mod Opening
+pub mod Same
+pub mod Variants
