@@ -83,7 +83,6 @@ pub(crate) fn find_in<
 >(archive: &'a [u8], header: &Decoded, key: &A, found: &mut I) -> u32
     requires archive { IsIndexArchive W.word W.LIMIT K.spec V.spec archive.now }
     requires header { IsHeaderOf (index_in W.word K.spec V.spec archive.now) header.now }
-    requires query { A.can_read key.now }
     ensures outcome { let m = index_in W.word K.spec V.spec archive.now in ReturnsIndexed m V.reads
         (found_index m (A.calls key.now) (A.fits key.now archive.now)) (I.indexed_of found.old)
         result (I.indexed_of found.new) }

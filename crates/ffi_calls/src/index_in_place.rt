@@ -27,8 +27,7 @@ pub(crate) fn set_indexed_in<
     V: Value,
     W: IndexWidth,
 >(archive: &mut [u8], key: &A, value: u64) -> u32
-    requires archive { IsIndexArchive W.word W.LIMIT K.spec V.spec archive.old }
-    requires query { A.can_read key.now }
+    requires { IsIndexArchive W.word W.LIMIT K.spec V.spec archive.old }
     ensures kept { IsIndexArchive W.word W.LIMIT K.spec V.spec archive.new }
     ensures header { KeepsHeader (index_in W.word K.spec V.spec archive.old)
         (index_in W.word K.spec V.spec archive.new) }

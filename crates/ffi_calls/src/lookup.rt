@@ -27,7 +27,6 @@ pub(crate) fn value_pos_in<
 >(archive: &[u8], header: &Decoded, key: &A) -> Option<u64>
     requires archive { IsMapArchive W.word W.LIMIT K.spec V.spec archive.now }
     requires header { IsHeaderOf (map_in W.word K.spec V.spec archive.now) header.now }
-    requires query { A.can_read key.now }
     ensures viewable { IfSome result (Viewable V.spec archive.now) }
     ensures found { result ≡ value_found (map_in W.word K.spec V.spec archive.now)
         (A.calls key.now) (A.fits key.now archive.now) }
@@ -55,7 +54,6 @@ pub(crate) fn get_in<
 >(archive: &'a [u8], header: &Decoded, key: &A, value: &mut X) -> u32
     requires archive { IsMapArchive W.word W.LIMIT K.spec V.spec archive.now }
     requires header { IsHeaderOf (map_in W.word K.spec V.spec archive.now) header.now }
-    requires query { A.can_read key.now }
     ensures outcome { ReturnsAt (V.reads archive.now)
         (value_found (map_in W.word K.spec V.spec archive.now) (A.calls key.now)
         (A.fits key.now archive.now)) value.old result value.new }
@@ -94,8 +92,7 @@ pub(crate) fn set_in<A: NativeKey<K>, K: KeyElement + Represents<A>, V: Value, W
     key: &A,
     value: u64,
 ) -> u32
-    requires archive { IsMapArchive W.word W.LIMIT K.spec V.spec archive.old }
-    requires query { A.can_read key.now }
+    requires { IsMapArchive W.word W.LIMIT K.spec V.spec archive.old }
     ensures kept { IsMapArchive W.word W.LIMIT K.spec V.spec archive.new }
     ensures header { KeepsHeader (map_in W.word K.spec V.spec archive.old)
         (map_in W.word K.spec V.spec archive.new) }

@@ -27,9 +27,8 @@ pub(crate) fn contains_in<A: NativeKey<K>, K: KeyElement + Represents<A>, W: Wid
     header: &Decoded,
     item: &A,
 ) -> u32
-    requires archive { IsMapArchive W.word W.LIMIT K.spec unit_spec archive.now
+    requires { IsMapArchive W.word W.LIMIT K.spec unit_spec archive.now
         × IsHeaderOf (set_in W.word K.spec archive.now) header.now }
-    requires query { A.can_read item.now }
     ensures found { IsFoundStatus (value_found (set_in W.word K.spec archive.now)
         (A.calls item.now) (A.fits item.now archive.now)) result }
     ensures listed { FindsItem (set_in W.word K.spec archive.now)

@@ -18,9 +18,7 @@ fn change_found<K: KeyElement, N: Scalar, H: KeyHasher, W: IndexWidth, Q: Query<
     bytes: &mut [u8],
     key: &Q,
     byte: u8,
-) -> Result<Option<u64>, VerifyError>
-    requires { Q.can_read key.now }
-{
+) -> Result<Option<u64>, VerifyError> {
     let root = access_in::<W, IndexMapOf<K, N, H, W>>(&*bytes)?.pos();
     Ok(ArchivedIndexMap::<K, N, H, W>::found_with(
         bytes,

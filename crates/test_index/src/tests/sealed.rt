@@ -239,8 +239,7 @@ pub(crate) fn index_of<K: KeyElement, V: Element, H: KeyHasher, W: IndexWidth, Q
     root: u64,
     key: &Q,
 ) -> Option<usize>
-    requires map { Viewable (index_spec W.word (entry_spec K.spec V.spec)) bytes.now root }
-    requires query { Q.can_read key.now }
+    requires { Viewable (index_spec W.word (entry_spec K.spec V.spec)) bytes.now root }
     ensures { IfSome result (λ index. index < len_at W.word bytes.now root) }
 {
     ArchivedIndexMap::<K, V, H, W>::of(View::new(bytes, root)).get_index_of(key)
@@ -251,9 +250,7 @@ fn write_at<A, K: KeyElement + Represents<A>, N: Scalar, H: KeyHasher, W: IndexW
     bytes: &mut [u8],
     key: &Q,
     value: N,
-) -> Result<Option<usize>, VerifyError>
-    requires { Q.can_read key.now }
-{
+) -> Result<Option<usize>, VerifyError> {
     let root = access_in::<W, IndexMapOf<K, N, H, W>>(&*bytes)?.pos();
     match index_of::<K, N, H, W, Q>(&*bytes, root, key) {
         Some(index) => {

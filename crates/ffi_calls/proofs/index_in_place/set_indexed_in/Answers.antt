@@ -13,7 +13,7 @@ returns-clause-kept g c =
     let set = c.set_value_of-found in
     let same : length set.new.archive ≡ length c.args.archive.now = omega (arith, set.auto.archive) in
     index_kept g.W.Word.word g.K.HasSpec.spec g.V.HasSpec.spec g.V.Scalar.encoding (hash_at (fx_hasher low_halves) g.K.KeyElement.key_calls) c.args.archive.now c.root_of-root.result c.in-Some.number set.result set.new.archive
-    (g.A.KeyHash.calls c.args.key.now) (g.A.Query.fits c.args.key.now c.args.archive.now) c.root_of-root.ensures.at set.ensures.sets.finds g.W.Width.LIMIT c.requires.archive c.root_of-root.ensures.viewable same
+    (g.A.KeyHash.calls c.args.key.now) (g.A.Query.fits c.args.key.now c.args.archive.now) c.root_of-root.ensures.at set.ensures.sets.finds g.W.Width.LIMIT c.requires c.root_of-root.ensures.viewable same
 
 pub returns-clause-header : goal.returns-clause-header
 returns-clause-header g c =

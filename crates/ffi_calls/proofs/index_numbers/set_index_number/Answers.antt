@@ -12,8 +12,8 @@ returns-in-true-true-clause-sets g c = rw (c.in-true-true.is-0, c.in-true-true.i
 pub returns-in-true-true-clause-listed : goal.returns-in-true-true-clause-listed
 returns-in-true-true-clause-listed g c = rw (c.in-true-true.is-0, c.in-true-true.is-1) c.set_indexed_in.ensures.listed
 
-pub set_indexed_in-requires-clause-archive : goal.set_indexed_in-requires-clause-archive
-set_indexed_in-requires-clause-archive g c = rw (c.in-true-true.is-0, c.in-true-true.is-1) at c.requires
+pub set_indexed_in-requires : goal.set_indexed_in-requires
+set_indexed_in-requires g c = rw (c.in-true-true.is-0, c.in-true-true.is-1) at c.requires
 
 pub returns-in-true-false-clause-kept : goal.returns-in-true-false-clause-kept
 returns-in-true-false-clause-kept g c = rw (c.in-true-false.is-0, c.in-true-false.is-1) c.set_indexed_in-in-true-false.ensures.kept
@@ -27,8 +27,8 @@ returns-in-true-false-clause-sets g c = rw (c.in-true-false.is-0, c.in-true-fals
 pub returns-in-true-false-clause-listed : goal.returns-in-true-false-clause-listed
 returns-in-true-false-clause-listed g c = rw (c.in-true-false.is-0, c.in-true-false.is-1) c.set_indexed_in-in-true-false.ensures.listed
 
-pub set_indexed_in-requires-in-true-false-clause-archive : goal.set_indexed_in-requires-in-true-false-clause-archive
-set_indexed_in-requires-in-true-false-clause-archive g c = rw (c.in-true-false.is-0, c.in-true-false.is-1) at c.requires
+pub set_indexed_in-requires-in-true-false : goal.set_indexed_in-requires-in-true-false
+set_indexed_in-requires-in-true-false g c = rw (c.in-true-false.is-0, c.in-true-false.is-1) at c.requires
 
 pub returns-in-false-true-clause-kept : goal.returns-in-false-true-clause-kept
 returns-in-false-true-clause-kept g c = rw (c.in-false-true.is-0, c.in-false-true.is-1) c.set_indexed_in-in-false-true.ensures.kept
@@ -42,8 +42,8 @@ returns-in-false-true-clause-sets g c = rw (c.in-false-true.is-0, c.in-false-tru
 pub returns-in-false-true-clause-listed : goal.returns-in-false-true-clause-listed
 returns-in-false-true-clause-listed g c = rw (c.in-false-true.is-0, c.in-false-true.is-1) c.set_indexed_in-in-false-true.ensures.listed
 
-pub set_indexed_in-requires-in-false-true-clause-archive : goal.set_indexed_in-requires-in-false-true-clause-archive
-set_indexed_in-requires-in-false-true-clause-archive g c = rw (c.in-false-true.is-0, c.in-false-true.is-1) at c.requires
+pub set_indexed_in-requires-in-false-true : goal.set_indexed_in-requires-in-false-true
+set_indexed_in-requires-in-false-true g c = rw (c.in-false-true.is-0, c.in-false-true.is-1) at c.requires
 
 pub returns-in-false-false-clause-kept : goal.returns-in-false-false-clause-kept
 returns-in-false-false-clause-kept g c = rw (c.in-false-false.is-0, c.in-false-false.is-1) c.set_indexed_in-in-false-false.ensures.kept
@@ -57,5 +57,5 @@ returns-in-false-false-clause-sets g c = rw (c.in-false-false.is-0, c.in-false-f
 pub returns-in-false-false-clause-listed : goal.returns-in-false-false-clause-listed
 returns-in-false-false-clause-listed g c = rw (c.in-false-false.is-0, c.in-false-false.is-1) c.set_indexed_in-in-false-false.ensures.listed
 
-pub set_indexed_in-requires-in-false-false-clause-archive : goal.set_indexed_in-requires-in-false-false-clause-archive
-set_indexed_in-requires-in-false-false-clause-archive g c = rw (c.in-false-false.is-0, c.in-false-false.is-1) at c.requires
+pub set_indexed_in-requires-in-false-false : goal.set_indexed_in-requires-in-false-false
+set_indexed_in-requires-in-false-false g c = rw (c.in-false-false.is-0, c.in-false-false.is-1) at c.requires

@@ -15,7 +15,7 @@ returns-clause-kept g c =
     let set = c.set_value_of-found in
     let same : length set.new.archive ≡ length c.args.archive.now = omega (arith, set.auto.archive) in
     set_kept g.W.Word.word g.K.HasSpec.spec g.V.HasSpec.spec g.V.Scalar.encoding (hash_at (fx_hasher low_halves) g.K.KeyElement.key_calls) c.args.archive.now c.root_of-root.result (g.A.KeyHash.calls c.args.key.now)
-    (g.A.Query.fits c.args.key.now c.args.archive.now) c.in-Some.number set.result set.new.archive c.root_of-root.ensures.at set.ensures.sets.finds g.W.Width.LIMIT c.requires.archive c.root_of-root.ensures.viewable same
+    (g.A.Query.fits c.args.key.now c.args.archive.now) c.in-Some.number set.result set.new.archive c.root_of-root.ensures.at set.ensures.sets.finds g.W.Width.LIMIT c.requires c.root_of-root.ensures.viewable same
 
 pub returns-in_default-clause-header : goal.returns-in_default-clause-header
 returns-in_default-clause-header g c = λ header is. is

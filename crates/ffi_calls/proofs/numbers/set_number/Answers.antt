@@ -6,8 +6,8 @@ returns-in-true-true-clause-kept g c = rw (c.in-true-true.is-0, c.in-true-true.i
 pub returns-in-true-true-clause-sets : goal.returns-in-true-true-clause-sets
 returns-in-true-true-clause-sets g c = rw (c.in-true-true.is-0, c.in-true-true.is-1) c.set_in.ensures.sets
 
-pub set_in-requires-clause-archive : goal.set_in-requires-clause-archive
-set_in-requires-clause-archive g c = rw (c.in-true-true.is-0, c.in-true-true.is-1) at c.requires
+pub set_in-requires : goal.set_in-requires
+set_in-requires g c = rw (c.in-true-true.is-0, c.in-true-true.is-1) at c.requires
 
 pub returns-in-true-false-clause-kept : goal.returns-in-true-false-clause-kept
 returns-in-true-false-clause-kept g c = rw (c.in-true-false.is-0, c.in-true-false.is-1) c.set_in-in-true-false.ensures.kept
@@ -15,8 +15,8 @@ returns-in-true-false-clause-kept g c = rw (c.in-true-false.is-0, c.in-true-fals
 pub returns-in-true-false-clause-sets : goal.returns-in-true-false-clause-sets
 returns-in-true-false-clause-sets g c = rw (c.in-true-false.is-0, c.in-true-false.is-1) c.set_in-in-true-false.ensures.sets
 
-pub set_in-requires-in-true-false-clause-archive : goal.set_in-requires-in-true-false-clause-archive
-set_in-requires-in-true-false-clause-archive g c = rw (c.in-true-false.is-0, c.in-true-false.is-1) at c.requires
+pub set_in-requires-in-true-false : goal.set_in-requires-in-true-false
+set_in-requires-in-true-false g c = rw (c.in-true-false.is-0, c.in-true-false.is-1) at c.requires
 
 pub returns-in-false-true-clause-kept : goal.returns-in-false-true-clause-kept
 returns-in-false-true-clause-kept g c = rw (c.in-false-true.is-0, c.in-false-true.is-1) c.set_in-in-false-true.ensures.kept
@@ -24,8 +24,8 @@ returns-in-false-true-clause-kept g c = rw (c.in-false-true.is-0, c.in-false-tru
 pub returns-in-false-true-clause-sets : goal.returns-in-false-true-clause-sets
 returns-in-false-true-clause-sets g c = rw (c.in-false-true.is-0, c.in-false-true.is-1) c.set_in-in-false-true.ensures.sets
 
-pub set_in-requires-in-false-true-clause-archive : goal.set_in-requires-in-false-true-clause-archive
-set_in-requires-in-false-true-clause-archive g c = rw (c.in-false-true.is-0, c.in-false-true.is-1) at c.requires
+pub set_in-requires-in-false-true : goal.set_in-requires-in-false-true
+set_in-requires-in-false-true g c = rw (c.in-false-true.is-0, c.in-false-true.is-1) at c.requires
 
 pub returns-in-false-false-clause-kept : goal.returns-in-false-false-clause-kept
 returns-in-false-false-clause-kept g c = rw (c.in-false-false.is-0, c.in-false-false.is-1) c.set_in-in-false-false.ensures.kept
@@ -33,8 +33,8 @@ returns-in-false-false-clause-kept g c = rw (c.in-false-false.is-0, c.in-false-f
 pub returns-in-false-false-clause-sets : goal.returns-in-false-false-clause-sets
 returns-in-false-false-clause-sets g c = rw (c.in-false-false.is-0, c.in-false-false.is-1) c.set_in-in-false-false.ensures.sets
 
-pub set_in-requires-in-false-false-clause-archive : goal.set_in-requires-in-false-false-clause-archive
-set_in-requires-in-false-false-clause-archive g c = rw (c.in-false-false.is-0, c.in-false-false.is-1) at c.requires
+pub set_in-requires-in-false-false : goal.set_in-requires-in-false-false
+set_in-requires-in-false-false g c = rw (c.in-false-false.is-0, c.in-false-false.is-1) at c.requires
 
 pub returns-in-true-true-clause-listed : goal.returns-in-true-true-clause-listed
 returns-in-true-true-clause-listed g c = rw (c.in-true-true.is-0, c.in-true-true.is-1) c.set_in.ensures.listed
