@@ -1,17 +1,15 @@
 use std::borrow::Borrow;
 use std::fmt;
-use std::io::{self, Write};
-use std::marker::PhantomData;
 use std::ptr::NonNull;
 
-use crate::container::header_of;
+use crate::archive::Built;
 use crate::error::check;
-use crate::raw::{self, Pair};
+use crate::raw::Pair;
 use crate::types::sealed::Store;
 use crate::types::{index_kind, kind};
-use crate::{
-    Checksum, Error, ErrorKind, IndexMap, IndexMapMut, Key, Map, MapMut, Number, Value, Width,
-};
+use crate::{Archive, Error, ErrorKind, IndexArchive, Key, Value, Width};
+#[cfg(doc)]
+use crate::{IndexMap, Map};
 
 /// The pairs of a map that is to be archived.
 ///
@@ -97,7 +95,9 @@ impl<K: Key + ?Sized, V: Value + ?Sized> Builder<K, V> {
     /// - [`ErrorKind::DistanceTooLarge`]
     /// - [`ErrorKind::TextTooLong`]
     pub fn build(&self, width: Width) -> Result<Archive<K, V>, Error> {
-        self.archive(kind::<K, V>(), width)
+        let built = self.built(kind::<K, V>(), width)?;
+        // SAFETY: the kind is that of a hash map or a set of these types.
+        Ok(unsafe { Archive::of(built) })
     }
 
     /// Builds the archive of the pairs as an index map, which keeps them in insertion order.
@@ -119,11 +119,13 @@ impl<K: Key + ?Sized, V: Value + ?Sized> Builder<K, V> {
     /// # }
     /// ```
     pub fn build_index(&self, width: Width) -> Result<IndexArchive<K, V>, Error> {
-        self.archive(index_kind::<K, V>(), width).map(IndexArchive)
+        let built = self.built(index_kind::<K, V>(), width)?;
+        // SAFETY: the kind is that of an index map of these types.
+        Ok(unsafe { IndexArchive::of(built) })
     }
 
     /// Builds the archive of the pairs as a map of the kind.
-    fn archive(&self, kind: u32, width: Width) -> Result<Archive<K, V>, Error> {
+    fn built(&self, kind: u32, width: Width) -> Result<Built, Error> {
         let mut items = Vec::new();
         items
             .try_reserve_exact(self.len())
@@ -137,12 +139,10 @@ impl<K: Key + ?Sized, V: Value + ?Sized> Builder<K, V> {
         let build = V::calls::<K>().build;
         // SAFETY: the texts are borrowed from the builder.
         check(unsafe { build(&items, kind, width as u32, &mut bytes, &mut length) })?;
-        Ok(Archive {
-            bytes: NonNull::new(bytes).expect("the bytes of an archive are not null"),
-            length,
-            width,
-            types: PhantomData,
-        })
+        let bytes = NonNull::new(bytes).expect("the bytes of an archive are not null");
+        // SAFETY: the call has built the archive of a map of this kind and width in memory of the C
+        // library, and nothing else refers to it.
+        Ok(unsafe { Built::new(bytes, length, kind, width) })
     }
 
     pub(crate) fn keys(&self) -> impl Iterator<Item = &K> {
@@ -221,234 +221,5 @@ where
 {
     fn from(pairs: [(Q, R); N]) -> Self {
         pairs.into_iter().collect()
-    }
-}
-
-/// The bytes of an archive that a [`Builder`] has built, with the types and the width of the map.
-///
-/// The bytes are in memory of the C library, which is freed when the archive is dropped. They don't
-/// record the types and the width. A container does: write one to a file.
-///
-/// # Examples
-/// ```no_run
-/// use rkyv_maps::{Builder, Checksum, Map, Width};
-///
-/// # fn main() -> Result<(), Box<dyn std::error::Error>> {
-/// let archive = Builder::<str, u32>::from([("one", 1), ("two", 2)]).build(Width::Narrow)?;
-/// archive.write_container(Checksum::Adler32, std::fs::File::create("numbers.map")?)?;
-///
-/// let bytes = std::fs::read("numbers.map")?;
-/// let map = Map::<str, u32>::open_container(&bytes)?;
-/// assert_eq!(map.get("two"), Some(2));
-/// # Ok(())
-/// # }
-/// ```
-pub struct Archive<K: ?Sized, V: ?Sized> {
-    bytes: NonNull<u8>,
-    length: usize,
-    width: Width,
-    types: PhantomData<fn(&K, &V)>,
-}
-
-// SAFETY: an archive owns its bytes, as a `Vec` does, and the C library frees a block on any
-// thread.
-unsafe impl<K: ?Sized, V: ?Sized> Send for Archive<K, V> {}
-
-// SAFETY: a shared reference to an archive only reads the bytes.
-unsafe impl<K: ?Sized, V: ?Sized> Sync for Archive<K, V> {}
-
-impl<K: ?Sized, V: ?Sized> Archive<K, V> {
-    /// Returns the bytes.
-    pub fn as_bytes(&self) -> &[u8] {
-        // SAFETY: the archive owns the bytes until it is dropped.
-        unsafe { std::slice::from_raw_parts(self.bytes.as_ptr(), self.length) }
-    }
-
-    /// Returns the width that the archive was built with.
-    pub fn width(&self) -> Width {
-        self.width
-    }
-}
-
-impl<K: Key + ?Sized, V: Value + ?Sized> Archive<K, V> {
-    /// Opens the map, with the types and the width that the archive was built with.
-    ///
-    /// This validates the bytes, as [`Map::open`] does. A built archive is valid.
-    pub fn open(&self) -> Map<'_, K, V> {
-        Map::open(self.as_bytes(), self.width).expect("a built archive is valid")
-    }
-
-    /// Returns the container of the archive: a header of 32 bytes, and a copy of the archive.
-    ///
-    /// [`Map::open_container`] opens it, with the types of this archive alone.
-    pub fn to_container(&self, checksum: Checksum) -> Vec<u8> {
-        container(kind::<K, V>(), self, checksum)
-    }
-
-    /// Writes the container of the archive, as [`to_container`](Archive::to_container) returns it.
-    ///
-    /// The archive is written without a copy in memory, and the writer is flushed.
-    ///
-    /// # Errors
-    /// Those of the writer. It may then have taken a part of the container.
-    pub fn write_container<W: Write>(&self, checksum: Checksum, writer: W) -> io::Result<()> {
-        write_container(kind::<K, V>(), self, checksum, writer)
-    }
-}
-
-impl<K: Key + ?Sized, V: Number> Archive<K, V> {
-    /// Opens the map to read and to write values in place.
-    ///
-    /// This validates the bytes, as [`MapMut::open`] does. A built archive is valid.
-    pub fn open_mut(&mut self) -> MapMut<'_, K, V> {
-        let width = self.width;
-        MapMut::open(self.bytes_mut(), width).expect("a built archive is valid")
-    }
-
-    fn bytes_mut(&mut self) -> &mut [u8] {
-        // SAFETY: the archive owns the bytes until it is dropped, and is borrowed mutably.
-        unsafe { std::slice::from_raw_parts_mut(self.bytes.as_ptr(), self.length) }
-    }
-}
-
-/// The container of an archive of a map of the kind.
-fn container<K: ?Sized, V: ?Sized>(
-    kind: u32,
-    archive: &Archive<K, V>,
-    checksum: Checksum,
-) -> Vec<u8> {
-    let bytes = archive.as_bytes();
-    [&header_of(kind, bytes, archive.width, checksum), bytes].concat()
-}
-
-/// Writes the container of an archive of a map of the kind.
-fn write_container<K: ?Sized, V: ?Sized>(
-    kind: u32,
-    archive: &Archive<K, V>,
-    checksum: Checksum,
-    mut writer: impl Write,
-) -> io::Result<()> {
-    let bytes = archive.as_bytes();
-    writer.write_all(&header_of(kind, bytes, archive.width, checksum))?;
-    writer.write_all(bytes)?;
-    writer.flush()
-}
-
-impl<K: ?Sized, V: ?Sized> AsRef<[u8]> for Archive<K, V> {
-    fn as_ref(&self) -> &[u8] {
-        self.as_bytes()
-    }
-}
-
-impl<K: ?Sized, V: ?Sized> From<Archive<K, V>> for Vec<u8> {
-    /// Copies the bytes and frees those of the C library.
-    fn from(archive: Archive<K, V>) -> Vec<u8> {
-        archive.as_bytes().to_vec()
-    }
-}
-
-impl<K: ?Sized, V: ?Sized> fmt::Debug for Archive<K, V> {
-    fn fmt(&self, f: &mut fmt::Formatter<'_>) -> fmt::Result {
-        f.debug_struct("Archive")
-            .field("width", &self.width)
-            .field("bytes", &self.as_bytes())
-            .finish()
-    }
-}
-
-impl<K: ?Sized, V: ?Sized> Drop for Archive<K, V> {
-    fn drop(&mut self) {
-        // SAFETY: the bytes are of a call that builds, and are freed only here.
-        unsafe { raw::rkyv_bytes_free(self.bytes.as_ptr()) }
-    }
-}
-
-/// The bytes of an archive that [`Builder::build_index`] has built.
-///
-/// As those of an [`Archive`], they are in memory of the C library, and don't record the types and
-/// the width. A container does: write one to a file.
-///
-/// # Examples
-/// ```
-/// use rkyv_maps::{Builder, Checksum, IndexMap, Width};
-///
-/// # fn main() -> Result<(), rkyv_maps::Error> {
-/// let builder = Builder::<str, u32>::from([("one", 1), ("two", 2)]);
-/// let container = builder.build_index(Width::Narrow)?.to_container(Checksum::Adler32);
-/// let map = IndexMap::<str, u32>::open_container(&container)?;
-/// assert_eq!(map.get_index_of("two"), Some(1));
-/// # Ok(())
-/// # }
-/// ```
-pub struct IndexArchive<K: ?Sized, V: ?Sized>(Archive<K, V>);
-
-impl<K: ?Sized, V: ?Sized> IndexArchive<K, V> {
-    /// Returns the bytes.
-    pub fn as_bytes(&self) -> &[u8] {
-        self.0.as_bytes()
-    }
-
-    /// Returns the width that the archive was built with.
-    pub fn width(&self) -> Width {
-        self.0.width()
-    }
-}
-
-impl<K: Key + ?Sized, V: Value + ?Sized> IndexArchive<K, V> {
-    /// Opens the index map, with the types and the width that the archive was built with.
-    ///
-    /// This validates the bytes, as [`IndexMap::open`] does. A built archive is valid.
-    pub fn open(&self) -> IndexMap<'_, K, V> {
-        IndexMap::open(self.as_bytes(), self.width()).expect("a built archive is valid")
-    }
-
-    /// Returns the container of the archive: a header of 32 bytes, and a copy of the archive.
-    ///
-    /// [`IndexMap::open_container`] opens it, with the types of this archive alone.
-    pub fn to_container(&self, checksum: Checksum) -> Vec<u8> {
-        container(index_kind::<K, V>(), &self.0, checksum)
-    }
-
-    /// Writes the container of the archive, as [`to_container`](IndexArchive::to_container) returns
-    /// it.
-    ///
-    /// The archive is written without a copy in memory, and the writer is flushed.
-    ///
-    /// # Errors
-    /// Those of the writer. It may then have taken a part of the container.
-    pub fn write_container<W: Write>(&self, checksum: Checksum, writer: W) -> io::Result<()> {
-        write_container(index_kind::<K, V>(), &self.0, checksum, writer)
-    }
-}
-
-impl<K: Key + ?Sized, V: Number> IndexArchive<K, V> {
-    /// Opens the index map to read and to write values in place.
-    ///
-    /// This validates the bytes, as [`IndexMapMut::open`] does. A built archive is valid.
-    pub fn open_mut(&mut self) -> IndexMapMut<'_, K, V> {
-        let width = self.width();
-        IndexMapMut::open(self.0.bytes_mut(), width).expect("a built archive is valid")
-    }
-}
-
-impl<K: ?Sized, V: ?Sized> AsRef<[u8]> for IndexArchive<K, V> {
-    fn as_ref(&self) -> &[u8] {
-        self.as_bytes()
-    }
-}
-
-impl<K: ?Sized, V: ?Sized> From<IndexArchive<K, V>> for Vec<u8> {
-    /// Copies the bytes and frees those of the C library.
-    fn from(archive: IndexArchive<K, V>) -> Vec<u8> {
-        archive.0.into()
-    }
-}
-
-impl<K: ?Sized, V: ?Sized> fmt::Debug for IndexArchive<K, V> {
-    fn fmt(&self, f: &mut fmt::Formatter<'_>) -> fmt::Result {
-        f.debug_struct("IndexArchive")
-            .field("width", &self.width())
-            .field("bytes", &self.as_bytes())
-            .finish()
     }
 }

@@ -79,8 +79,9 @@ impl<'a, K: Key + ?Sized, V: Value + ?Sized> IndexMap<'a, K, V> {
     /// assert_eq!(error.kind(), ErrorKind::OutOfRange);
     /// ```
     pub fn open(bytes: &'a [u8], width: Width) -> Result<Self, Error> {
-        let opened = INDEX.open(bytes, index_kind::<K, V>(), width as u32);
-        opened.map(IndexMap::of)
+        let raw = INDEX.open(bytes, index_kind::<K, V>(), width as u32)?;
+        // SAFETY: the call has opened the map of this kind in the bytes, which are borrowed for 'a.
+        Ok(unsafe { IndexMap::of(raw) })
     }
 
     /// Opens the index map in a container, whose header records its types and its width.
@@ -121,12 +122,17 @@ impl<'a, K: Key + ?Sized, V: Value + ?Sized> IndexMap<'a, K, V> {
     }
 
     fn open_in(container: &'a [u8], width: u32) -> Result<Self, Error> {
-        let opened = INDEX_CONTAINER.open(container, index_kind::<K, V>(), width);
-        opened.map(IndexMap::of)
+        let raw = INDEX_CONTAINER.open(container, index_kind::<K, V>(), width)?;
+        // SAFETY: the call has opened the map of this kind in the container, which is borrowed for
+        // 'a.
+        Ok(unsafe { IndexMap::of(raw) })
     }
 
-    /// The map of an open handle whose bytes are borrowed.
-    fn of(raw: RawMap) -> Self {
+    /// The map of a handle.
+    ///
+    /// # Safety
+    /// It is the handle of an open index map of these types, whose bytes are borrowed for `'a`.
+    pub(crate) unsafe fn of(raw: RawMap) -> Self {
         IndexMap {
             raw,
             bytes: PhantomData,
@@ -348,8 +354,10 @@ impl<'a, K: Key + ?Sized, V: Number> IndexMapMut<'a, K, V> {
     /// # Errors
     /// As [`IndexMap::open`].
     pub fn open(bytes: &'a mut [u8], width: Width) -> Result<Self, Error> {
-        let opened = INDEX.open_writable(bytes, index_kind::<K, V>(), width as u32);
-        opened.map(IndexMapMut::of)
+        let raw = INDEX.open_writable(bytes, index_kind::<K, V>(), width as u32)?;
+        // SAFETY: the call has opened the map of this kind in the bytes, which are borrowed mutably
+        // for 'a.
+        Ok(unsafe { IndexMapMut::of(raw) })
     }
 
     /// Opens the index map in a container, to read and to write.
@@ -373,12 +381,17 @@ impl<'a, K: Key + ?Sized, V: Number> IndexMapMut<'a, K, V> {
     }
 
     fn open_in(container: &'a mut [u8], width: u32) -> Result<Self, Error> {
-        let opened = INDEX_CONTAINER.open_writable(container, index_kind::<K, V>(), width);
-        opened.map(IndexMapMut::of)
+        let raw = INDEX_CONTAINER.open_writable(container, index_kind::<K, V>(), width)?;
+        // SAFETY: the call has opened the map of this kind in the container, which is borrowed
+        // mutably for 'a.
+        Ok(unsafe { IndexMapMut::of(raw) })
     }
 
-    /// The map of an open handle whose bytes are borrowed mutably.
-    fn of(raw: RawMap) -> Self {
+    /// The map of a handle.
+    ///
+    /// # Safety
+    /// It is the handle of an open index map of these types, whose bytes are borrowed mutably for `'a`.
+    pub(crate) unsafe fn of(raw: RawMap) -> Self {
         IndexMapMut {
             raw,
             bytes: PhantomData,
@@ -388,7 +401,9 @@ impl<'a, K: Key + ?Sized, V: Number> IndexMapMut<'a, K, V> {
 
     /// Reborrows the map, to read.
     pub fn as_map(&self) -> IndexMap<'_, K, V> {
-        IndexMap::of(self.raw)
+        // SAFETY: the handle is of an open map of these types, whose bytes this map borrows. The
+        // result borrows this map.
+        unsafe { IndexMap::of(self.raw) }
     }
 
     /// Returns the width of the archive.
@@ -492,7 +507,9 @@ impl<'m, K: Key + ?Sized, V: Number> IntoIterator for &'m IndexMapMut<'_, K, V> 
 impl<'a, K: Key + ?Sized, V: Number> From<IndexMapMut<'a, K, V>> for IndexMap<'a, K, V> {
     /// Ends writing: the map borrows the bytes for the same lifetime.
     fn from(map: IndexMapMut<'a, K, V>) -> Self {
-        IndexMap::of(map.raw)
+        // SAFETY: the handle is of an open map of these types, whose bytes are borrowed mutably for
+        // 'a, and the map that could write them is gone.
+        unsafe { IndexMap::of(map.raw) }
     }
 }
 

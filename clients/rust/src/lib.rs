@@ -73,6 +73,7 @@
 #![warn(missing_docs)]
 #![warn(unsafe_op_in_unsafe_fn)]
 
+mod archive;
 mod builder;
 mod calls;
 mod container;
@@ -85,7 +86,8 @@ mod raw;
 mod set;
 mod types;
 
-pub use builder::{Archive, Builder, IndexArchive};
+pub use archive::{Archive, IndexArchive};
+pub use builder::Builder;
 pub use container::{update_container, Checksum};
 pub use error::{Error, ErrorKind};
 pub use index_map::{IndexMap, IndexMapMut};

@@ -81,7 +81,9 @@ impl<'a, K: Key + ?Sized, V: Value + ?Sized> Map<'a, K, V> {
     /// - [`ErrorKind::WrongNumberOfElements`]
     /// - [`ErrorKind::UnwrappedControlByte`]
     pub fn open(bytes: &'a [u8], width: Width) -> Result<Self, Error> {
-        MAP.open(bytes, kind::<K, V>(), width as u32).map(Map::of)
+        let raw = MAP.open(bytes, kind::<K, V>(), width as u32)?;
+        // SAFETY: the call has opened the map of this kind in the bytes, which are borrowed for 'a.
+        Ok(unsafe { Map::of(raw) })
     }
 
     /// Opens the map in a container, whose header records its types and its width.
@@ -135,12 +137,17 @@ impl<'a, K: Key + ?Sized, V: Value + ?Sized> Map<'a, K, V> {
     }
 
     fn open_in(container: &'a [u8], width: u32) -> Result<Self, Error> {
-        let opened = MAP_CONTAINER.open(container, kind::<K, V>(), width);
-        opened.map(Map::of)
+        let raw = MAP_CONTAINER.open(container, kind::<K, V>(), width)?;
+        // SAFETY: the call has opened the map of this kind in the container, which is borrowed for
+        // 'a.
+        Ok(unsafe { Map::of(raw) })
     }
 
-    /// The map of an open handle whose bytes are borrowed.
-    fn of(raw: RawMap) -> Self {
+    /// The map of a handle.
+    ///
+    /// # Safety
+    /// It is the handle of an open hash map or set of these types, whose bytes are borrowed for `'a`.
+    pub(crate) unsafe fn of(raw: RawMap) -> Self {
         Map {
             raw,
             bytes: PhantomData,
@@ -273,8 +280,10 @@ impl<'a, K: Key + ?Sized, V: Number> MapMut<'a, K, V> {
     /// # Errors
     /// As [`Map::open`].
     pub fn open(bytes: &'a mut [u8], width: Width) -> Result<Self, Error> {
-        let opened = MAP.open_writable(bytes, kind::<K, V>(), width as u32);
-        opened.map(MapMut::of)
+        let raw = MAP.open_writable(bytes, kind::<K, V>(), width as u32)?;
+        // SAFETY: the call has opened the map of this kind in the bytes, which are borrowed mutably
+        // for 'a.
+        Ok(unsafe { MapMut::of(raw) })
     }
 
     /// Opens the map in a container, to read and to write.
@@ -297,12 +306,17 @@ impl<'a, K: Key + ?Sized, V: Number> MapMut<'a, K, V> {
     }
 
     fn open_in(container: &'a mut [u8], width: u32) -> Result<Self, Error> {
-        let opened = MAP_CONTAINER.open_writable(container, kind::<K, V>(), width);
-        opened.map(MapMut::of)
+        let raw = MAP_CONTAINER.open_writable(container, kind::<K, V>(), width)?;
+        // SAFETY: the call has opened the map of this kind in the container, which is borrowed
+        // mutably for 'a.
+        Ok(unsafe { MapMut::of(raw) })
     }
 
-    /// The map of an open handle whose bytes are borrowed mutably.
-    fn of(raw: RawMap) -> Self {
+    /// The map of a handle.
+    ///
+    /// # Safety
+    /// It is the handle of an open hash map or set of these types, whose bytes are borrowed mutably for `'a`.
+    pub(crate) unsafe fn of(raw: RawMap) -> Self {
         MapMut {
             raw,
             bytes: PhantomData,
@@ -312,7 +326,9 @@ impl<'a, K: Key + ?Sized, V: Number> MapMut<'a, K, V> {
 
     /// Reborrows the map, to read.
     pub fn as_map(&self) -> Map<'_, K, V> {
-        Map::of(self.raw)
+        // SAFETY: the handle is of an open map of these types, whose bytes this map borrows. The
+        // result borrows this map.
+        unsafe { Map::of(self.raw) }
     }
 
     /// Returns the width of the archive.
@@ -386,7 +402,9 @@ impl<'m, K: Key + ?Sized, V: Number> IntoIterator for &'m MapMut<'_, K, V> {
 impl<'a, K: Key + ?Sized, V: Number> From<MapMut<'a, K, V>> for Map<'a, K, V> {
     /// Ends writing: the map borrows the bytes for the same lifetime.
     fn from(map: MapMut<'a, K, V>) -> Self {
-        Map::of(map.raw)
+        // SAFETY: the handle is of an open map of these types, whose bytes are borrowed mutably for
+        // 'a, and the map that could write them is gone.
+        unsafe { Map::of(map.raw) }
     }
 }
 

@@ -70,15 +70,31 @@ impl Opener {
         kind: u32,
         width: u32,
     ) -> Result<RawMap, Error> {
+        // SAFETY: pointer and length are those of one slice, which is borrowed mutably.
+        unsafe { self.open_at(bytes.as_mut_ptr(), bytes.len(), kind, width) }
+    }
+
+    /// The handle of the map of the kind, to read and to write by this pointer. This only reads the
+    /// bytes.
+    ///
+    /// # Safety
+    /// The pointer, which isn't null, is to `length` bytes, and nothing writes them during the call.
+    pub(crate) unsafe fn open_at(
+        &self,
+        bytes: *mut u8,
+        length: usize,
+        kind: u32,
+        width: u32,
+    ) -> Result<RawMap, Error> {
         let mut map = RawMap::CLOSED;
-        let (pointer, length) = (bytes.as_mut_ptr().cast(), bytes.len());
-        // SAFETY: pointer and length are those of one slice, which is borrowed mutably. `map` has
-        // room for the handle.
-        let status = unsafe { (self.open_writable)(pointer, length, kind, width, &mut map) };
+        // SAFETY: the caller ensures that the pointer is to so many bytes. `map` has room for the
+        // handle.
+        let status = unsafe { (self.open_writable)(bytes.cast(), length, kind, width, &mut map) };
         if status == raw::OK {
-            // A use of the slice would end the pointer's access to it.
             return Ok(map);
         }
+        // SAFETY: the caller ensures that these are bytes that nothing writes.
+        let bytes = unsafe { std::slice::from_raw_parts(bytes, length) };
         self.check(status, bytes, kind, width).map(|()| map)
     }
 

@@ -323,7 +323,8 @@ impl<K: ?Sized> SetArchive<K> {
 impl<K: Key + ?Sized> SetArchive<K> {
     /// Opens the set, with the type and the width that the archive was built with.
     ///
-    /// This validates the bytes, as [`Set::open`] does. A built archive is valid.
+    /// The first call validates the bytes, as [`Set::open`] does. A built archive is valid. Each later
+    /// call takes constant time.
     pub fn open(&self) -> Set<'_, K> {
         Set {
             map: self.archive.open(),
