@@ -1,13 +1,15 @@
 use std::borrow::Borrow;
+use std::collections::{BTreeMap, HashMap};
 use std::fmt;
 use std::ptr::NonNull;
 
 use crate::archive::Built;
 use crate::error::check;
+use crate::item::from_collections;
 use crate::raw::Pair;
 use crate::types::sealed::Store;
 use crate::types::{index_kind, kind};
-use crate::{Archive, Error, ErrorKind, IndexArchive, Key, Value, Width};
+use crate::{Archive, AsItem, Error, ErrorKind, IndexArchive, Key, Value, Width};
 #[cfg(doc)]
 use crate::{IndexMap, Map};
 
@@ -19,15 +21,35 @@ use crate::{IndexMap, Map};
 /// Keys and values are `u32`, `u64` or `str`. Pairs are kept in insertion order. Of pairs with equal
 /// keys, lookups return the value of the first one, unlike those of std's maps.
 ///
+/// `From` converts a `HashMap`, a `BTreeMap`, a `Vec` or a slice of pairs. Keys and values may be
+/// owned or borrowed, as [`AsItem`] says.
+///
 /// # Examples
 /// ```
 /// use rkyv_maps::{Builder, Width};
 ///
 /// # fn main() -> Result<(), rkyv_maps::Error> {
 /// let mut squares: Builder<u32, u64> = (0..1000).map(|n| (n, u64::from(n).pow(2))).collect();
-/// squares.push(&1000, 1_000_000);
+/// squares.push(1000, 1_000_000);
 /// let archive = squares.build(Width::Narrow)?;
 /// assert_eq!(archive.open().get(&30), Some(900));
+/// # Ok(())
+/// # }
+/// ```
+///
+/// Pairs of a std map:
+///
+/// ```
+/// use rkyv_maps::{Builder, Width};
+/// use std::collections::HashMap;
+///
+/// # fn main() -> Result<(), rkyv_maps::Error> {
+/// let counts = HashMap::from([(String::from("tea"), 3_u64), (String::from("coffee"), 4)]);
+/// let archive = Builder::from(&counts).build(Width::Narrow)?;
+/// assert_eq!(archive.open().get("tea"), Some(3));
+///
+/// let long: Builder<str, u64> = counts.iter().filter(|(name, _)| name.len() > 3).collect();
+/// assert_eq!(long.len(), 1);
 /// # Ok(())
 /// # }
 /// ```
@@ -78,7 +100,10 @@ impl<K: Key + ?Sized, V: Value + ?Sized> Builder<K, V> {
     }
 
     /// Appends a pair. If an earlier pair has the same key, lookups return the earlier value.
-    pub fn push(&mut self, key: &K, value: V::Ref<'_>) {
+    ///
+    /// The key is owned or borrowed: `1` or `&1`, a `String`, a `&String` or a `&str`.
+    pub fn push(&mut self, key: impl AsItem<K>, value: V::Ref<'_>) {
+        let key = key.as_item();
         self.keys.push(key);
         self.values.push(value.borrow());
     }
@@ -175,35 +200,46 @@ impl<K: Key + ?Sized, V: Value + ?Sized> fmt::Debug for Builder<K, V> {
     }
 }
 
-/// Appends the pairs. A key or a value may be owned or borrowed: `u32` or `&u32`, `String` or `&str`,
-/// but not `&String`. Of a std map, `iter().map(|(k, v)| (k.as_str(), v))` has such pairs.
+/// Appends the pairs, as [`push`](Builder::push) does.
 impl<K, V, Q, R> Extend<(Q, R)> for Builder<K, V>
 where
     K: Key + ?Sized,
     V: Value + ?Sized,
-    Q: Borrow<K>,
-    R: Borrow<V>,
+    Q: AsItem<K>,
+    R: AsItem<V>,
 {
     fn extend<I: IntoIterator<Item = (Q, R)>>(&mut self, pairs: I) {
         let pairs = pairs.into_iter();
         self.reserve(pairs.size_hint().0);
         for (key, value) in pairs {
-            // Both are borrowed first: if `borrow` panics, no key is without its value.
-            let (key, value): (&K, &V) = (key.borrow(), value.borrow());
+            // Both are borrowed first: if `as_item` panics, no key is without its value.
+            let (key, value) = (key.as_item(), value.as_item());
             self.keys.push(key);
             self.values.push(value);
         }
     }
 }
 
-/// Collects pairs. A key or a value may be owned or borrowed: `u32` or `&u32`, `String` or `&str`, but
-/// not `&String`.
+/// Appends the pairs, as [`push`](Builder::push) does.
+impl<'p, K, V, Q, R> Extend<&'p (Q, R)> for Builder<K, V>
+where
+    K: Key + ?Sized,
+    V: Value + ?Sized,
+    Q: AsItem<K>,
+    R: AsItem<V>,
+{
+    fn extend<I: IntoIterator<Item = &'p (Q, R)>>(&mut self, pairs: I) {
+        self.extend(pairs.into_iter().map(|(key, value)| (key, value)));
+    }
+}
+
+/// Collects pairs in their order.
 impl<K, V, Q, R> FromIterator<(Q, R)> for Builder<K, V>
 where
     K: Key + ?Sized,
     V: Value + ?Sized,
-    Q: Borrow<K>,
-    R: Borrow<V>,
+    Q: AsItem<K>,
+    R: AsItem<V>,
 {
     fn from_iter<I: IntoIterator<Item = (Q, R)>>(pairs: I) -> Self {
         let mut builder = Builder::new();
@@ -212,14 +248,31 @@ where
     }
 }
 
-impl<K, V, Q, R, const N: usize> From<[(Q, R); N]> for Builder<K, V>
+/// Collects pairs in their order.
+impl<'p, K, V, Q, R> FromIterator<&'p (Q, R)> for Builder<K, V>
 where
     K: Key + ?Sized,
     V: Value + ?Sized,
-    Q: Borrow<K>,
-    R: Borrow<V>,
+    Q: AsItem<K>,
+    R: AsItem<V>,
 {
-    fn from(pairs: [(Q, R); N]) -> Self {
-        pairs.into_iter().collect()
+    fn from_iter<I: IntoIterator<Item = &'p (Q, R)>>(pairs: I) -> Self {
+        let mut builder = Builder::new();
+        builder.extend(pairs);
+        builder
     }
+}
+
+from_collections! {
+    Builder<K, V>,
+    [K: Key + ?Sized, V: Value + ?Sized, Q: AsItem<K>, R: AsItem<V>],
+    (const N: usize,) [(Q, R); N],
+    ('p, const N: usize,) &'p [(Q, R); N],
+    ('p,) &'p [(Q, R)],
+    () Vec<(Q, R)>,
+    ('p,) &'p Vec<(Q, R)>,
+    (S,) HashMap<Q, R, S>,
+    ('p, S,) &'p HashMap<Q, R, S>,
+    () BTreeMap<Q, R>,
+    ('p,) &'p BTreeMap<Q, R>,
 }

@@ -390,7 +390,8 @@ impl<'a, K: Key + ?Sized, V: Number> IndexMapMut<'a, K, V> {
     /// The map of a handle.
     ///
     /// # Safety
-    /// It is the handle of an open index map of these types, whose bytes are borrowed mutably for `'a`.
+    /// It is the handle of an open index map of these types, whose bytes are borrowed mutably for
+    /// `'a`.
     pub(crate) unsafe fn of(raw: RawMap) -> Self {
         IndexMapMut {
             raw,

@@ -315,7 +315,8 @@ impl<'a, K: Key + ?Sized, V: Number> MapMut<'a, K, V> {
     /// The map of a handle.
     ///
     /// # Safety
-    /// It is the handle of an open hash map or set of these types, whose bytes are borrowed mutably for `'a`.
+    /// It is the handle of an open hash map of these types, whose bytes are borrowed mutably for
+    /// `'a`.
     pub(crate) unsafe fn of(raw: RawMap) -> Self {
         MapMut {
             raw,

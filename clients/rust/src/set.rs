@@ -1,10 +1,11 @@
-use std::borrow::Borrow;
+use std::collections::{BTreeSet, HashSet};
 use std::fmt;
 use std::io::{self, Write};
 use std::iter::FusedIterator;
 
+use crate::item::from_collections;
 use crate::types::Unit;
-use crate::{Archive, Builder, Checksum, Error, Key, Keys, Map, Width};
+use crate::{Archive, AsItem, Builder, Checksum, Error, Key, Keys, Map, Width};
 
 /// A set of `K`, which is `u32`, `u64` or `str`, that borrows an archive.
 ///
@@ -178,8 +179,11 @@ impl<K: Key + ?Sized> fmt::Debug for Members<'_, K> {
 
 /// The items of a set that is to be archived.
 ///
-/// The items are `u32`, `u64` or `str`, and are kept in insertion order. Equal items are kept too, unlike in
-/// a set of std: [`Set::len`] counts them, and iterators return them.
+/// The items are `u32`, `u64` or `str`, and are kept in insertion order. Equal items are kept too,
+/// unlike in a set of std: [`Set::len`] counts them, and iterators return them.
+///
+/// `From` converts a `HashSet`, a `BTreeSet`, a `Vec` or a slice of items. They may be owned or
+/// borrowed, as [`AsItem`] says.
 ///
 /// # Examples
 /// ```
@@ -187,7 +191,7 @@ impl<K: Key + ?Sized> fmt::Debug for Members<'_, K> {
 ///
 /// # fn main() -> Result<(), rkyv_maps::Error> {
 /// let mut squares: SetBuilder<u32> = (0..1000u32).map(|n| n * n).collect();
-/// squares.push(&7);
+/// squares.push(7);
 /// let archive = squares.build(Width::Narrow)?;
 /// assert!(archive.open().contains(&900) && !archive.open().contains(&8));
 /// # Ok(())
@@ -236,8 +240,8 @@ impl<K: Key + ?Sized> SetBuilder<K> {
         self.builder.is_empty()
     }
 
-    /// Appends an item.
-    pub fn push(&mut self, item: &K) {
+    /// Appends an item, which is owned or borrowed.
+    pub fn push(&mut self, item: impl AsItem<K>) {
         self.builder.push(item, Unit);
     }
 
@@ -274,19 +278,17 @@ impl<K: Key + ?Sized> fmt::Debug for SetBuilder<K> {
     }
 }
 
-/// Appends the items. An item may be owned or borrowed: `u32` or `&u32`, `String` or `&str`.
-impl<K: Key + ?Sized, Q: Borrow<K>> Extend<Q> for SetBuilder<K> {
+/// Appends the items, as [`push`](SetBuilder::push) does.
+impl<K: Key + ?Sized, Q: AsItem<K>> Extend<Q> for SetBuilder<K> {
     fn extend<I: IntoIterator<Item = Q>>(&mut self, items: I) {
         let items = items.into_iter();
         self.reserve(items.size_hint().0);
-        for item in items {
-            self.push(item.borrow());
-        }
+        items.for_each(|item| self.push(item));
     }
 }
 
-/// Collects items. An item may be owned or borrowed: `u32` or `&u32`, `String` or `&str`.
-impl<K: Key + ?Sized, Q: Borrow<K>> FromIterator<Q> for SetBuilder<K> {
+/// Collects items in their order.
+impl<K: Key + ?Sized, Q: AsItem<K>> FromIterator<Q> for SetBuilder<K> {
     fn from_iter<I: IntoIterator<Item = Q>>(items: I) -> Self {
         let mut builder = SetBuilder::new();
         builder.extend(items);
@@ -294,10 +296,18 @@ impl<K: Key + ?Sized, Q: Borrow<K>> FromIterator<Q> for SetBuilder<K> {
     }
 }
 
-impl<K: Key + ?Sized, Q: Borrow<K>, const N: usize> From<[Q; N]> for SetBuilder<K> {
-    fn from(items: [Q; N]) -> Self {
-        items.into_iter().collect()
-    }
+from_collections! {
+    SetBuilder<K>,
+    [K: Key + ?Sized, Q: AsItem<K>],
+    (const N: usize,) [Q; N],
+    ('p, const N: usize,) &'p [Q; N],
+    ('p,) &'p [Q],
+    () Vec<Q>,
+    ('p,) &'p Vec<Q>,
+    (S,) HashSet<Q, S>,
+    ('p, S,) &'p HashSet<Q, S>,
+    () BTreeSet<Q>,
+    ('p,) &'p BTreeSet<Q>,
 }
 
 /// The bytes of an archive that a [`SetBuilder`] has built, with the type and the width of the set.

@@ -5,6 +5,7 @@ use std::hash::Hash;
 use self::sealed::{SealedKey, SealedValue, Store, Stored};
 use crate::calls::{Calls, KeyCalls};
 use crate::raw::RawText;
+use crate::AsItem;
 
 /// The width of an archive: the size of its counts, distances and positions.
 ///
@@ -48,10 +49,12 @@ pub enum Width {
 #[diagnostic::on_unimplemented(
     message = "the keys of a map are `u32`, `u64` or `str`, not `{Self}`"
 )]
-pub trait Key: SealedKey + Ord + Hash + Debug + Display + Send + Sync + 'static {
+pub trait Key:
+    SealedKey + AsItem<Self> + Ord + Hash + Debug + Display + Send + Sync + 'static
+{
     /// A key as an iterator returns it: a number, or a `&str` that borrows the archive. Generic code
     /// gets a `&Self` by `borrow`.
-    type Ref<'a>: Copy + Ord + Hash + Debug + Display + Borrow<Self> + Send + Sync;
+    type Ref<'a>: Copy + Ord + Hash + Debug + Display + Borrow<Self> + AsItem<Self> + Send + Sync;
 }
 
 /// The type of a value: `u32`, `u64` or `str`.
@@ -69,10 +72,12 @@ pub trait Key: SealedKey + Ord + Hash + Debug + Display + Send + Sync + 'static 
 #[diagnostic::on_unimplemented(
     message = "the values of a map are `u32`, `u64` or `str`, not `{Self}`"
 )]
-pub trait Value: SealedValue + Ord + Hash + Debug + Display + Send + Sync + 'static {
+pub trait Value:
+    SealedValue + AsItem<Self> + Ord + Hash + Debug + Display + Send + Sync + 'static
+{
     /// A value as a lookup returns it: a number, or a `&str` that borrows the archive. Generic code
     /// gets a `&Self` by `borrow`, and compares values of two archives by it.
-    type Ref<'a>: Copy + Ord + Hash + Debug + Display + Borrow<Self> + Send + Sync;
+    type Ref<'a>: Copy + Ord + Hash + Debug + Display + Borrow<Self> + AsItem<Self> + Send + Sync;
 }
 
 /// The type of a value that is a number: `u32` or `u64`.

@@ -6,7 +6,7 @@ use std::iter::FusedIterator;
 use std::panic::{catch_unwind, AssertUnwindSafe, RefUnwindSafe, UnwindSafe};
 
 use rkyv_maps::{
-    Archive, Builder, Error, ErrorKind, Iter, Key, Keys, Map, MapMut, Number, Values, Width,
+    Archive, AsItem, Builder, Error, ErrorKind, Iter, Key, Keys, Map, MapMut, Number, Values, Width,
 };
 
 /// The narrow archive of the map of 1 to 2.
@@ -240,7 +240,7 @@ fn builders_keep_their_pairs() {
     builder.reserve(30);
     assert!(builder.is_empty() && builder.capacity() >= 30);
     let empty = builder.build(Width::Narrow).unwrap();
-    builder.push(&1, 2);
+    builder.push(1, 2);
     let archive = builder.build(Width::Narrow).unwrap();
     builder.extend([(1, 3), (4, 5)]);
     let longer = builder.clone().build(Width::Narrow).unwrap();
@@ -275,8 +275,8 @@ fn builders_collect_owned_and_borrowed_keys() {
 /// A number that panics if it is borrowed and is 0.
 struct NotZero(u32);
 
-impl Borrow<u32> for NotZero {
-    fn borrow(&self) -> &u32 {
+impl AsItem<u32> for NotZero {
+    fn as_item(&self) -> &u32 {
         assert_ne!(self.0, 0);
         &self.0
     }
@@ -289,7 +289,7 @@ fn a_pair_that_panics_is_not_appended() {
         let mut builder = Builder::<u32, u32>::new();
         let extended = catch_unwind(AssertUnwindSafe(|| builder.extend(pairs(key, value))));
         assert!(extended.is_err());
-        builder.push(&7, 8);
+        builder.push(7, 8);
         assert_eq!(
             (builder.len(), format!("{builder:?}")),
             (2, "{1: 2, 7: 8}".into())
