@@ -5,6 +5,7 @@ use std::ptr::NonNull;
 
 use crate::archive::Built;
 use crate::error::check;
+use crate::indices::Indices;
 use crate::item::from_collections;
 use crate::raw::Pair;
 use crate::types::sealed::Store;
@@ -18,8 +19,9 @@ use crate::{IndexMap, Map};
 /// [`build`](Builder::build) makes a [`Map`] of them, and [`build_index`](Builder::build_index) an
 /// [`IndexMap`].
 ///
-/// Keys and values are `u32`, `u64` or `str`. Pairs are kept in insertion order. Of pairs with equal
-/// keys, lookups return the value of the first one, unlike those of std's maps.
+/// Keys and values are `u32`, `u64` or `str`. Pairs are kept in insertion order.
+/// [`insert`](Builder::insert) keeps one value of a key, as a std map does. Of pairs with equal keys,
+/// which [`push`](Builder::push) and `extend` keep, lookups return the value of the first one.
 ///
 /// `From` converts a `HashMap`, a `BTreeMap`, a `Vec` or a slice of pairs. Keys and values may be
 /// owned or borrowed, as [`AsItem`] says.
@@ -56,6 +58,8 @@ use crate::{IndexMap, Map};
 pub struct Builder<K: Key + ?Sized, V: Value + ?Sized> {
     keys: K::Store,
     values: V::Store,
+    /// The indices of keys, for `insert`.
+    indices: Indices,
 }
 
 impl<K: Key + ?Sized, V: Value + ?Sized> Builder<K, V> {
@@ -64,12 +68,13 @@ impl<K: Key + ?Sized, V: Value + ?Sized> Builder<K, V> {
         Builder {
             keys: K::Store::default(),
             values: V::Store::default(),
+            indices: Indices::default(),
         }
     }
 
     /// Returns a builder without pairs that has room for `capacity` of them.
     ///
-    /// The bytes of texts are not counted.
+    /// The bytes of texts and the table of [`insert`](Builder::insert) are not counted.
     pub fn with_capacity(capacity: usize) -> Self {
         let mut builder = Builder::new();
         builder.reserve(capacity);
@@ -84,7 +89,7 @@ impl<K: Key + ?Sized, V: Value + ?Sized> Builder<K, V> {
 
     /// Returns the number of pairs that the builder has room for without allocating.
     ///
-    /// The bytes of texts are not counted.
+    /// The bytes of texts and the table of [`insert`](Builder::insert) are not counted.
     pub fn capacity(&self) -> usize {
         self.keys.capacity().min(self.values.capacity())
     }
@@ -99,9 +104,50 @@ impl<K: Key + ?Sized, V: Value + ?Sized> Builder<K, V> {
         self.len() == 0
     }
 
-    /// Appends a pair. If an earlier pair has the same key, lookups return the earlier value.
+    /// Sets the value of a key, and returns the old one, or `None` if the key is new.
+    ///
+    /// A new key is the last one. An existing key keeps its index, and only its value changes. If it
+    /// was pushed several times, this is the value of the first pair, which lookups return.
     ///
     /// The key is owned or borrowed: `1` or `&1`, a `String`, a `&String` or a `&str`.
+    ///
+    /// # Examples
+    /// ```
+    /// use rkyv_maps::{Builder, Width};
+    ///
+    /// # fn main() -> Result<(), rkyv_maps::Error> {
+    /// let mut builder = Builder::<str, u64>::new();
+    /// for (position, word) in "to be or not to be".split(' ').enumerate() {
+    ///     builder.insert(word, position as u64);
+    /// }
+    /// assert_eq!(builder.insert("be", 7), Some(5));
+    /// let archive = builder.build(Width::Narrow)?;
+    /// assert_eq!((archive.open().get("to"), archive.open().len()), (Some(4), 4));
+    /// # Ok(())
+    /// # }
+    /// ```
+    pub fn insert(&mut self, key: impl AsItem<K>, value: V::Ref<'_>) -> Option<V::Owned> {
+        let key = key.as_item();
+        match self.indices.find(key, &self.keys) {
+            Ok(index) => {
+                let old = self.values.get(index).to_owned();
+                self.values.replace(index, value.borrow());
+                Some(old)
+            }
+            Err(slot) => {
+                let index = self.len();
+                self.keys.push(key);
+                self.values.push(value.borrow());
+                self.indices.fill(slot, index);
+                None
+            }
+        }
+    }
+
+    /// Appends a pair, even if there is one with its key. Lookups then return the earlier value.
+    ///
+    /// If many pairs have one key, building takes quadratic time: [`insert`](Builder::insert) keeps one
+    /// pair of each key. For keys that are known to differ, `push` is faster.
     pub fn push(&mut self, key: impl AsItem<K>, value: V::Ref<'_>) {
         let key = key.as_item();
         self.keys.push(key);
@@ -190,6 +236,7 @@ impl<K: Key + ?Sized, V: Value + ?Sized> Clone for Builder<K, V> {
         Builder {
             keys: self.keys.clone(),
             values: self.values.clone(),
+            indices: self.indices.clone(),
         }
     }
 }

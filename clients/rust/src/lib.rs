@@ -15,8 +15,8 @@
 //!
 //! fn main() -> Result<(), rkyv_maps::Error> {
 //!     let mut builder = Builder::<str, u64>::new();
-//!     builder.push("main", 0x1139);
-//!     builder.push("_start", 0x1040);
+//!     builder.insert("main", 0x1139);
+//!     builder.insert("_start", 0x1040);
 //!     let bytes: Vec<u8> = builder.build(Width::Narrow)?.into();
 //!
 //!     let map = Map::<str, u64>::open(&bytes, Width::Narrow)?;
@@ -79,6 +79,7 @@ mod calls;
 mod container;
 mod error;
 pub mod index_map;
+mod indices;
 mod item;
 mod iter;
 mod map;

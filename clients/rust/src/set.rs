@@ -179,8 +179,10 @@ impl<K: Key + ?Sized> fmt::Debug for Members<'_, K> {
 
 /// The items of a set that is to be archived.
 ///
-/// The items are `u32`, `u64` or `str`, and are kept in insertion order. Equal items are kept too,
-/// unlike in a set of std: [`Set::len`] counts them, and iterators return them.
+/// The items are `u32`, `u64` or `str`, and are kept in insertion order.
+/// [`insert`](SetBuilder::insert) keeps one of equal items, as a std set does.
+/// [`push`](SetBuilder::push) and `extend` keep them all: [`Set::len`] counts them, and iterators
+/// return them.
 ///
 /// `From` converts a `HashSet`, a `BTreeSet`, a `Vec` or a slice of items. They may be owned or
 /// borrowed, as [`AsItem`] says.
@@ -240,7 +242,31 @@ impl<K: Key + ?Sized> SetBuilder<K> {
         self.builder.is_empty()
     }
 
-    /// Appends an item, which is owned or borrowed.
+    /// Inserts an item, which is owned or borrowed. Returns `false`, and changes nothing, if the builder
+    /// has an equal one.
+    ///
+    /// # Examples
+    /// ```
+    /// use rkyv_maps::{SetBuilder, Width};
+    ///
+    /// # fn main() -> Result<(), rkyv_maps::Error> {
+    /// let mut words = SetBuilder::<str>::new();
+    /// for word in "to be or not to be".split(' ') {
+    ///     words.insert(word);
+    /// }
+    /// assert!(!words.insert("not"));
+    /// assert_eq!(words.build(Width::Narrow)?.open().len(), 4);
+    /// # Ok(())
+    /// # }
+    /// ```
+    pub fn insert(&mut self, item: impl AsItem<K>) -> bool {
+        self.builder.insert(item, Unit).is_none()
+    }
+
+    /// Appends an item, even if there is an equal one.
+    ///
+    /// If many items are equal, building takes quadratic time: [`insert`](SetBuilder::insert) keeps one
+    /// of them.
     pub fn push(&mut self, item: impl AsItem<K>) {
         self.builder.push(item, Unit);
     }

@@ -73,7 +73,7 @@ pub trait Key:
     message = "the values of a map are `u32`, `u64` or `str`, not `{Self}`"
 )]
 pub trait Value:
-    SealedValue + AsItem<Self> + Ord + Hash + Debug + Display + Send + Sync + 'static
+    SealedValue + AsItem<Self> + ToOwned + Ord + Hash + Debug + Display + Send + Sync + 'static
 {
     /// A value as a lookup returns it: a number, or a `&str` that borrows the archive. Generic code
     /// gets a `&Self` by `borrow`, and compares values of two archives by it.
@@ -85,7 +85,7 @@ pub trait Value:
 /// The trait is sealed, as [`Key`] is.
 #[diagnostic::on_unimplemented(message = "the numbers of a map are `u32` or `u64`, not `{Self}`")]
 pub trait Number:
-    for<'a> Value<Ref<'a> = Self> + Copy + Default + Into<u64> + TryFrom<u64>
+    for<'a> Value<Ref<'a> = Self, Owned = Self> + Copy + Default + Into<u64> + TryFrom<u64>
 {
 }
 
@@ -146,6 +146,10 @@ pub(crate) mod sealed {
 
         fn len(&self) -> usize;
 
+        fn get(&self, index: usize) -> &T;
+
+        fn replace(&mut self, index: usize, item: &T);
+
         fn iter(&self) -> impl Iterator<Item = &T>;
     }
 
@@ -205,32 +209,71 @@ pub(crate) mod sealed {
 #[derive(Clone, Default)]
 pub struct Texts {
     bytes: String,
-    ends: Vec<usize>,
+    /// The positions of the begin and of the end of each text.
+    ranges: Vec<(usize, usize)>,
+    /// The number of bytes of texts that were replaced.
+    unused: usize,
+}
+
+impl Texts {
+    /// Appends the bytes of a text, and returns its range.
+    fn append(&mut self, text: &str) -> (usize, usize) {
+        let begin = self.bytes.len();
+        self.bytes.push_str(text);
+        (begin, self.bytes.len())
+    }
+
+    /// Removes the bytes that are not used, once they are more than the texts and the used bytes. So
+    /// a replaced byte costs constant time on average.
+    fn compact(&mut self) {
+        let used = self.bytes.len() - self.unused;
+        if self.unused <= used + self.ranges.len() {
+            return;
+        }
+        let mut bytes = String::with_capacity(used);
+        for range in &mut self.ranges {
+            let begin = bytes.len();
+            bytes.push_str(&self.bytes[range.0..range.1]);
+            *range = (begin, bytes.len());
+        }
+        self.bytes = bytes;
+        self.unused = 0;
+    }
 }
 
 impl Store<str> for Texts {
     fn reserve(&mut self, additional: usize) {
-        self.ends.reserve(additional);
+        self.ranges.reserve(additional);
     }
 
     fn capacity(&self) -> usize {
-        self.ends.capacity()
+        self.ranges.capacity()
     }
 
     fn push(&mut self, text: &str) {
-        self.bytes.push_str(text);
-        self.ends.push(self.bytes.len());
+        let range = self.append(text);
+        self.ranges.push(range);
     }
 
     fn len(&self) -> usize {
-        self.ends.len()
+        self.ranges.len()
+    }
+
+    fn get(&self, index: usize) -> &str {
+        let (begin, end) = self.ranges[index];
+        &self.bytes[begin..end]
+    }
+
+    fn replace(&mut self, index: usize, text: &str) {
+        let (begin, end) = self.ranges[index];
+        self.ranges[index] = self.append(text);
+        self.unused += end - begin;
+        self.compact();
     }
 
     fn iter(&self) -> impl Iterator<Item = &str> {
-        let begins = std::iter::once(0).chain(self.ends.iter().copied());
-        begins
-            .zip(&self.ends)
-            .map(|(begin, end)| &self.bytes[begin..*end])
+        let ranges = self.ranges.iter();
+        ranges.map(|(begin, end)| &self.bytes[*begin..*end])
     }
 }
 
@@ -249,6 +292,14 @@ impl<N: Copy + Send + Sync + 'static> Store<N> for Vec<N> {
 
     fn len(&self) -> usize {
         self.len()
+    }
+
+    fn get(&self, index: usize) -> &N {
+        &self[index]
+    }
+
+    fn replace(&mut self, index: usize, number: &N) {
+        self[index] = *number;
     }
 
     fn iter(&self) -> impl Iterator<Item = &N> {
@@ -271,6 +322,12 @@ impl Store<Unit> for usize {
     fn len(&self) -> usize {
         *self
     }
+
+    fn get(&self, _index: usize) -> &Unit {
+        &Unit
+    }
+
+    fn replace(&mut self, _index: usize, _unit: &Unit) {}
 
     fn iter(&self) -> impl Iterator<Item = &Unit> {
         std::iter::repeat_n(&Unit, *self)
