@@ -1,8 +1,10 @@
-use crate::error::check;
+use crate::error::{check, check_open};
 use crate::raw::{self, HEADER_LEN};
+use crate::types::sealed::SealedValue;
+use crate::types::Unit;
 #[cfg(doc)]
-use crate::ErrorKind;
-use crate::{Error, Width};
+use crate::{Builder, IndexMap, Map, Set};
+use crate::{Error, ErrorKind, Width};
 
 /// Whether a container has a checksum of its archive.
 ///
@@ -29,6 +31,122 @@ pub enum Checksum {
     None,
     /// The checksum Adler-32 of zlib.
     Adler32,
+}
+
+/// The kind of collection in a container.
+#[derive(Clone, Copy, Debug, PartialEq, Eq, Hash)]
+#[non_exhaustive]
+pub enum Collection {
+    /// A [`Map`].
+    Map,
+    /// A [`Set`].
+    Set,
+    /// An [`IndexMap`].
+    IndexMap,
+}
+
+/// The type of the keys or of the values in a container, or of the items of a set.
+#[derive(Clone, Copy, Debug, PartialEq, Eq, Hash)]
+#[non_exhaustive]
+pub enum ItemType {
+    /// `u32`
+    U32,
+    /// `u64`
+    U64,
+    /// `str`
+    Str,
+}
+
+/// What the header of a container records, as [`container_kind`] returns it.
+#[derive(Clone, Copy, Debug, PartialEq, Eq, Hash)]
+#[non_exhaustive]
+pub struct ContainerKind {
+    /// The kind of collection.
+    pub collection: Collection,
+    /// The type of the keys, or of the items of a set.
+    pub key: ItemType,
+    /// The type of the values, or `None` for a set.
+    pub value: Option<ItemType>,
+    /// The width of the archive.
+    pub width: Width,
+}
+
+/// Returns which collection a container has, of which types and of which width, as its header records
+/// them.
+///
+/// Neither the length, the checksum nor the archive is checked: the calls that open do that.
+///
+/// # Errors
+/// The first of these:
+/// - an error of the header, from [`ErrorKind::ContainerTooShort`] to [`ErrorKind::NonzeroReserved`]
+/// - [`ErrorKind::UnsupportedKind`]
+///
+/// # Examples
+/// ```
+/// use rkyv_maps::{container_kind, Builder, Checksum, Collection, Error, ItemType, Map, Width};
+///
+/// fn lookup(container: &[u8], name: &str) -> Result<Option<u64>, Box<dyn std::error::Error>> {
+///     let kind = container_kind(container)?;
+///     match (kind.collection, kind.key, kind.value) {
+///         (Collection::Map, ItemType::Str, Some(ItemType::U64)) => {
+///             Ok(Map::<str, u64>::open_container(container)?.get(name))
+///         }
+///         (Collection::Map, ItemType::Str, Some(ItemType::U32)) => {
+///             Ok(Map::<str, u32>::open_container(container)?.get(name).map(u64::from))
+///         }
+///         _ => Err(format!("no map of names to numbers: {kind:?}").into()),
+///     }
+/// }
+///
+/// # fn main() -> Result<(), Box<dyn std::error::Error>> {
+/// let archive = Builder::<str, u32>::from([("main", 0x1139)]).build(Width::Narrow)?;
+/// assert_eq!(lookup(&archive.to_container(Checksum::None), "main")?, Some(0x1139));
+/// # Ok(())
+/// # }
+/// ```
+pub fn container_kind(container: &[u8]) -> Result<ContainerKind, Error> {
+    let (pointer, length) = (container.as_ptr().cast(), container.len());
+    let (mut kind, mut width) = (0, 0);
+    // SAFETY: pointer and length are those of one slice. Kind and width have room for what is stored.
+    let status = unsafe { raw::rkyv_container_kind(pointer, length, &mut kind, &mut width) };
+    // The errors of the header are the same ones for each kind and width.
+    let explain = |error| {
+        let kind = u32::KINDS[0];
+        // SAFETY: pointer and length are those of one slice. `error` has room for the error.
+        unsafe { raw::rkyv_container_explain(pointer, length, kind, raw::ANY_WIDTH, error) }
+    };
+    check_open(status, explain)?;
+    let types = types_of::<u32>(kind, Some(ItemType::U32))
+        .or_else(|| types_of::<u64>(kind, Some(ItemType::U64)))
+        .or_else(|| types_of::<str>(kind, Some(ItemType::Str)))
+        .or_else(|| types_of::<Unit>(kind, None));
+    let (collection, key, value) = types.ok_or(ErrorKind::UnsupportedKind)?;
+    Ok(ContainerKind {
+        collection,
+        key,
+        value,
+        width: if width == Width::Wide as u32 {
+            Width::Wide
+        } else {
+            Width::Narrow
+        },
+    })
+}
+
+/// The collection and the types of a `rkyv_kind`, if its values are of this type.
+fn types_of<V: SealedValue + ?Sized>(
+    kind: u32,
+    value: Option<ItemType>,
+) -> Option<(Collection, ItemType, Option<ItemType>)> {
+    const KEYS: [ItemType; 3] = [ItemType::U32, ItemType::U64, ItemType::Str];
+    let key = |kinds: [u32; 3]| Some(KEYS[kinds.iter().position(|of| *of == kind)?]);
+    let hashed = match value {
+        Some(_) => Collection::Map,
+        None => Collection::Set,
+    };
+    key(V::KINDS)
+        .map(|key| (hashed, key, value))
+        .or_else(|| Some((Collection::IndexMap, key(V::INDEX_KINDS)?, value)))
 }
 
 /// Writes the checksum of a container anew, after values were written in place.

@@ -203,6 +203,8 @@ pub enum ErrorKind {
     WrongLength,
     /// The checksum in the header of a container is not that of the archive.
     WrongChecksum,
+    /// No map or set of this crate has the collection and the types in the header of a container.
+    UnsupportedKind,
 
     /// A status of `rkyv.h` that the calls of this crate are not expected to return.
     Status(u32),
@@ -253,6 +255,9 @@ impl fmt::Display for ErrorKind {
             ErrorKind::WrongWidth => "the archive in the container has another width",
             ErrorKind::WrongLength => "the length of the archive is not that in the header",
             ErrorKind::WrongChecksum => "the checksum of the archive is not that in the header",
+            ErrorKind::UnsupportedKind => {
+                "no map or set has the collection and the types of the container"
+            }
             ErrorKind::Status(status) => {
                 return write!(f, "the C library returned the unexpected status {status}");
             }
@@ -264,6 +269,7 @@ impl ErrorKind {
     /// The kind of the error with a status.
     fn of(status: u32) -> Self {
         match status {
+            raw::UNKNOWN_KIND => ErrorKind::UnsupportedKind,
             12 => ErrorKind::NoMemory,
             16 => ErrorKind::OutOfRange,
             17 => ErrorKind::Unaligned,

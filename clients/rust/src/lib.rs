@@ -76,6 +76,7 @@
 mod archive;
 mod builder;
 mod calls;
+mod compare;
 mod container;
 mod error;
 pub mod index_map;
@@ -90,7 +91,9 @@ mod types;
 
 pub use archive::{Archive, IndexArchive};
 pub use builder::Builder;
-pub use container::{update_container, Checksum};
+pub use container::{
+    container_kind, update_container, Checksum, Collection, ContainerKind, ItemType,
+};
 pub use error::{Error, ErrorKind};
 pub use index_map::{IndexMap, IndexMapMut};
 pub use item::AsItem;

@@ -188,8 +188,8 @@ impl<'a, K: Key + ?Sized, V: Value + ?Sized> Map<'a, K, V> {
 
     /// Returns the value of a key.
     ///
-    /// This takes the role of `Index`, whose result would be a reference to the value. The bytes of
-    /// a number needn't be aligned, so there is no such reference.
+    /// This takes the role of `Index`, whose result is a reference to the value. The bytes of a number
+    /// needn't be aligned, so there is no such reference. Maps with text values have `Index` too.
     ///
     /// # Panics
     /// If the lookup doesn't find the key.

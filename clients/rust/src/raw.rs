@@ -225,5 +225,11 @@ unsafe extern "C" {
         checksum: bool,
         header: *mut u8,
     ) -> u32;
+    pub fn rkyv_container_kind(
+        bytes: *const c_void,
+        length: usize,
+        kind: *mut u32,
+        width: *mut u32,
+    ) -> u32;
     pub fn rkyv_container_update(bytes: *mut c_void, length: usize) -> u32;
 }

@@ -1,0 +1,145 @@
+//! Comparisons with maps and sets of std, and lookups by `[]`.
+
+use std::collections::{BTreeMap, BTreeSet, HashMap, HashSet};
+use std::panic::catch_unwind;
+
+use rkyv_maps::{Builder, Map, SetBuilder, Width};
+
+const WIDTHS: [Width; 2] = [Width::Narrow, Width::Wide];
+
+/// A text of some length.
+fn text(n: u64) -> String {
+    "ä日x".repeat(n as usize % 7) + &n.to_string()
+}
+
+/// Compares the maps of a std map with it, and with those that differ in one pair.
+fn compare(map: &HashMap<String, u64>, width: Width) {
+    let mut builder = Builder::from(map);
+    let (archive, index_archive) = (
+        builder.build(width).unwrap(),
+        builder.build_index(width).unwrap(),
+    );
+    let (opened, index_map) = (archive.open(), index_archive.open());
+    let sorted: BTreeMap<&str, &u64> = map.iter().map(|(key, value)| (&**key, value)).collect();
+    assert_eq!(opened, *map);
+    assert_eq!(opened, sorted);
+    assert_eq!(index_map, *map);
+    assert_eq!(index_map, sorted);
+
+    let mut longer = map.clone();
+    longer.insert("another".into(), 1);
+    assert!(opened != longer && index_map != longer);
+    for key in map.keys().take(3) {
+        let mut other = map.clone();
+        *other.get_mut(key).unwrap() += 1;
+        assert!(opened != other && index_map != other);
+        let value = other.remove(key).unwrap() - 1;
+        assert!(opened != other && index_map != other);
+        other.insert(key.clone() + ".", value);
+        assert!(opened != other && index_map != other);
+        let other: BTreeMap<String, u64> = other.into_iter().collect();
+        assert!(opened != other && index_map != other);
+    }
+
+    // A key that repeats.
+    if let Some((key, value)) = map.iter().next() {
+        builder.push(key, *value);
+        let (archive, index_archive) = (
+            builder.build(width).unwrap(),
+            builder.build_index(width).unwrap(),
+        );
+        assert!(archive.open() != *map && archive.open() != longer);
+        assert!(index_archive.open() != *map && index_archive.open() != longer);
+    }
+}
+
+#[test]
+fn maps_equal_those_of_std() {
+    for width in WIDTHS {
+        for count in [0, 1, 2, 8, 100, 1000] {
+            compare(&(0..count).map(|n| (text(n), n << 33)).collect(), width);
+        }
+        let names = BTreeMap::from([(7_u32, "tea"), (8, "cake")]);
+        let archive = Builder::from(&names).build(width).unwrap();
+        assert_eq!(archive.open(), names);
+        assert_eq!(archive.open(), HashMap::from([(7, "tea"), (8, "cake")]));
+        assert_ne!(archive.open(), HashMap::from([(7, "cake"), (8, "tea")]));
+        let owned = HashMap::from([(7, String::from("tea")), (8, String::from("cake"))]);
+        assert_eq!(archive.open(), owned);
+    }
+}
+
+#[test]
+fn sets_equal_those_of_std() {
+    for width in WIDTHS {
+        for count in [0, 1, 2, 8, 100, 1000] {
+            let set: HashSet<String> = (0..count).map(text).collect();
+            let mut builder = SetBuilder::from(&set);
+            let archive = builder.build(width).unwrap();
+            let sorted: BTreeSet<&str> = set.iter().map(String::as_str).collect();
+            assert_eq!(archive.open(), set);
+            assert_eq!(archive.open(), sorted);
+            let mut other = set.clone();
+            other.insert("another".into());
+            assert_ne!(archive.open(), other);
+            if let Some(item) = set.iter().next() {
+                other.remove(item);
+                assert_ne!(archive.open(), other);
+                builder.push(item);
+                assert_ne!(builder.build(width).unwrap().open(), set);
+            }
+        }
+        let archive = SetBuilder::<u64>::from([1 << 40, 2]).build(width).unwrap();
+        assert_eq!(archive.open(), BTreeSet::from([2, 1 << 40]));
+        assert_ne!(archive.open(), BTreeSet::from([2, 1 << 41]));
+    }
+}
+
+/// A map that an iterator shows, but in which a lookup misses its key.
+#[test]
+fn a_map_whose_key_is_not_found_equals_none() {
+    let pairs = HashMap::from([(1_u32, 2_u32)]);
+    let mut bytes = Vec::from(Builder::from(&pairs).build(Width::Narrow).unwrap());
+    let opened = Map::<u32, u32>::open(&bytes, Width::Narrow).unwrap();
+    assert_eq!(opened, pairs);
+    let hashes = bytes.iter_mut().filter(|byte| **byte == 0x28);
+    assert_eq!(hashes.map(|byte| *byte = 0x29).count(), 2);
+    let opened = Map::<u32, u32>::open(&bytes, Width::Narrow).unwrap();
+    assert!(opened.iter().eq([(1, 2)]) && opened.get(&1).is_none());
+    assert_ne!(opened, pairs);
+    assert_ne!(opened, HashMap::<u32, u32>::new());
+}
+
+#[test]
+fn texts_are_indexed() {
+    for width in WIDTHS {
+        let builder = Builder::<str, str>::from([("tea", "Tee"), ("cake", "a long text")]);
+        let archive = builder.build(width).unwrap();
+        let index_archive = builder.build_index(width).unwrap();
+        let (map, index_map) = (archive.open(), index_archive.open());
+        assert_eq!((&map["tea"], &map["cake"]), ("Tee", "a long text"));
+        assert_eq!(
+            (&index_map["tea"], &index_map["cake"]),
+            ("Tee", "a long text")
+        );
+        assert_eq!((&index_map[0], &index_map[1]), ("Tee", "a long text"));
+        assert_eq!(map[&String::from("tea")].len(), 3);
+
+        let message = |panic: Box<dyn std::any::Any + Send>| *panic.downcast::<String>().unwrap();
+        let panic = catch_unwind(|| map["coffee"].len()).unwrap_err();
+        assert_eq!(message(panic), "no entry found for key \"coffee\"");
+        let panic = catch_unwind(|| index_map["coffee"].len()).unwrap_err();
+        assert_eq!(message(panic), "no entry found for key \"coffee\"");
+        let panic = catch_unwind(|| index_map[2].len()).unwrap_err();
+        assert_eq!(message(panic), "the index is 2, but the map has 2 pairs");
+
+        let numbers = Builder::<u64, str>::from([(7, "tea")]);
+        let archive = numbers.build(width).unwrap();
+        let index_archive = numbers.build_index(width).unwrap();
+        assert_eq!(
+            (&archive.open()[&7], &index_archive.open()[&7]),
+            ("tea", "tea")
+        );
+        assert!(catch_unwind(|| archive.open()[&8].len()).is_err());
+    }
+}
