@@ -4,9 +4,9 @@
 //! cargo run --example dictionary
 //! ```
 //!
-//! The mapping is never unmapped, so the map has the lifetime `'static`. The file is validated
-//! once. Any thread then copies the map from a static variable, without a lock. In the example
-//! `shared` the threads end before the bytes do.
+//! The map owns the mapping. It is in a static variable, so the mapping is never unmapped. The file
+//! is validated once. Any thread then looks words up, without a lock. In the example `shared` the
+//! threads end before the bytes do.
 
 mod mapping;
 
@@ -16,14 +16,14 @@ use std::sync::OnceLock;
 use std::thread;
 
 use mapping::{Mapping, Temporary};
-use rkyv_maps::{Builder, Checksum, Map, Width};
+use rkyv_maps::{Builder, Checksum, Map, MapBuf, Width};
 
-static BYTES: OnceLock<Mapping> = OnceLock::new();
-static DICTIONARY: OnceLock<Map<'static, str, u32>> = OnceLock::new();
+static DICTIONARY: OnceLock<MapBuf<str, u32, Mapping>> = OnceLock::new();
 
 /// The dictionary, which `main` opens before it starts threads.
 fn dictionary() -> Map<'static, str, u32> {
-    *DICTIONARY.get().expect("the dictionary is open")
+    let owned = DICTIONARY.get().expect("the dictionary is open");
+    owned.as_map()
 }
 
 /// The number that the dictionary has for a numeral, such as "seventy-two".
@@ -68,7 +68,7 @@ fn main() -> Result<(), Box<dyn Error>> {
 
     // SAFETY: this process has created the file, and no other program opens it.
     let mapping = unsafe { Mapping::open(&file)? };
-    let map = Map::open_container(BYTES.get_or_init(|| mapping))?;
+    let map = MapBuf::open_container(mapping)?;
     DICTIONARY.get_or_init(|| map);
 
     let threads = ["seventy-two", "forty-one", "nineteen", "ninety-none"].map(|words| {

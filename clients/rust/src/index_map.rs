@@ -15,6 +15,8 @@ use crate::{Error, Key, Number, Value, Width};
 /// The pairs are in the order in which they were pushed. A lookup by a key also returns the index,
 /// and one by an index returns the pair: a table of interned texts is such a map.
 ///
+/// An [`IndexMapBuf`](crate::IndexMapBuf) owns its archive.
+///
 /// An `IndexMap` is a few words: copy it freely. Lookups and iteration allocate nothing and read the
 /// bytes in place, at any alignment.
 ///

@@ -6,6 +6,9 @@
 //! values are `u32`, `u64` or `str`. A [`MapMut`] also writes values that are numbers in place. A
 //! [`SetBuilder`] and a [`Set`] are the same for sets of such items.
 //!
+//! A [`MapBuf`] owns its bytes, so that a struct can have it. An [`IndexMapBuf`] and a [`SetBuf`] do
+//! too.
+//!
 //! An [`IndexMap`] keeps its pairs in insertion order. It is looked up by key or by index, as a
 //! table of interned texts is. [`Builder::build_index`] builds the bytes of its archive, and an
 //! [`IndexMapMut`] writes values in place.
@@ -74,6 +77,7 @@
 #![warn(unsafe_op_in_unsafe_fn)]
 
 mod archive;
+mod buf;
 mod builder;
 mod calls;
 mod compare;
@@ -90,6 +94,7 @@ mod set;
 mod types;
 
 pub use archive::{Archive, IndexArchive};
+pub use buf::{IndexMapBuf, MapBuf, SetBuf, StableBytes};
 pub use builder::Builder;
 pub use container::{
     container_kind, update_container, Checksum, Collection, ContainerKind, ItemType,

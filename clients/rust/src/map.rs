@@ -12,6 +12,8 @@ use crate::{Error, Key, Number, Value, Width};
 
 /// A map of `K` to `V`, each of which is `u32`, `u64` or `str`, that borrows an archive.
 ///
+/// A [`MapBuf`](crate::MapBuf) owns its archive.
+///
 /// A `Map` is a few words: copy it freely. Lookups and iteration allocate nothing and read the
 /// bytes in place, at any alignment.
 ///

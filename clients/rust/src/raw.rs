@@ -51,6 +51,45 @@ impl RawMap {
     pub fn is_wide(&self) -> bool {
         self.width == 64
     }
+
+    /// Returns the handle without its pointers.
+    pub fn decoded(self) -> Decoded {
+        Decoded {
+            length: self.length,
+            kind: self.kind,
+            width: self.width,
+            header: self.header,
+        }
+    }
+}
+
+/// A handle without its pointers, for an archive that may move.
+#[derive(Clone, Copy)]
+pub struct Decoded {
+    length: usize,
+    kind: u32,
+    width: u32,
+    header: RawTableHeader,
+}
+
+impl Decoded {
+    /// Returns the number of bytes of the archive.
+    pub fn length(&self) -> usize {
+        self.length
+    }
+
+    /// Returns the handle of the archive at this address, to read. The map is open if the archive has
+    /// the bytes with which it was opened.
+    pub fn at(self, bytes: *const u8) -> RawMap {
+        RawMap {
+            bytes,
+            writable: std::ptr::null_mut(),
+            length: self.length,
+            kind: self.kind,
+            width: self.width,
+            header: self.header,
+        }
+    }
 }
 
 /// The address of a text and its number of bytes, as the structs of the header have them.

@@ -9,6 +9,8 @@ use crate::{Archive, AsItem, Builder, Checksum, Error, Key, Keys, Map, Width};
 
 /// A set of `K`, which is `u32`, `u64` or `str`, that borrows an archive.
 ///
+/// A [`SetBuf`](crate::SetBuf) owns its archive.
+///
 /// A `Set` is a few words: copy it freely. Lookups and iteration allocate nothing and read the
 /// bytes in place, at any alignment.
 ///
@@ -39,6 +41,11 @@ impl<K: ?Sized> Clone for Set<'_, K> {
 impl<K: ?Sized> Copy for Set<'_, K> {}
 
 impl<'a, K: Key + ?Sized> Set<'a, K> {
+    /// The set of the keys of a map.
+    pub(crate) fn of(map: Map<'a, K, Unit>) -> Self {
+        Set { map }
+    }
+
     /// Validates the bytes and opens the set whose archive they are.
     ///
     /// Validation reads the control bytes, and the items that are texts. The bytes of an archive don't

@@ -12,6 +12,8 @@ use std::path::{Path, PathBuf};
 use std::ptr::{null_mut, NonNull};
 use std::{env, fs, process};
 
+use rkyv_maps::StableBytes;
+
 // These numbers are those of Linux, macOS and the BSDs.
 const PROT_READ: c_int = 1;
 const PROT_WRITE: c_int = 2;
@@ -81,6 +83,14 @@ impl Deref for Mapping {
     fn deref(&self) -> &[u8] {
         // SAFETY: the bytes are mapped until `self` is dropped, and nobody else changes them.
         unsafe { std::slice::from_raw_parts(self.address.as_ptr(), self.length) }
+    }
+}
+
+// SAFETY: nobody changes the file, by the requirement of `open`, and nothing here writes the bytes. A
+// move leaves them where they are.
+unsafe impl StableBytes for Mapping {
+    fn stable_bytes(&self) -> &[u8] {
+        self
     }
 }
 
