@@ -68,13 +68,19 @@ pub trait KeyCalls: 'static {
     unsafe fn index_set(map: &RawMap, key: &Self, value: u64) -> u32;
 }
 
-/// Calls the function for the width of a map with its bytes, its header and the other arguments.
+/// Calls the function for the width of a map with its bytes, its header and the other arguments, by
+/// which it looks a key up.
 macro_rules! look_up {
     ($map:expr, $narrow:ident, $wide:ident, $($argument:expr),+) => {
         if $map.is_wide() {
-            $wide($map.bytes, $map.length, &$map.header, $($argument),+)
+            // SAFETY: the caller ensures that the map is open, of the function's types and of its
+            // collection, and that its bytes are borrowed. The width is tested. So the bytes are a
+            // valid archive for this function, and the header is the decoded one. A text has the
+            // pointer and the length of one `&str`, and the output is a reference.
+            unsafe { $wide($map.bytes, $map.length, &$map.header, $($argument),+) }
         } else {
-            $narrow($map.bytes, $map.length, &$map.header, $($argument),+)
+            // SAFETY: as above, for the function of narrow archives.
+            unsafe { $narrow($map.bytes, $map.length, &$map.header, $($argument),+) }
         }
     };
 }
@@ -83,16 +89,31 @@ macro_rules! look_up {
 /// `true` if the values are numbers of 64 bits.
 macro_rules! store {
     ($map:expr, $from:expr, $pairs:expr, $function:ident $(, $long_values:literal)?) => {
-        $function(
-            $map.bytes,
-            $map.length,
-            $($long_values,)?
-            $map.is_wide(),
-            &$map.header,
-            $from,
-            $pairs.as_mut_ptr(),
-            $pairs.len(),
-        )
+        // SAFETY: the caller ensures that the map is open, of the function's types and of its
+        // collection, and that its bytes are borrowed. So the bytes are a valid archive, of the width
+        // that is passed, and the header is the decoded one. The pairs have the pointer and the length
+        // of one slice, and are plain data of the function's struct.
+        unsafe {
+            $function(
+                $map.bytes,
+                $map.length,
+                $($long_values,)?
+                $map.is_wide(),
+                &$map.header,
+                $from,
+                $pairs.as_mut_ptr(),
+                $pairs.len(),
+            )
+        }
+    };
+}
+
+/// Calls the function that builds an archive of items with the other arguments.
+macro_rules! build {
+    ($items:expr, $function:ident, $($argument:expr),+) => {
+        // SAFETY: the items have the pointer and the length of one slice, and are of the function's
+        // struct. The caller ensures that their texts are borrowed. The outputs are references.
+        unsafe { $function($items.as_ptr(), $items.len(), $($argument),+) }
     };
 }
 
@@ -211,79 +232,67 @@ macro_rules! calls {
             ) -> u32;
         }
 
-        // SAFETY, of each call: the pointers and lengths are of one slice or one text each, and the
-        // other pointers are of references. The caller ensures that the bytes of an open map are
-        // borrowed, and so are the texts of items. A map that is looked up in is open, of these types
-        // and of the call's collection, so its bytes are a valid archive of them, and its header is
-        // the decoded one.
         impl KeyCalls for $type {
             type Raw = $raw;
 
             const NONE: $raw = $none;
 
             const U32_VALUES: Calls<$type, u64> = Calls {
-                get: |map, $key, value| unsafe {
-                    look_up!(map, $get, $get_wide, $($argument),+, value)
+                get: |map, $key, value| look_up!(map, $get, $get_wide, $($argument),+, value),
+                next: |map, from, pairs| store!(map, from, pairs, $next, false),
+                build: |items, kind, width, bytes, length| {
+                    build!(items, $build, kind, width, bytes, length)
                 },
-                next: |map, from, pairs| unsafe { store!(map, from, pairs, $next, false) },
-                build: |items, kind, width, bytes, length| unsafe {
-                    $build(items.as_ptr(), items.len(), kind, width, bytes, length)
-                },
-                index_get: |map, $key, found| unsafe {
+                index_get: |map, $key, found| {
                     look_up!(map, $index_get, $index_get_wide, $($argument),+, found)
                 },
-                index_pairs: |map, from, pairs| unsafe {
-                    store!(map, from, pairs, $index_from, false)
-                },
+                index_pairs: |map, from, pairs| store!(map, from, pairs, $index_from, false),
             };
 
             const U64_VALUES: Calls<$type, u64> = Calls {
-                get: |map, $key, value| unsafe {
+                get: |map, $key, value| {
                     look_up!(map, $get_long, $get_long_wide, $($argument),+, value)
                 },
-                next: |map, from, pairs| unsafe { store!(map, from, pairs, $next, true) },
-                index_get: |map, $key, found| unsafe {
+                next: |map, from, pairs| store!(map, from, pairs, $next, true),
+                index_get: |map, $key, found| {
                     look_up!(map, $index_get_long, $index_get_long_wide, $($argument),+, found)
                 },
-                index_pairs: |map, from, pairs| unsafe {
-                    store!(map, from, pairs, $index_from, true)
-                },
+                index_pairs: |map, from, pairs| store!(map, from, pairs, $index_from, true),
                 ..Self::U32_VALUES
             };
 
             const TEXTS: Calls<$type, RawText> = Calls {
-                get: |map, $key, value| unsafe {
+                get: |map, $key, value| {
                     look_up!(map, $get_text, $get_text_wide, $($argument),+, value)
                 },
-                next: |map, from, pairs| unsafe { store!(map, from, pairs, $next_text) },
-                build: |items, kind, width, bytes, length| unsafe {
-                    $build_text(items.as_ptr(), items.len(), kind, width, bytes, length)
+                next: |map, from, pairs| store!(map, from, pairs, $next_text),
+                build: |items, kind, width, bytes, length| {
+                    build!(items, $build_text, kind, width, bytes, length)
                 },
-                index_get: |map, $key, found| unsafe {
+                index_get: |map, $key, found| {
                     look_up!(map, $index_get_text, $index_get_text_wide, $($argument),+, found)
                 },
-                index_pairs: |map, from, pairs| unsafe {
-                    store!(map, from, pairs, $index_text_from)
-                },
+                index_pairs: |map, from, pairs| store!(map, from, pairs, $index_text_from),
             };
 
             const UNITS: Calls<$type, ()> = Calls {
-                get: |set, $key, _value| unsafe {
-                    look_up!(set, $contains, $contains_wide, $($argument),+)
-                },
-                next: |set, from, members| unsafe { store!(set, from, members, $next_member) },
-                build: |items, _kind, width, bytes, length| unsafe {
-                    $build_set(items.as_ptr(), items.len(), width, bytes, length)
+                get: |set, $key, _value| look_up!(set, $contains, $contains_wide, $($argument),+),
+                next: |set, from, members| store!(set, from, members, $next_member),
+                build: |items, _kind, width, bytes, length| {
+                    build!(items, $build_set, width, bytes, length)
                 },
                 index_get: |_map, _key, _found| UNKNOWN_KIND,
                 index_pairs: |_map, _from, _pairs| 0,
             };
 
             unsafe fn set(map: &RawMap, $key: &$type, value: u64) -> u32 {
+                // SAFETY: the caller ensures that the map is closed, or that its bytes are borrowed,
+                // mutably if it is writable. A text has the pointer and the length of one `&str`.
                 unsafe { $set(map, $($argument),+, value) }
             }
 
             unsafe fn index_set(map: &RawMap, $key: &$type, value: u64) -> u32 {
+                // SAFETY: as for `set`, of an index map.
                 unsafe { $index_set(map, $($argument),+, value) }
             }
         }

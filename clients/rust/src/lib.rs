@@ -75,6 +75,7 @@
 
 #![warn(missing_docs)]
 #![warn(unsafe_op_in_unsafe_fn)]
+#![warn(clippy::undocumented_unsafe_blocks)]
 
 mod archive;
 mod buf;
