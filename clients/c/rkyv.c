@@ -45,11 +45,6 @@ typedef struct indexed_text {
 /* The calls of the proved library for maps whose values are numbers, which have 64 bits if `longer` is
  * true. The width is 64 if `wide` is true. Arrays of pairs, members and items have no type here: each
  * call takes those of its map. */
-typedef uint32_t open_numbers(const uint8_t *archive, size_t length, bool longer, bool wide);
-typedef void explain_numbers(const uint8_t *archive, size_t length, bool longer, bool wide,
-                             rkyv_error *error);
-typedef void decode_numbers(const uint8_t *archive, size_t length, bool longer, bool wide,
-                            rkyv_table_header *header);
 typedef size_t next_numbers(const uint8_t *archive, size_t length, bool longer, bool wide,
                             const rkyv_table_header *header, uint64_t from, void *pairs,
                             size_t room);
@@ -60,10 +55,6 @@ typedef uint32_t build_numbers(const void *items, size_t count, bool longer, boo
                                built *built);
 
 /* The same for maps to texts and sets. */
-typedef uint32_t open_others(const uint8_t *archive, size_t length, bool wide);
-typedef void explain_others(const uint8_t *archive, size_t length, bool wide, rkyv_error *error);
-typedef void decode_others(const uint8_t *archive, size_t length, bool wide,
-                           rkyv_table_header *header);
 typedef size_t next_others(const uint8_t *archive, size_t length, bool wide,
                            const rkyv_table_header *header, uint64_t from, void *pairs,
                            size_t room);
@@ -129,29 +120,6 @@ extern "C" {
  * bytes: the function that opens has returned 0 for them. A decoded header is that of these bytes.
  * Setting a value leaves the header unchanged. The header of a container has 32 bytes. No pointer is
  * null, and memory that a function writes overlaps no other argument. */
-open_numbers rkyv_c_open_numbers, rkyv_c_open_long_numbers, rkyv_c_open_texts;
-open_numbers rkyv_c_index_open_numbers, rkyv_c_index_open_long_numbers, rkyv_c_index_open_texts;
-open_others rkyv_c_open_numbers_to_texts, rkyv_c_open_long_numbers_to_texts;
-open_others rkyv_c_open_texts_to_texts, rkyv_c_index_open_numbers_to_texts;
-open_others rkyv_c_index_open_long_numbers_to_texts, rkyv_c_index_open_texts_to_texts;
-open_others rkyv_c_open_number_set, rkyv_c_open_long_number_set, rkyv_c_open_text_set;
-
-explain_numbers rkyv_c_explain_numbers, rkyv_c_explain_long_numbers, rkyv_c_explain_texts;
-explain_numbers rkyv_c_index_explain_numbers, rkyv_c_index_explain_long_numbers;
-explain_numbers rkyv_c_index_explain_texts;
-explain_others rkyv_c_explain_numbers_to_texts, rkyv_c_explain_long_numbers_to_texts;
-explain_others rkyv_c_explain_texts_to_texts, rkyv_c_index_explain_numbers_to_texts;
-explain_others rkyv_c_index_explain_long_numbers_to_texts, rkyv_c_index_explain_texts_to_texts;
-explain_others rkyv_c_explain_number_set, rkyv_c_explain_long_number_set, rkyv_c_explain_text_set;
-
-decode_numbers rkyv_c_decode_numbers, rkyv_c_decode_long_numbers, rkyv_c_decode_texts;
-decode_numbers rkyv_c_index_decode_numbers, rkyv_c_index_decode_long_numbers;
-decode_numbers rkyv_c_index_decode_texts;
-decode_others rkyv_c_decode_numbers_to_texts, rkyv_c_decode_long_numbers_to_texts;
-decode_others rkyv_c_decode_texts_to_texts, rkyv_c_index_decode_numbers_to_texts;
-decode_others rkyv_c_index_decode_long_numbers_to_texts, rkyv_c_index_decode_texts_to_texts;
-decode_others rkyv_c_decode_number_set, rkyv_c_decode_long_number_set, rkyv_c_decode_text_set;
-
 next_numbers rkyv_c_next_numbers, rkyv_c_next_long_numbers, rkyv_c_next_texts;
 next_others rkyv_c_next_number_texts, rkyv_c_next_long_number_texts, rkyv_c_next_text_texts;
 next_others rkyv_c_next_number_members, rkyv_c_next_long_number_members, rkyv_c_next_text_members;
@@ -198,7 +166,14 @@ set_long_number rkyv_c_set_long_number, rkyv_c_index_set_long_number;
 set_text rkyv_c_set_text, rkyv_c_index_set_text;
 bool rkyv_c_is_text(const uint8_t *bytes, size_t length);
 
-/* The library's functions for containers, by the codes of their contents. */
+/* The library's functions that open archives, and those for containers, by the codes of their
+ * contents. */
+uint32_t rkyv_c_open(const uint8_t *archive, size_t length, uint8_t collection, uint8_t key,
+                     uint8_t value, uint8_t width);
+void rkyv_c_explain(const uint8_t *archive, size_t length, uint8_t collection, uint8_t key,
+                    uint8_t value, uint8_t width, rkyv_error *error);
+void rkyv_c_decode(const uint8_t *archive, size_t length, uint8_t collection, uint8_t key,
+                   uint8_t value, uint8_t width, rkyv_table_header *header);
 uint32_t rkyv_c_write_header(const uint8_t *archive, size_t length, uint8_t collection, uint8_t key,
                              uint8_t value, uint8_t width, bool checked, uint8_t *header,
                              size_t header_length);
@@ -222,75 +197,46 @@ static const uint8_t nothing[1] = {0};
 /* The calls for maps whose values are numbers, by the type of their keys. A hash map has `next`, and
  * an index map `from`. */
 typedef struct calls_of_numbers {
-    open_numbers *open;
-    explain_numbers *explain;
-    decode_numbers *decode;
     next_numbers *next;
     numbers_from *from;
     build_numbers *build;
 } calls_of_numbers;
 
-static const calls_of_numbers numbers = {rkyv_c_open_numbers, rkyv_c_explain_numbers,
-                                         rkyv_c_decode_numbers, rkyv_c_next_numbers, NULL,
-                                         rkyv_c_build_numbers};
-static const calls_of_numbers long_numbers = {
-    rkyv_c_open_long_numbers, rkyv_c_explain_long_numbers, rkyv_c_decode_long_numbers,
-    rkyv_c_next_long_numbers, NULL, rkyv_c_build_long_numbers};
-static const calls_of_numbers texts = {rkyv_c_open_texts, rkyv_c_explain_texts,
-                                       rkyv_c_decode_texts, rkyv_c_next_texts, NULL,
-                                       rkyv_c_build_texts};
-static const calls_of_numbers index_numbers = {
-    rkyv_c_index_open_numbers, rkyv_c_index_explain_numbers, rkyv_c_index_decode_numbers, NULL,
-    rkyv_c_index_numbers_from, rkyv_c_index_build_numbers};
-static const calls_of_numbers index_long_numbers = {
-    rkyv_c_index_open_long_numbers, rkyv_c_index_explain_long_numbers,
-    rkyv_c_index_decode_long_numbers, NULL, rkyv_c_index_long_numbers_from,
-    rkyv_c_index_build_long_numbers};
-static const calls_of_numbers index_texts = {
-    rkyv_c_index_open_texts, rkyv_c_index_explain_texts, rkyv_c_index_decode_texts, NULL,
-    rkyv_c_index_texts_from, rkyv_c_index_build_texts};
+static const calls_of_numbers numbers = {rkyv_c_next_numbers, NULL, rkyv_c_build_numbers};
+static const calls_of_numbers long_numbers = {rkyv_c_next_long_numbers, NULL,
+                                              rkyv_c_build_long_numbers};
+static const calls_of_numbers texts = {rkyv_c_next_texts, NULL, rkyv_c_build_texts};
+static const calls_of_numbers index_numbers = {NULL, rkyv_c_index_numbers_from,
+                                               rkyv_c_index_build_numbers};
+static const calls_of_numbers index_long_numbers = {NULL, rkyv_c_index_long_numbers_from,
+                                                    rkyv_c_index_build_long_numbers};
+static const calls_of_numbers index_texts = {NULL, rkyv_c_index_texts_from,
+                                             rkyv_c_index_build_texts};
 
 /* The same for maps to texts and sets. */
 typedef struct calls_of_others {
-    open_others *open;
-    explain_others *explain;
-    decode_others *decode;
     next_others *next;
     others_from *from;
     build_others *build;
 } calls_of_others;
 
-static const calls_of_others numbers_to_texts = {
-    rkyv_c_open_numbers_to_texts, rkyv_c_explain_numbers_to_texts, rkyv_c_decode_numbers_to_texts,
-    rkyv_c_next_number_texts, NULL, rkyv_c_build_numbers_to_texts};
-static const calls_of_others long_numbers_to_texts = {
-    rkyv_c_open_long_numbers_to_texts, rkyv_c_explain_long_numbers_to_texts,
-    rkyv_c_decode_long_numbers_to_texts, rkyv_c_next_long_number_texts, NULL,
-    rkyv_c_build_long_numbers_to_texts};
-static const calls_of_others texts_to_texts = {
-    rkyv_c_open_texts_to_texts, rkyv_c_explain_texts_to_texts, rkyv_c_decode_texts_to_texts,
-    rkyv_c_next_text_texts, NULL, rkyv_c_build_texts_to_texts};
-static const calls_of_others number_sets = {
-    rkyv_c_open_number_set, rkyv_c_explain_number_set, rkyv_c_decode_number_set,
-    rkyv_c_next_number_members, NULL, rkyv_c_build_number_set};
-static const calls_of_others long_number_sets = {
-    rkyv_c_open_long_number_set, rkyv_c_explain_long_number_set, rkyv_c_decode_long_number_set,
-    rkyv_c_next_long_number_members, NULL, rkyv_c_build_long_number_set};
-static const calls_of_others text_sets = {rkyv_c_open_text_set, rkyv_c_explain_text_set,
-                                          rkyv_c_decode_text_set, rkyv_c_next_text_members, NULL,
-                                          rkyv_c_build_text_set};
-static const calls_of_others index_numbers_to_texts = {
-    rkyv_c_index_open_numbers_to_texts, rkyv_c_index_explain_numbers_to_texts,
-    rkyv_c_index_decode_numbers_to_texts, NULL, rkyv_c_index_number_texts_from,
-    rkyv_c_index_build_numbers_to_texts};
+static const calls_of_others numbers_to_texts = {rkyv_c_next_number_texts, NULL,
+                                                 rkyv_c_build_numbers_to_texts};
+static const calls_of_others long_numbers_to_texts = {rkyv_c_next_long_number_texts, NULL,
+                                                      rkyv_c_build_long_numbers_to_texts};
+static const calls_of_others texts_to_texts = {rkyv_c_next_text_texts, NULL,
+                                               rkyv_c_build_texts_to_texts};
+static const calls_of_others number_sets = {rkyv_c_next_number_members, NULL,
+                                            rkyv_c_build_number_set};
+static const calls_of_others long_number_sets = {rkyv_c_next_long_number_members, NULL,
+                                                 rkyv_c_build_long_number_set};
+static const calls_of_others text_sets = {rkyv_c_next_text_members, NULL, rkyv_c_build_text_set};
+static const calls_of_others index_numbers_to_texts = {NULL, rkyv_c_index_number_texts_from,
+                                                       rkyv_c_index_build_numbers_to_texts};
 static const calls_of_others index_long_numbers_to_texts = {
-    rkyv_c_index_open_long_numbers_to_texts, rkyv_c_index_explain_long_numbers_to_texts,
-    rkyv_c_index_decode_long_numbers_to_texts, NULL, rkyv_c_index_long_number_texts_from,
-    rkyv_c_index_build_long_numbers_to_texts};
-static const calls_of_others index_texts_to_texts = {
-    rkyv_c_index_open_texts_to_texts, rkyv_c_index_explain_texts_to_texts,
-    rkyv_c_index_decode_texts_to_texts, NULL, rkyv_c_index_text_texts_from,
-    rkyv_c_index_build_texts_to_texts};
+    NULL, rkyv_c_index_long_number_texts_from, rkyv_c_index_build_long_numbers_to_texts};
+static const calls_of_others index_texts_to_texts = {NULL, rkyv_c_index_text_texts_from,
+                                                     rkyv_c_index_build_texts_to_texts};
 
 /* The codes of collections and of types in the header of a container. NUMBER is none of them: it is
  * the type of values that are numbers. */
@@ -527,31 +473,22 @@ static const rkyv_map closed = {NULL, NULL, 0, 0, 0, {0, 0, 0, 1, UINT64_MAX}};
 /* Validates an archive. */
 static rkyv_status open_archive(const uint8_t *archive, size_t length, uint32_t kind, bool wide) {
     const contents *of = &kinds[kind];
-    return (rkyv_status)(
-        of->numbers != NULL ? of->numbers->open(archive, length, has_long_values(kind), wide)
-                            : of->others->open(archive, length, wide));
+    return (rkyv_status)rkyv_c_open(archive, length, of->collection, of->key, of->value,
+                                    width_code(wide));
 }
 
 /* Stores the error of validation of an archive. */
 static void explain(const uint8_t *archive, size_t length, uint32_t kind, bool wide,
                     rkyv_error *error) {
     const contents *of = &kinds[kind];
-    if (of->numbers != NULL) {
-        of->numbers->explain(archive, length, has_long_values(kind), wide, error);
-    } else {
-        of->others->explain(archive, length, wide, error);
-    }
+    rkyv_c_explain(archive, length, of->collection, of->key, of->value, width_code(wide), error);
 }
 
 /* Decodes the header of a valid archive. */
 static void decode(const uint8_t *archive, size_t length, uint32_t kind, bool wide,
                    rkyv_table_header *header) {
     const contents *of = &kinds[kind];
-    if (of->numbers != NULL) {
-        of->numbers->decode(archive, length, has_long_values(kind), wide, header);
-    } else {
-        of->others->decode(archive, length, wide, header);
-    }
+    rkyv_c_decode(archive, length, of->collection, of->key, of->value, width_code(wide), header);
 }
 
 /* RKYV_OK if there is such a kind and such a width, and the maps of the kind are index maps if

@@ -19,6 +19,7 @@ pub mod IndexLists
 pub mod IndexItems
 pub mod IndexInPlace
 pub mod IndexTextValues
+pub mod Collections
 pub mod Lemmas
 unfoldable pub use Status.{container_status, verify_status, write_status}
 unfoldable pub use Reading.{Agrees, HasBytesOf, IsNumberOf, IsSame, ReadsText, ReadsWord}
@@ -110,3 +111,7 @@ unfoldable pub use IndexTextValues.{StoresNumberTexts, StoresTextTexts, TextText
 unfoldable pub use IndexTextValues.{TextTextIndexWriteOk, WritesNumberTextIndex, index_width_by}
 unfoldable pub use IndexTextValues.{number_text_index, number_text_index_in, text_text_index}
 unfoldable pub use IndexTextValues.{text_text_index_in}
+unfoldable pub use Collections.{ExplainsByCodes, IsHeaderByCodes, IsValidByCodes, OpensByCodes}
+unfoldable pub use Collections.{collection_by, collection_in, collection_of, collection_spec}
+unfoldable pub use Collections.{index_flag, key_type, key_type_spec, root_in, root_spec, value_type}
+unfoldable pub use Collections.{value_type_spec, wide_flag}

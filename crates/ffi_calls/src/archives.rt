@@ -2,7 +2,7 @@
 
 ghost use Rattle.std.specs.Prelude.{length, ◌-◌, ◌≡◌};
 ghost use Rattle.rkyv_base.specs.{IsValidArchive, Viewable};
-ghost use Rattle.rkyv_collections.specs.{map_bytes, map_pos, map_root, map_spec};
+ghost use Rattle.rkyv_collections.specs.{map_bytes, map_pos, map_root};
 ghost use Rattle.ffi_calls.specs.{Explains, IsHeaderOf, IsMapArchive, map_in};
 
 use crate::explanation::{Explanation, explain, explained};
@@ -19,13 +19,6 @@ pub(crate) fn explain_root<T: Element, W: Width>(archive: &[u8]) -> Explanation
         Ok(_) => explained(DONE, 0, 0, 0),
         Err(error) => explain(&error),
     }
-}
-
-/// Validates the archive of a map, and returns the first error, if there is one.
-pub(crate) fn explain_map<K: Element, V: Element, W: Width>(archive: &[u8]) -> Explanation
-    ensures { Explains W.LIMIT (map_spec W.word K.spec V.spec) archive.now result }
-{
-    explain_root::<HashMapOf<K, V, FxHasher64, W>, W>(archive)
 }
 
 /// Returns the position of the root of a valid archive.

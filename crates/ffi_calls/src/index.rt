@@ -2,13 +2,11 @@
 
 ghost use Rattle.std.specs.Prelude.{drop, map, ◌≡◌};
 ghost use Rattle.rkyv_index.specs.{index_bytes, index_pos};
-ghost use Rattle.ffi_calls.specs.{Explains, IsHeaderOf, IsIndexArchive, IsIndexPair, IsPairAtIndex};
-ghost use Rattle.ffi_calls.specs.{ReturnsFirstIndexed, ReturnsIndexed, StoresListed};
-ghost use Rattle.ffi_calls.specs.{StoresPairs, found_index, fx_pairs, index_at, index_in};
-ghost use Rattle.ffi_calls.specs.{index_map, index_root, query_of_key};
+ghost use Rattle.ffi_calls.specs.{IsHeaderOf, IsIndexArchive, IsIndexPair, IsPairAtIndex};
+ghost use Rattle.ffi_calls.specs.{ReturnsFirstIndexed, ReturnsIndexed, StoresListed, StoresPairs};
+ghost use Rattle.ffi_calls.specs.{found_index, fx_pairs, index_at, index_in, index_root};
+ghost use Rattle.ffi_calls.specs.{query_of_key};
 
-use crate::archives::explain_root;
-use crate::explanation::Explanation;
 use crate::pairs::{Indexed, IndexedOf, Pair, PairOf};
 use crate::reading::{ReadAs, StoresNative};
 use crate::status::{DONE, NOT_FOUND};
@@ -18,13 +16,6 @@ use rkyv_index::{ArchivedIndexMap, IndexMapOf, IndexWidth};
 use rkyv_keys::{KeyElement, NativeKey};
 use rkyv_scan::FxHasher64;
 use rkyv_table::table::decoded::Decoded;
-
-/// Validates the archive of an index map, and returns the first error, if there is one.
-pub(crate) fn explain_index<K: Element, V: Element, W: IndexWidth>(archive: &[u8]) -> Explanation
-    ensures { Explains W.LIMIT (index_map W.word K.spec V.spec) archive.now result }
-{
-    explain_root::<IndexMapOf<K, V, FxHasher64, W>, W>(archive)
-}
 
 /// Returns the decoded header of the index map in a valid archive.
 pub(crate) fn index_header_of<K: Element, V: Element, W: IndexWidth>(archive: &[u8]) -> Decoded

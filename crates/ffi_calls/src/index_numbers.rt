@@ -1,70 +1,26 @@
 //! Index maps whose keys are numbers.
 //!
-//! `open_index_numbers` and `explain_index_numbers` validate an archive; the other calls require a
-//! valid one.
+//! All calls require a valid archive.
 
 ghost use Rattle.std.specs.Prelude.{drop, map, ◌≡◌};
-ghost use Rattle.ffi_calls.specs.{Explains, IsHeaderOf, IsNumberIndex, KeepsHeader, Opens};
+ghost use Rattle.ffi_calls.specs.{IsHeaderOf, IsNumberIndex, KeepsHeader};
 ghost use Rattle.ffi_calls.specs.{ReturnsFirstIndexedNumber, ReturnsIndexedNumber};
 ghost use Rattle.ffi_calls.specs.{SetsFirstIndexedNumber, SetsIndexedNumber, StoresListedNumbers};
-ghost use Rattle.ffi_calls.specs.{StoresNumbers, limit_of, number_index, number_index_in};
-ghost use Rattle.ffi_calls.specs.{numbers_at};
+ghost use Rattle.ffi_calls.specs.{StoresNumbers, number_index_in, numbers_at};
 
-use crate::explanation::Explanation;
 use crate::form::Form;
-use crate::index::{explain_index, find_in, index_header_of, pairs_in, typed_index_header};
+use crate::index::{find_in, pairs_in, typed_index_header};
 use crate::index_in_place::set_indexed_in;
 use crate::pairs::{IndexedOf, PairOf};
 use crate::reading::NumberKey;
 use rkyv_base::{Narrow, Wide};
 use rkyv_table::table::decoded::Decoded;
 
-/// Validates the archive of an index map of numbers.
-///
-/// # Errors
-///
-/// - The status of the first validation error: 16 to 23.
-pub fn open_index_numbers<K: NumberKey>(archive: &[u8], form: Form) -> u32
-    ensures status { Opens (limit_of form.wide) (number_index K.NumberKey form) archive.now result }
-    ensures accepts { IsNumberIndex K.NumberKey form archive.now → result ≡ 0 }
-{
-    explain_index_numbers::<K>(archive, form).status
-}
-
-/// Validates the archive of an index map of numbers, and returns the first error with its numbers.
-pub fn explain_index_numbers<K: NumberKey>(archive: &[u8], form: Form) -> Explanation
-    ensures { Explains (limit_of form.wide) (number_index K.NumberKey form) archive.now result }
-{
-    match (form.long_values, form.wide) {
-        (false, false) => explain_index::<K, u32, Narrow>(archive),
-        (true, false) => explain_index::<K, u64, Narrow>(archive),
-        (false, true) => explain_index::<K, u32, Wide>(archive),
-        (true, true) => explain_index::<K, u64, Wide>(archive),
-    }
-}
-
-/// Returns the decoded header of the index map, for lookups and iteration.
-///
-/// # Requires
-///
-/// - The archive is valid: `open_index_numbers` returned `DONE`.
-pub fn decode_index_numbers<K: NumberKey>(archive: &[u8], form: Form) -> Decoded
-    requires { IsNumberIndex K.NumberKey form archive.now }
-    ensures { IsHeaderOf (number_index_in K.NumberKey form archive.now) result }
-{
-    match (form.long_values, form.wide) {
-        (false, false) => index_header_of::<K, u32, Narrow>(archive),
-        (true, false) => index_header_of::<K, u64, Narrow>(archive),
-        (false, true) => index_header_of::<K, u32, Wide>(archive),
-        (true, true) => index_header_of::<K, u64, Wide>(archive),
-    }
-}
-
 /// Looks up a key, and stores the index and the value of its pair in `found`.
 ///
 /// # Requires
 ///
-/// - The archive is valid: `open_index_numbers` returned `DONE`.
+/// - The archive is valid: `open_archive` returned `DONE` for the map's codes.
 /// - `header` is its decoded header.
 ///
 /// # Errors
@@ -119,7 +75,7 @@ pub fn get_index_number<K: NumberKey, I: IndexedOf<u64>>(
 ///
 /// # Requires
 ///
-/// - The archive is valid: `open_index_numbers` returned `DONE`.
+/// - The archive is valid: `open_archive` returned `DONE` for the map's codes.
 ///
 /// # Errors
 ///
@@ -151,7 +107,7 @@ pub fn set_index_number<K: NumberKey>(archive: &mut [u8], form: Form, key: K, va
 ///
 /// # Requires
 ///
-/// - The archive is valid: `open_index_numbers` returned `DONE`.
+/// - The archive is valid: `open_archive` returned `DONE` for the map's codes.
 /// - `header` is its decoded header.
 pub fn index_numbers_from<K: NumberKey, P: PairOf<K, u64>>(
     archive: &[u8],

@@ -1,67 +1,23 @@
 //! Index maps of numbers to texts.
 //!
-//! `open_index_numbers_to_texts` and `explain_index_numbers_to_texts` validate an archive; the
-//! other calls require a valid one.
+//! All calls require a valid archive.
 
 ghost use Rattle.std.specs.Prelude.{drop, map, ◌≡◌};
-ghost use Rattle.ffi_calls.specs.{Explains, IsHeaderOf, IsNumberTextIndex, Opens};
-ghost use Rattle.ffi_calls.specs.{ReturnsFirstIndexedTextOfNumber, ReturnsIndexedTextOfNumber};
-ghost use Rattle.ffi_calls.specs.{StoresListedNumberTexts, StoresNumberTexts, limit_of};
-ghost use Rattle.ffi_calls.specs.{number_keys_at, number_text_index, number_text_index_in};
+ghost use Rattle.ffi_calls.specs.{IsHeaderOf, IsNumberTextIndex, ReturnsFirstIndexedTextOfNumber};
+ghost use Rattle.ffi_calls.specs.{ReturnsIndexedTextOfNumber, StoresListedNumberTexts};
+ghost use Rattle.ffi_calls.specs.{StoresNumberTexts, number_keys_at, number_text_index_in};
 
-use crate::explanation::Explanation;
-use crate::index::{explain_index, find_in, index_header_of, pairs_in, typed_index_header};
+use crate::index::{find_in, pairs_in, typed_index_header};
 use crate::pairs::{IndexedOf, PairOf};
 use crate::reading::NumberKey;
 use rkyv_base::{Narrow, Text, Wide};
 use rkyv_table::table::decoded::Decoded;
 
-/// Validates the archive of an index map of numbers to texts.
-///
-/// # Errors
-///
-/// - The status of the first validation error: 16 to 23.
-pub fn open_index_numbers_to_texts<K: NumberKey>(archive: &[u8], wide: bool) -> u32
-    ensures status { Opens (limit_of wide) (number_text_index K.NumberKey wide) archive.now result }
-    ensures accepts { IsNumberTextIndex K.NumberKey wide archive.now → result ≡ 0 }
-{
-    explain_index_numbers_to_texts::<K>(archive, wide).status
-}
-
-/// Validates the archive of an index map of numbers to texts.
-///
-/// Returns the first error with its numbers.
-pub fn explain_index_numbers_to_texts<K: NumberKey>(archive: &[u8], wide: bool) -> Explanation
-    ensures { Explains (limit_of wide) (number_text_index K.NumberKey wide) archive.now result }
-{
-    if wide {
-        explain_index::<K, Text<Wide>, Wide>(archive)
-    } else {
-        explain_index::<K, Text<Narrow>, Narrow>(archive)
-    }
-}
-
-/// Returns the decoded header of the index map, for lookups and iteration.
-///
-/// # Requires
-///
-/// - The archive is valid: `open_index_numbers_to_texts` returned `DONE`.
-pub fn decode_index_numbers_to_texts<K: NumberKey>(archive: &[u8], wide: bool) -> Decoded
-    requires { IsNumberTextIndex K.NumberKey wide archive.now }
-    ensures { IsHeaderOf (number_text_index_in K.NumberKey wide archive.now) result }
-{
-    if wide {
-        index_header_of::<K, Text<Wide>, Wide>(archive)
-    } else {
-        index_header_of::<K, Text<Narrow>, Narrow>(archive)
-    }
-}
-
 /// Looks up a key, and stores the index and the text of its pair in `found`.
 ///
 /// # Requires
 ///
-/// - The archive is valid: `open_index_numbers_to_texts` returned `DONE`.
+/// - The archive is valid: `open_archive` returned `DONE` for the map's codes.
 /// - `header` is its decoded header.
 ///
 /// # Errors
@@ -105,7 +61,7 @@ pub fn get_index_text_of_number<'a, K: NumberKey, I: IndexedOf<&'a [u8]>>(
 ///
 /// # Requires
 ///
-/// - The archive is valid: `open_index_numbers_to_texts` returned `DONE`.
+/// - The archive is valid: `open_archive` returned `DONE` for the map's codes.
 /// - `header` is its decoded header.
 pub fn index_number_texts_from<'a, K: NumberKey, P: PairOf<K, &'a [u8]>>(
     archive: &'a [u8],

@@ -1,66 +1,22 @@
 //! Index maps whose keys are texts.
 //!
-//! `open_index_texts` and `explain_index_texts` validate an archive; the other calls require a
-//! valid one.
+//! All calls require a valid archive.
 
 ghost use Rattle.std.specs.Prelude.{drop, map, ◌≡◌};
 ghost use Rattle.std.specs.Str.{IsUtf8};
-ghost use Rattle.ffi_calls.specs.{Explains, IsHeaderOf, IsTextIndex, KeepsHeader, Opens};
-ghost use Rattle.ffi_calls.specs.{OverwritesIndexedText, ReturnsFirstIndexedText};
-ghost use Rattle.ffi_calls.specs.{ReturnsIndexedBytes, ReturnsIndexedText, SetsFirstIndexedText};
-ghost use Rattle.ffi_calls.specs.{SetsIndexedBytes, StoresListedTexts, StoresTexts, limit_of};
-ghost use Rattle.ffi_calls.specs.{text_index, text_index_in};
+ghost use Rattle.ffi_calls.specs.{IsHeaderOf, IsTextIndex, KeepsHeader, OverwritesIndexedText};
+ghost use Rattle.ffi_calls.specs.{ReturnsFirstIndexedText, ReturnsIndexedBytes, ReturnsIndexedText};
+ghost use Rattle.ffi_calls.specs.{SetsFirstIndexedText, SetsIndexedBytes, StoresListedTexts};
+ghost use Rattle.ffi_calls.specs.{StoresTexts, text_index_in};
 
-use crate::explanation::Explanation;
 use crate::form::Form;
-use crate::index::{explain_index, find_in, index_header_of, pairs_in, typed_index_header};
+use crate::index::{find_in, pairs_in, typed_index_header};
 use crate::index_in_place::set_indexed_in;
 use crate::pairs::{IndexedOf, PairOf};
 use crate::status::NOT_TEXT;
 use crate::texts::text_of;
 use rkyv_base::{Narrow, Text, Wide};
 use rkyv_table::table::decoded::Decoded;
-
-/// Validates the archive of an index map of texts.
-///
-/// # Errors
-///
-/// - The status of the first validation error: 16 to 23.
-pub fn open_index_texts(archive: &[u8], form: Form) -> u32
-    ensures status { Opens (limit_of form.wide) (text_index form) archive.now result }
-    ensures accepts { IsTextIndex form archive.now → result ≡ 0 }
-{
-    explain_index_texts(archive, form).status
-}
-
-/// Validates the archive of an index map of texts, and returns the first error with its numbers.
-pub fn explain_index_texts(archive: &[u8], form: Form) -> Explanation
-    ensures { Explains (limit_of form.wide) (text_index form) archive.now result }
-{
-    match (form.long_values, form.wide) {
-        (false, false) => explain_index::<Text<Narrow>, u32, Narrow>(archive),
-        (true, false) => explain_index::<Text<Narrow>, u64, Narrow>(archive),
-        (false, true) => explain_index::<Text<Wide>, u32, Wide>(archive),
-        (true, true) => explain_index::<Text<Wide>, u64, Wide>(archive),
-    }
-}
-
-/// Returns the decoded header of the index map, for lookups and iteration.
-///
-/// # Requires
-///
-/// - The archive is valid: `open_index_texts` returned `DONE`.
-pub fn decode_index_texts(archive: &[u8], form: Form) -> Decoded
-    requires { IsTextIndex form archive.now }
-    ensures { IsHeaderOf (text_index_in form archive.now) result }
-{
-    match (form.long_values, form.wide) {
-        (false, false) => index_header_of::<Text<Narrow>, u32, Narrow>(archive),
-        (true, false) => index_header_of::<Text<Narrow>, u64, Narrow>(archive),
-        (false, true) => index_header_of::<Text<Wide>, u32, Wide>(archive),
-        (true, true) => index_header_of::<Text<Wide>, u64, Wide>(archive),
-    }
-}
 
 /// Looks up a text, and stores the index and the value of its pair in `found`.
 #[inline]
@@ -109,7 +65,7 @@ fn get_of<I: IndexedOf<u64>>(
 ///
 /// # Requires
 ///
-/// - The archive is valid: `open_index_texts` returned `DONE`.
+/// - The archive is valid: `open_archive` returned `DONE` for the map's codes.
 /// - `header` is its decoded header.
 ///
 /// # Errors
@@ -159,7 +115,7 @@ fn set_of(archive: &mut [u8], form: Form, key: &str, value: u64) -> u32
 ///
 /// # Requires
 ///
-/// - The archive is valid: `open_index_texts` returned `DONE`.
+/// - The archive is valid: `open_archive` returned `DONE` for the map's codes.
 ///
 /// # Errors
 ///
@@ -188,7 +144,7 @@ pub fn set_index_text(archive: &mut [u8], form: Form, key: &[u8], value: u64) ->
 ///
 /// # Requires
 ///
-/// - The archive is valid: `open_index_texts` returned `DONE`.
+/// - The archive is valid: `open_archive` returned `DONE` for the map's codes.
 /// - `header` is its decoded header.
 pub fn index_texts_from<'a, P: PairOf<&'a [u8], u64>>(
     archive: &'a [u8],

@@ -1,63 +1,19 @@
 //! Index maps of texts to texts.
 //!
-//! `open_index_texts_to_texts` and `explain_index_texts_to_texts` validate an archive; the other
-//! calls require a valid one.
+//! All calls require a valid archive.
 
 ghost use Rattle.std.specs.Prelude.{drop, map, ◌≡◌};
 ghost use Rattle.std.specs.Str.{IsUtf8};
-ghost use Rattle.ffi_calls.specs.{Explains, IsHeaderOf, IsTextTextIndex, Opens};
-ghost use Rattle.ffi_calls.specs.{ReturnsFirstIndexedTextOfText, ReturnsIndexedTextOfBytes};
-ghost use Rattle.ffi_calls.specs.{ReturnsIndexedTextOfText, StoresListedTextTexts, StoresTextTexts};
-ghost use Rattle.ffi_calls.specs.{limit_of, text_text_index, text_text_index_in};
+ghost use Rattle.ffi_calls.specs.{IsHeaderOf, IsTextTextIndex, ReturnsFirstIndexedTextOfText};
+ghost use Rattle.ffi_calls.specs.{ReturnsIndexedTextOfBytes, ReturnsIndexedTextOfText};
+ghost use Rattle.ffi_calls.specs.{StoresListedTextTexts, StoresTextTexts, text_text_index_in};
 
-use crate::explanation::Explanation;
-use crate::index::{explain_index, find_in, index_header_of, pairs_in, typed_index_header};
+use crate::index::{find_in, pairs_in, typed_index_header};
 use crate::pairs::{IndexedOf, PairOf};
 use crate::status::NOT_TEXT;
 use crate::texts::text_of;
 use rkyv_base::{Narrow, Text, Wide};
 use rkyv_table::table::decoded::Decoded;
-
-/// Validates the archive of an index map of texts to texts.
-///
-/// # Errors
-///
-/// - The status of the first validation error: 16 to 23.
-pub fn open_index_texts_to_texts(archive: &[u8], wide: bool) -> u32
-    ensures status { Opens (limit_of wide) (text_text_index wide) archive.now result }
-    ensures accepts { IsTextTextIndex wide archive.now → result ≡ 0 }
-{
-    explain_index_texts_to_texts(archive, wide).status
-}
-
-/// Validates the archive of an index map of texts to texts.
-///
-/// Returns the first error with its numbers.
-pub fn explain_index_texts_to_texts(archive: &[u8], wide: bool) -> Explanation
-    ensures { Explains (limit_of wide) (text_text_index wide) archive.now result }
-{
-    if wide {
-        explain_index::<Text<Wide>, Text<Wide>, Wide>(archive)
-    } else {
-        explain_index::<Text<Narrow>, Text<Narrow>, Narrow>(archive)
-    }
-}
-
-/// Returns the decoded header of the index map, for lookups and iteration.
-///
-/// # Requires
-///
-/// - The archive is valid: `open_index_texts_to_texts` returned `DONE`.
-pub fn decode_index_texts_to_texts(archive: &[u8], wide: bool) -> Decoded
-    requires { IsTextTextIndex wide archive.now }
-    ensures { IsHeaderOf (text_text_index_in wide archive.now) result }
-{
-    if wide {
-        index_header_of::<Text<Wide>, Text<Wide>, Wide>(archive)
-    } else {
-        index_header_of::<Text<Narrow>, Text<Narrow>, Narrow>(archive)
-    }
-}
 
 /// Looks up a text, and stores the index and the text of its pair in `found`.
 #[inline]
@@ -96,7 +52,7 @@ fn get_of<'a, I: IndexedOf<&'a [u8]>>(
 ///
 /// # Requires
 ///
-/// - The archive is valid: `open_index_texts_to_texts` returned `DONE`.
+/// - The archive is valid: `open_archive` returned `DONE` for the map's codes.
 /// - `header` is its decoded header.
 ///
 /// # Errors
@@ -134,7 +90,7 @@ pub fn get_index_text_of_text<'a, I: IndexedOf<&'a [u8]>>(
 ///
 /// # Requires
 ///
-/// - The archive is valid: `open_index_texts_to_texts` returned `DONE`.
+/// - The archive is valid: `open_archive` returned `DONE` for the map's codes.
 /// - `header` is its decoded header.
 pub fn index_text_texts_from<'a, P: PairOf<&'a [u8], &'a [u8]>>(
     archive: &'a [u8],

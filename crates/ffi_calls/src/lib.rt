@@ -1,13 +1,14 @@
 //! Hash maps and sets, index maps and containers for C, of numbers or texts, narrow or wide.
 //!
-//! - `numbers` and `texts` validate, look up, overwrite and walk maps to numbers.
+//! - `collection` validates archives and decodes their headers, by the codes of their contents.
+//! - `numbers` and `texts` look up, overwrite and walk maps to numbers.
 //!   `number_items` and `text_items` write their archives.
 //! - `numbers_to_texts` and `texts_to_texts` are the same for maps to texts, without overwrites.
 //!   `numbers_to_texts_items` and `texts_to_texts_items` write their archives.
 //! - `number_sets` and `text_sets` are the same for sets. `number_sets` writes archives of sets of
 //!   numbers, and `text_set_items` those of sets of texts.
-//! - `index_numbers`, `index_texts`, `index_numbers_to_texts` and `index_texts_to_texts` validate,
-//!   look up and read index maps, and share the calls of `index`. The first two overwrite too.
+//! - `index_numbers`, `index_texts`, `index_numbers_to_texts` and `index_texts_to_texts` look up in
+//!   and read index maps, and share the calls of `index`. The first two overwrite too.
 //!   `index_items` and `index_text_items` write their archives.
 //! - `building` writes the archive of a list of pairs, and leaks its bytes to the caller.
 //! - `containers` writes the headers of containers, opens containers, and updates their checksums.
@@ -20,6 +21,7 @@
 
 mod archives;
 pub mod building;
+pub mod collection;
 pub mod containers;
 pub mod explanation;
 pub mod form;

@@ -1,18 +1,16 @@
 //! Sets of numbers.
 //!
-//! `open_number_set` and `explain_number_set` validate an archive, and `build_number_set` writes
-//! one. The other calls require a valid one.
+//! `build_number_set` writes an archive. The other calls require a valid one.
 
-ghost use Rattle.std.specs.Prelude.{MatchResult, map, ◌≡◌};
-ghost use Rattle.ffi_calls.specs.{ArchiveOfNumberSetFails, Explains, FindsListedNumber};
-ghost use Rattle.ffi_calls.specs.{FindsNumber, IsArchiveOfNumberSet, IsHeaderOf, IsNumberSet};
-ghost use Rattle.ffi_calls.specs.{NumberSetWriteFails, NumberSetWriteOk, Opens, Outputs};
-ghost use Rattle.ffi_calls.specs.{StoresNextNumberMembers, archive_width, limit_of, number_keys_at};
-ghost use Rattle.ffi_calls.specs.{number_set, number_set_in};
+ghost use Rattle.std.specs.Prelude.{MatchResult, map};
+ghost use Rattle.ffi_calls.specs.{ArchiveOfNumberSetFails, FindsListedNumber, FindsNumber};
+ghost use Rattle.ffi_calls.specs.{IsArchiveOfNumberSet, IsHeaderOf, IsNumberSet};
+ghost use Rattle.ffi_calls.specs.{NumberSetWriteFails, NumberSetWriteOk, Outputs};
+ghost use Rattle.ffi_calls.specs.{StoresNextNumberMembers, archive_width, number_keys_at};
+ghost use Rattle.ffi_calls.specs.{number_set_in};
 
-use crate::archives::{explain_map, header_of, typed_header};
+use crate::archives::typed_header;
 use crate::building::{Built, leak_into};
-use crate::explanation::Explanation;
 use crate::pairs::StepOf;
 use crate::reading::NumberKey;
 use crate::sets::{contains_in, set_archive_of};
@@ -22,50 +20,11 @@ use rkyv_base::{Narrow, Wide, Width};
 use rkyv_table::table::decoded::Decoded;
 use std::alloc::Global;
 
-/// Validates the archive of a set of numbers.
-///
-/// # Errors
-///
-/// - The status of the first validation error: 16 to 23.
-pub fn open_number_set<K: NumberKey>(archive: &[u8], wide: bool) -> u32
-    ensures status { Opens (limit_of wide) (number_set K.NumberKey wide) archive.now result }
-    ensures accepts { IsNumberSet K.NumberKey wide archive.now → result ≡ 0 }
-{
-    explain_number_set::<K>(archive, wide).status
-}
-
-/// Validates the archive of a set of numbers, and returns the first error with its numbers.
-pub fn explain_number_set<K: NumberKey>(archive: &[u8], wide: bool) -> Explanation
-    ensures { Explains (limit_of wide) (number_set K.NumberKey wide) archive.now result }
-{
-    if wide {
-        explain_map::<K, (), Wide>(archive)
-    } else {
-        explain_map::<K, (), Narrow>(archive)
-    }
-}
-
-/// Returns the decoded header of the set, for lookups and iteration.
-///
-/// # Requires
-///
-/// - The archive is valid: `open_number_set` returned `DONE`.
-pub fn decode_number_set<K: NumberKey>(archive: &[u8], wide: bool) -> Decoded
-    requires { IsNumberSet K.NumberKey wide archive.now }
-    ensures { IsHeaderOf (number_set_in K.NumberKey wide archive.now) result }
-{
-    if wide {
-        header_of::<K, (), Wide>(archive)
-    } else {
-        header_of::<K, (), Narrow>(archive)
-    }
-}
-
 /// Looks up an item, and returns `DONE` if it is found.
 ///
 /// # Requires
 ///
-/// - The archive is valid: `open_number_set` returned `DONE`.
+/// - The archive is valid: `open_archive` returned `DONE` for the set's codes.
 /// - `header` is its decoded header.
 ///
 /// # Errors
@@ -92,7 +51,7 @@ pub fn contains_number<K: NumberKey>(archive: &[u8], wide: bool, header: &Decode
 ///
 /// # Requires
 ///
-/// - The archive is valid: `open_number_set` returned `DONE`.
+/// - The archive is valid: `open_archive` returned `DONE` for the set's codes.
 /// - `header` is its decoded header.
 pub fn next_number_members<K: NumberKey, S: StepOf<K, ()>>(
     archive: &[u8],

@@ -1,14 +1,13 @@
 //! Maps whose keys are numbers.
 //!
-//! `open_numbers` and `explain_numbers` validate an archive; the other calls require a valid one.
+//! All calls require a valid archive.
 
-ghost use Rattle.std.specs.Prelude.{map, ◌≡◌};
-ghost use Rattle.ffi_calls.specs.{Explains, IsHeaderOf, IsNumberArchive, KeepsHeader, Opens};
-ghost use Rattle.ffi_calls.specs.{ReturnsFirstNumber, ReturnsNumber, SetsFirstNumber, SetsNumber};
-ghost use Rattle.ffi_calls.specs.{StoresNextNumbers, limit_of, number_map, numbers_at, numbers_in};
+ghost use Rattle.std.specs.Prelude.{map};
+ghost use Rattle.ffi_calls.specs.{IsHeaderOf, IsNumberArchive, KeepsHeader, ReturnsFirstNumber};
+ghost use Rattle.ffi_calls.specs.{ReturnsNumber, SetsFirstNumber, SetsNumber, StoresNextNumbers};
+ghost use Rattle.ffi_calls.specs.{numbers_at, numbers_in};
 
-use crate::archives::{explain_map, header_of, typed_header};
-use crate::explanation::Explanation;
+use crate::archives::typed_header;
 use crate::form::Form;
 use crate::lookup::{get_in, set_in};
 use crate::pairs::StepOf;
@@ -17,52 +16,11 @@ use crate::walk::next_pairs_in;
 use rkyv_base::{Narrow, Wide};
 use rkyv_table::table::decoded::Decoded;
 
-/// Validates the archive of a map of numbers.
-///
-/// # Errors
-///
-/// - The status of the first validation error: 16 to 23.
-pub fn open_numbers<K: NumberKey>(archive: &[u8], form: Form) -> u32
-    ensures status { Opens (limit_of form.wide) (number_map K.NumberKey form) archive.now result }
-    ensures accepts { IsNumberArchive K.NumberKey form archive.now → result ≡ 0 }
-{
-    explain_numbers::<K>(archive, form).status
-}
-
-/// Validates the archive of a map of numbers, and returns the first error with its numbers.
-pub fn explain_numbers<K: NumberKey>(archive: &[u8], form: Form) -> Explanation
-    ensures { Explains (limit_of form.wide) (number_map K.NumberKey form) archive.now result }
-{
-    match (form.long_values, form.wide) {
-        (false, false) => explain_map::<K, u32, Narrow>(archive),
-        (true, false) => explain_map::<K, u64, Narrow>(archive),
-        (false, true) => explain_map::<K, u32, Wide>(archive),
-        (true, true) => explain_map::<K, u64, Wide>(archive),
-    }
-}
-
-/// Returns the decoded header of the map, for lookups and iteration.
-///
-/// # Requires
-///
-/// - The archive is valid: `open_numbers` returned `DONE`.
-pub fn decode_numbers<K: NumberKey>(archive: &[u8], form: Form) -> Decoded
-    requires { IsNumberArchive K.NumberKey form archive.now }
-    ensures { IsHeaderOf (numbers_in K.NumberKey form archive.now) result }
-{
-    match (form.long_values, form.wide) {
-        (false, false) => header_of::<K, u32, Narrow>(archive),
-        (true, false) => header_of::<K, u64, Narrow>(archive),
-        (false, true) => header_of::<K, u32, Wide>(archive),
-        (true, true) => header_of::<K, u64, Wide>(archive),
-    }
-}
-
 /// Looks up a key, and stores its value in `value`.
 ///
 /// # Requires
 ///
-/// - The archive is valid: `open_numbers` returned `DONE`.
+/// - The archive is valid: `open_archive` returned `DONE` for the map's codes.
 /// - `header` is its decoded header.
 ///
 /// # Errors
@@ -117,7 +75,7 @@ pub fn get_number<K: NumberKey>(
 ///
 /// # Requires
 ///
-/// - The archive is valid: `open_numbers` returned `DONE`.
+/// - The archive is valid: `open_archive` returned `DONE` for the map's codes.
 ///
 /// # Errors
 ///
@@ -150,7 +108,7 @@ pub fn set_number<K: NumberKey>(archive: &mut [u8], form: Form, key: K, value: u
 ///
 /// # Requires
 ///
-/// - The archive is valid: `open_numbers` returned `DONE`.
+/// - The archive is valid: `open_archive` returned `DONE` for the map's codes.
 /// - `header` is its decoded header.
 pub fn next_numbers<K: NumberKey, S: StepOf<K, u64>>(
     archive: &[u8],

@@ -1,16 +1,13 @@
 //! Maps of numbers to texts.
 //!
-//! `open_numbers_to_texts` and `explain_numbers_to_texts` validate an archive; the other calls
-//! require a valid one.
+//! All calls require a valid archive.
 
-ghost use Rattle.std.specs.Prelude.{map, ◌≡◌};
-ghost use Rattle.ffi_calls.specs.{Explains, IsHeaderOf, IsNumberTextArchive, Opens};
-ghost use Rattle.ffi_calls.specs.{ReturnsFirstTextOfNumber, ReturnsTextOfNumber};
-ghost use Rattle.ffi_calls.specs.{StoresNextNumberTexts, limit_of, number_keys_at, number_text_map};
+ghost use Rattle.std.specs.Prelude.{map};
+ghost use Rattle.ffi_calls.specs.{IsHeaderOf, IsNumberTextArchive, ReturnsFirstTextOfNumber};
+ghost use Rattle.ffi_calls.specs.{ReturnsTextOfNumber, StoresNextNumberTexts, number_keys_at};
 ghost use Rattle.ffi_calls.specs.{number_texts_in};
 
-use crate::archives::{explain_map, header_of, typed_header};
-use crate::explanation::Explanation;
+use crate::archives::typed_header;
 use crate::lookup::get_in;
 use crate::pairs::StepOf;
 use crate::reading::NumberKey;
@@ -18,52 +15,11 @@ use crate::walk::next_pairs_in;
 use rkyv_base::{Narrow, Text, Wide};
 use rkyv_table::table::decoded::Decoded;
 
-/// Validates the archive of a map of numbers to texts.
-///
-/// # Errors
-///
-/// - The status of the first validation error: 16 to 23.
-pub fn open_numbers_to_texts<K: NumberKey>(archive: &[u8], wide: bool) -> u32
-    ensures status { Opens (limit_of wide) (number_text_map K.NumberKey wide) archive.now result }
-    ensures accepts { IsNumberTextArchive K.NumberKey wide archive.now → result ≡ 0 }
-{
-    explain_numbers_to_texts::<K>(archive, wide).status
-}
-
-/// Validates the archive of a map of numbers to texts.
-///
-/// Returns the first error with its numbers.
-pub fn explain_numbers_to_texts<K: NumberKey>(archive: &[u8], wide: bool) -> Explanation
-    ensures { Explains (limit_of wide) (number_text_map K.NumberKey wide) archive.now result }
-{
-    if wide {
-        explain_map::<K, Text<Wide>, Wide>(archive)
-    } else {
-        explain_map::<K, Text<Narrow>, Narrow>(archive)
-    }
-}
-
-/// Returns the decoded header of the map, for lookups and iteration.
-///
-/// # Requires
-///
-/// - The archive is valid: `open_numbers_to_texts` returned `DONE`.
-pub fn decode_numbers_to_texts<K: NumberKey>(archive: &[u8], wide: bool) -> Decoded
-    requires { IsNumberTextArchive K.NumberKey wide archive.now }
-    ensures { IsHeaderOf (number_texts_in K.NumberKey wide archive.now) result }
-{
-    if wide {
-        header_of::<K, Text<Wide>, Wide>(archive)
-    } else {
-        header_of::<K, Text<Narrow>, Narrow>(archive)
-    }
-}
-
 /// Looks up a key, and stores its text in `value`.
 ///
 /// # Requires
 ///
-/// - The archive is valid: `open_numbers_to_texts` returned `DONE`.
+/// - The archive is valid: `open_archive` returned `DONE` for the map's codes.
 /// - `header` is its decoded header.
 ///
 /// # Errors
@@ -108,7 +64,7 @@ pub fn get_text_of_number<'a, K: NumberKey>(
 ///
 /// # Requires
 ///
-/// - The archive is valid: `open_numbers_to_texts` returned `DONE`.
+/// - The archive is valid: `open_archive` returned `DONE` for the map's codes.
 /// - `header` is its decoded header.
 pub fn next_number_texts<'a, K: NumberKey, S: StepOf<K, &'a [u8]>>(
     archive: &'a [u8],

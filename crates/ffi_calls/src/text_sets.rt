@@ -1,15 +1,13 @@
 //! Sets of texts.
 //!
-//! `open_text_set` and `explain_text_set` validate an archive; the other calls require a valid one.
+//! All calls require a valid archive.
 
-ghost use Rattle.std.specs.Prelude.{map, ◌≡◌};
+ghost use Rattle.std.specs.Prelude.{map};
 ghost use Rattle.std.specs.Str.{IsUtf8};
-ghost use Rattle.ffi_calls.specs.{Explains, FindsListedText, FindsText, IsFoundStatus, IsHeaderOf};
-ghost use Rattle.ffi_calls.specs.{IsTextSet, Opens, StoresNextTextMembers, limit_of, member_found};
-ghost use Rattle.ffi_calls.specs.{text_set, text_set_in};
+ghost use Rattle.ffi_calls.specs.{FindsListedText, FindsText, IsFoundStatus, IsHeaderOf, IsTextSet};
+ghost use Rattle.ffi_calls.specs.{StoresNextTextMembers, member_found, text_set_in};
 
-use crate::archives::{explain_map, header_of, typed_header};
-use crate::explanation::Explanation;
+use crate::archives::typed_header;
 use crate::pairs::StepOf;
 use crate::sets::contains_in;
 use crate::status::NOT_TEXT;
@@ -17,45 +15,6 @@ use crate::texts::text_of;
 use crate::walk::next_pairs_in;
 use rkyv_base::{Narrow, Text, Wide};
 use rkyv_table::table::decoded::Decoded;
-
-/// Validates the archive of a set of texts.
-///
-/// # Errors
-///
-/// - The status of the first validation error: 16 to 23.
-pub fn open_text_set(archive: &[u8], wide: bool) -> u32
-    ensures status { Opens (limit_of wide) (text_set wide) archive.now result }
-    ensures accepts { IsTextSet wide archive.now → result ≡ 0 }
-{
-    explain_text_set(archive, wide).status
-}
-
-/// Validates the archive of a set of texts, and returns the first error with its numbers.
-pub fn explain_text_set(archive: &[u8], wide: bool) -> Explanation
-    ensures { Explains (limit_of wide) (text_set wide) archive.now result }
-{
-    if wide {
-        explain_map::<Text<Wide>, (), Wide>(archive)
-    } else {
-        explain_map::<Text<Narrow>, (), Narrow>(archive)
-    }
-}
-
-/// Returns the decoded header of the set, for lookups and iteration.
-///
-/// # Requires
-///
-/// - The archive is valid: `open_text_set` returned `DONE`.
-pub fn decode_text_set(archive: &[u8], wide: bool) -> Decoded
-    requires { IsTextSet wide archive.now }
-    ensures { IsHeaderOf (text_set_in wide archive.now) result }
-{
-    if wide {
-        header_of::<Text<Wide>, (), Wide>(archive)
-    } else {
-        header_of::<Text<Narrow>, (), Narrow>(archive)
-    }
-}
 
 /// Looks up a text, and returns `DONE` if it is found.
 #[inline]
@@ -76,7 +35,7 @@ fn contains_of(archive: &[u8], wide: bool, header: &Decoded, item: &str) -> u32
 ///
 /// # Requires
 ///
-/// - The archive is valid: `open_text_set` returned `DONE`.
+/// - The archive is valid: `open_archive` returned `DONE` for the set's codes.
 /// - `header` is its decoded header.
 ///
 /// # Errors
@@ -103,7 +62,7 @@ pub fn contains_text(archive: &[u8], wide: bool, header: &Decoded, item: &[u8]) 
 ///
 /// # Requires
 ///
-/// - The archive is valid: `open_text_set` returned `DONE`.
+/// - The archive is valid: `open_archive` returned `DONE` for the set's codes.
 /// - `header` is its decoded header.
 pub fn next_text_members<'a, S: StepOf<&'a [u8], ()>>(
     archive: &'a [u8],

@@ -1,17 +1,15 @@
 //! Maps whose keys are texts.
 //!
-//! `open_texts` and `explain_texts` validate an archive; all other calls but `is_text` require a
-//! valid one.
+//! All calls but `is_text` require a valid archive.
 
 ghost use Rattle.std.specs.Prelude.{IsTrue, MatchOption, map, ◌↔◌, ◌≡◌};
 ghost use Rattle.std.specs.Str.{IsUtf8};
-ghost use Rattle.ffi_calls.specs.{Explains, IsHeaderOf, IsTextArchive, KeepsHeader, Opens};
-ghost use Rattle.ffi_calls.specs.{OverwritesText, ReadsWord, ReturnsAt, ReturnsFirstText};
-ghost use Rattle.ffi_calls.specs.{ReturnsText, SetsFirstText, SetsText, StoresNextTexts, limit_of};
-ghost use Rattle.ffi_calls.specs.{text_found, text_map, texts_in, word_of};
+ghost use Rattle.ffi_calls.specs.{IsHeaderOf, IsTextArchive, KeepsHeader, OverwritesText};
+ghost use Rattle.ffi_calls.specs.{ReadsWord, ReturnsAt, ReturnsFirstText, ReturnsText};
+ghost use Rattle.ffi_calls.specs.{SetsFirstText, SetsText, StoresNextTexts, text_found, texts_in};
+ghost use Rattle.ffi_calls.specs.{word_of};
 
-use crate::archives::{explain_map, header_of, typed_header};
-use crate::explanation::Explanation;
+use crate::archives::typed_header;
 use crate::form::Form;
 use crate::lookup::{get_in, set_in};
 use crate::pairs::StepOf;
@@ -34,47 +32,6 @@ pub fn is_text(bytes: &[u8]) -> bool
     ensures { IsTrue result ↔ IsUtf8 bytes.now }
 {
     text_of(bytes).is_some()
-}
-
-/// Validates the archive of a map of texts.
-///
-/// # Errors
-///
-/// - The status of the first validation error: 16 to 23.
-pub fn open_texts(archive: &[u8], form: Form) -> u32
-    ensures status { Opens (limit_of form.wide) (text_map form) archive.now result }
-    ensures accepts { IsTextArchive form archive.now → result ≡ 0 }
-{
-    explain_texts(archive, form).status
-}
-
-/// Validates the archive of a map of texts, and returns the first error with its numbers.
-pub fn explain_texts(archive: &[u8], form: Form) -> Explanation
-    ensures { Explains (limit_of form.wide) (text_map form) archive.now result }
-{
-    match (form.long_values, form.wide) {
-        (false, false) => explain_map::<Text<Narrow>, u32, Narrow>(archive),
-        (true, false) => explain_map::<Text<Narrow>, u64, Narrow>(archive),
-        (false, true) => explain_map::<Text<Wide>, u32, Wide>(archive),
-        (true, true) => explain_map::<Text<Wide>, u64, Wide>(archive),
-    }
-}
-
-/// Returns the decoded header of the map, for lookups and iteration.
-///
-/// # Requires
-///
-/// - The archive is valid: `open_texts` returned `DONE`.
-pub fn decode_texts(archive: &[u8], form: Form) -> Decoded
-    requires { IsTextArchive form archive.now }
-    ensures { IsHeaderOf (texts_in form archive.now) result }
-{
-    match (form.long_values, form.wide) {
-        (false, false) => header_of::<Text<Narrow>, u32, Narrow>(archive),
-        (true, false) => header_of::<Text<Narrow>, u64, Narrow>(archive),
-        (false, true) => header_of::<Text<Wide>, u32, Wide>(archive),
-        (true, true) => header_of::<Text<Wide>, u64, Wide>(archive),
-    }
 }
 
 /// Looks up a text, and stores its value in `value`.
@@ -118,7 +75,7 @@ fn get_of(archive: &[u8], form: Form, header: &Decoded, key: &str, value: &mut u
 ///
 /// # Requires
 ///
-/// - The archive is valid: `open_texts` returned `DONE`.
+/// - The archive is valid: `open_archive` returned `DONE` for the map's codes.
 /// - `header` is its decoded header.
 ///
 /// # Errors
@@ -160,7 +117,7 @@ fn set_of(archive: &mut [u8], form: Form, key: &str, value: u64) -> u32
 ///
 /// # Requires
 ///
-/// - The archive is valid: `open_texts` returned `DONE`.
+/// - The archive is valid: `open_archive` returned `DONE` for the map's codes.
 ///
 /// # Errors
 ///
@@ -190,7 +147,7 @@ pub fn set_text(archive: &mut [u8], form: Form, key: &[u8], value: u64) -> u32
 ///
 /// # Requires
 ///
-/// - The archive is valid: `open_texts` returned `DONE`.
+/// - The archive is valid: `open_archive` returned `DONE` for the map's codes.
 /// - `header` is its decoded header.
 pub fn next_texts<'a, S: StepOf<&'a [u8], u64>>(
     archive: &'a [u8],

@@ -1,17 +1,14 @@
 //! Maps of texts to texts.
 //!
-//! `open_texts_to_texts` and `explain_texts_to_texts` validate an archive; the other calls require
-//! a valid one.
+//! All calls require a valid archive.
 
-ghost use Rattle.std.specs.Prelude.{map, ◌≡◌};
+ghost use Rattle.std.specs.Prelude.{map};
 ghost use Rattle.std.specs.Str.{IsUtf8};
-ghost use Rattle.ffi_calls.specs.{Explains, IsHeaderOf, IsTextTextArchive, Opens};
-ghost use Rattle.ffi_calls.specs.{ReturnsFirstTextOfText, ReturnsTextAt, ReturnsTextOfText};
-ghost use Rattle.ffi_calls.specs.{StoresNextTextTexts, limit_of, text_of_text_found, text_text_map};
-ghost use Rattle.ffi_calls.specs.{text_texts_in};
+ghost use Rattle.ffi_calls.specs.{IsHeaderOf, IsTextTextArchive, ReturnsFirstTextOfText};
+ghost use Rattle.ffi_calls.specs.{ReturnsTextAt, ReturnsTextOfText, StoresNextTextTexts};
+ghost use Rattle.ffi_calls.specs.{text_of_text_found, text_texts_in};
 
-use crate::archives::{explain_map, header_of, typed_header};
-use crate::explanation::Explanation;
+use crate::archives::typed_header;
 use crate::lookup::get_in;
 use crate::pairs::StepOf;
 use crate::status::NOT_TEXT;
@@ -19,47 +16,6 @@ use crate::texts::text_of;
 use crate::walk::next_pairs_in;
 use rkyv_base::{Narrow, Text, Wide};
 use rkyv_table::table::decoded::Decoded;
-
-/// Validates the archive of a map of texts to texts.
-///
-/// # Errors
-///
-/// - The status of the first validation error: 16 to 23.
-pub fn open_texts_to_texts(archive: &[u8], wide: bool) -> u32
-    ensures status { Opens (limit_of wide) (text_text_map wide) archive.now result }
-    ensures accepts { IsTextTextArchive wide archive.now → result ≡ 0 }
-{
-    explain_texts_to_texts(archive, wide).status
-}
-
-/// Validates the archive of a map of texts to texts.
-///
-/// Returns the first error with its numbers.
-pub fn explain_texts_to_texts(archive: &[u8], wide: bool) -> Explanation
-    ensures { Explains (limit_of wide) (text_text_map wide) archive.now result }
-{
-    if wide {
-        explain_map::<Text<Wide>, Text<Wide>, Wide>(archive)
-    } else {
-        explain_map::<Text<Narrow>, Text<Narrow>, Narrow>(archive)
-    }
-}
-
-/// Returns the decoded header of the map, for lookups and iteration.
-///
-/// # Requires
-///
-/// - The archive is valid: `open_texts_to_texts` returned `DONE`.
-pub fn decode_texts_to_texts(archive: &[u8], wide: bool) -> Decoded
-    requires { IsTextTextArchive wide archive.now }
-    ensures { IsHeaderOf (text_texts_in wide archive.now) result }
-{
-    if wide {
-        header_of::<Text<Wide>, Text<Wide>, Wide>(archive)
-    } else {
-        header_of::<Text<Narrow>, Text<Narrow>, Narrow>(archive)
-    }
-}
 
 /// Looks up a text, and stores its text in `value`.
 #[inline]
@@ -97,7 +53,7 @@ fn get_of<'a>(
 ///
 /// # Requires
 ///
-/// - The archive is valid: `open_texts_to_texts` returned `DONE`.
+/// - The archive is valid: `open_archive` returned `DONE` for the map's codes.
 /// - `header` is its decoded header.
 ///
 /// # Errors
@@ -133,7 +89,7 @@ pub fn get_text_of_text<'a>(
 ///
 /// # Requires
 ///
-/// - The archive is valid: `open_texts_to_texts` returned `DONE`.
+/// - The archive is valid: `open_archive` returned `DONE` for the map's codes.
 /// - `header` is its decoded header.
 pub fn next_text_texts<'a, S: StepOf<&'a [u8], &'a [u8]>>(
     archive: &'a [u8],

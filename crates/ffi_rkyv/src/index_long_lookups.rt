@@ -20,7 +20,7 @@ use rkyv_table::table::decoded::Decoded;
 ///
 /// # Requires
 ///
-/// - The archive is valid: `rkyv_c_index_open_long_numbers` returned 0.
+/// - The archive is valid: `rkyv_c_open` returned 0 for the map's codes.
 /// - `header` is its decoded header.
 ///
 /// # Errors
@@ -50,7 +50,7 @@ pub extern "C" fn rkyv_c_index_get_long_number_u32_narrow(
 ///
 /// # Requires
 ///
-/// - The archive is valid: `rkyv_c_index_open_long_numbers` returned 0.
+/// - The archive is valid: `rkyv_c_open` returned 0 for the map's codes.
 /// - `header` is its decoded header.
 ///
 /// # Errors
@@ -80,7 +80,7 @@ pub extern "C" fn rkyv_c_index_get_long_number_u64_narrow(
 ///
 /// # Requires
 ///
-/// - The archive is valid: `rkyv_c_index_open_long_numbers` returned 0.
+/// - The archive is valid: `rkyv_c_open` returned 0 for the map's codes.
 /// - `header` is its decoded header.
 ///
 /// # Errors
@@ -110,7 +110,7 @@ pub extern "C" fn rkyv_c_index_get_long_number_u32_wide(
 ///
 /// # Requires
 ///
-/// - The archive is valid: `rkyv_c_index_open_long_numbers` returned 0.
+/// - The archive is valid: `rkyv_c_open` returned 0 for the map's codes.
 /// - `header` is its decoded header.
 ///
 /// # Errors

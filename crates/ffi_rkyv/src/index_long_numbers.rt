@@ -1,77 +1,19 @@
 //! The calls for index maps of numbers of 64 bits.
 
-ghost use Rattle.std.specs.Prelude.{map, ◌≡◌};
-ghost use Rattle.ffi_calls.specs.{Explains, IndexOfNumbersFails, IsHeaderOf, IsIndexOfNumbers};
-ghost use Rattle.ffi_calls.specs.{IsNumberIndex, KeepsHeader, Opens, Outputs};
-ghost use Rattle.ffi_calls.specs.{SetsFirstIndexedNumber, SetsIndexedNumber, StoresListedNumbers};
-ghost use Rattle.ffi_calls.specs.{StoresNumbers, form_of, limit_of, long_key, number_index};
+ghost use Rattle.std.specs.Prelude.{map};
+ghost use Rattle.ffi_calls.specs.{IndexOfNumbersFails, IsHeaderOf, IsIndexOfNumbers, IsNumberIndex};
+ghost use Rattle.ffi_calls.specs.{KeepsHeader, Outputs, SetsFirstIndexedNumber, SetsIndexedNumber};
+ghost use Rattle.ffi_calls.specs.{StoresListedNumbers, StoresNumbers, form_of, long_key};
 ghost use Rattle.ffi_calls.specs.{number_index_in, numbers_at};
 ghost use Rattle.ffi_rkyv.specs.Pairs.{long_number_pair};
 
 use crate::pairs::LongNumberPair;
 use ffi_calls::building::Built;
-use ffi_calls::explanation::Explanation;
 use ffi_calls::form::Form;
 use ffi_calls::index_items::build_index_numbers;
-use ffi_calls::index_numbers::{
-    decode_index_numbers, explain_index_numbers, index_numbers_from, open_index_numbers,
-    set_index_number,
-};
+use ffi_calls::index_numbers::{index_numbers_from, set_index_number};
 use rkyv_table::table::decoded::Decoded;
 use std::alloc::Global;
-
-/// Validates the archive of an index map of numbers of 64 bits.
-///
-/// # Errors
-///
-/// - 16 to 23: the first validation error.
-#[unsafe(no_mangle)]
-pub extern "C" fn rkyv_c_index_open_long_numbers(
-    archive: &[u8],
-    long_values: bool,
-    wide: bool,
-) -> u32
-    ensures status { Opens (limit_of wide) (number_index long_key (form_of long_values wide))
-        archive.now result }
-    ensures accepts { IsNumberIndex long_key (form_of long_values wide) archive.now → result ≡ 0 }
-{
-    open_index_numbers::<u64>(archive, Form { long_values, wide })
-}
-
-/// Validates the archive of an index map of numbers of 64 bits.
-///
-/// Stores the first error with its numbers.
-#[unsafe(no_mangle)]
-pub extern "C" fn rkyv_c_index_explain_long_numbers(
-    archive: &[u8],
-    long_values: bool,
-    wide: bool,
-    explanation: &mut Explanation,
-)
-    ensures { Explains (limit_of wide) (number_index long_key (form_of long_values wide))
-        archive.now explanation.new }
-{
-    *explanation = explain_index_numbers::<u64>(archive, Form { long_values, wide });
-}
-
-/// Stores the decoded header of the index map in `header`, for lookups and iteration.
-///
-/// # Requires
-///
-/// - The archive is valid: `rkyv_c_index_open_long_numbers` returned 0.
-#[unsafe(no_mangle)]
-pub extern "C" fn rkyv_c_index_decode_long_numbers(
-    archive: &[u8],
-    long_values: bool,
-    wide: bool,
-    header: &mut Decoded,
-)
-    requires { IsNumberIndex long_key (form_of long_values wide) archive.now }
-    ensures { IsHeaderOf (number_index_in long_key (form_of long_values wide) archive.now)
-        header.new }
-{
-    *header = decode_index_numbers::<u64>(archive, Form { long_values, wide });
-}
 
 /// Looks up a key, and overwrites its value in place.
 ///
@@ -79,7 +21,7 @@ pub extern "C" fn rkyv_c_index_decode_long_numbers(
 ///
 /// # Requires
 ///
-/// - The archive is valid: `rkyv_c_index_open_long_numbers` returned 0.
+/// - The archive is valid: `rkyv_c_open` returned 0 for the map's codes.
 ///
 /// # Errors
 ///
@@ -113,7 +55,7 @@ pub extern "C" fn rkyv_c_index_set_long_number(
 ///
 /// # Requires
 ///
-/// - The archive is valid: `rkyv_c_index_open_long_numbers` returned 0.
+/// - The archive is valid: `rkyv_c_open` returned 0 for the map's codes.
 /// - `header` is its decoded header.
 #[unsafe(no_mangle)]
 pub extern "C" fn rkyv_c_index_long_numbers_from(

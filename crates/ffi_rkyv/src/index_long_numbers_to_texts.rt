@@ -1,67 +1,18 @@
 //! The calls for index maps of numbers of 64 bits to texts.
 
-ghost use Rattle.std.specs.Prelude.{map, ◌≡◌};
-ghost use Rattle.ffi_calls.specs.{Explains, IndexOfNumberTextsFails, IsHeaderOf};
-ghost use Rattle.ffi_calls.specs.{IsIndexOfNumberTexts, IsNumberTextIndex, Opens, Outputs};
-ghost use Rattle.ffi_calls.specs.{StoresListedNumberTexts, StoresNumberTexts, limit_of, long_key};
-ghost use Rattle.ffi_calls.specs.{number_keys_at, number_text_index, number_text_index_in};
+ghost use Rattle.std.specs.Prelude.{map};
+ghost use Rattle.ffi_calls.specs.{IndexOfNumberTextsFails, IsHeaderOf, IsIndexOfNumberTexts};
+ghost use Rattle.ffi_calls.specs.{IsNumberTextIndex, Outputs, StoresListedNumberTexts};
+ghost use Rattle.ffi_calls.specs.{StoresNumberTexts, long_key, number_keys_at};
+ghost use Rattle.ffi_calls.specs.{number_text_index_in};
 ghost use Rattle.ffi_rkyv.specs.Pairs.{long_number_text_pair};
 
 use crate::pairs::LongNumberTextPair;
 use ffi_calls::building::Built;
-use ffi_calls::explanation::Explanation;
-use ffi_calls::index_numbers_to_texts::{
-    decode_index_numbers_to_texts, explain_index_numbers_to_texts, index_number_texts_from,
-    open_index_numbers_to_texts,
-};
+use ffi_calls::index_numbers_to_texts::index_number_texts_from;
 use ffi_calls::index_text_items::build_index_numbers_to_texts;
 use rkyv_table::table::decoded::Decoded;
 use std::alloc::Global;
-
-/// Validates the archive of an index map of numbers of 64 bits to texts.
-///
-/// # Errors
-///
-/// - 16 to 23: the first validation error.
-#[unsafe(no_mangle)]
-pub extern "C" fn rkyv_c_index_open_long_numbers_to_texts(archive: &[u8], wide: bool) -> u32
-    ensures status { Opens (limit_of wide) (number_text_index long_key wide) archive.now result }
-    ensures accepts { IsNumberTextIndex long_key wide archive.now → result ≡ 0 }
-{
-    open_index_numbers_to_texts::<u64>(archive, wide)
-}
-
-/// Validates the archive of an index map of numbers of 64 bits to texts.
-///
-/// Stores the first error with its numbers.
-#[unsafe(no_mangle)]
-pub extern "C" fn rkyv_c_index_explain_long_numbers_to_texts(
-    archive: &[u8],
-    wide: bool,
-    explanation: &mut Explanation,
-)
-    ensures { Explains (limit_of wide) (number_text_index long_key wide) archive.now
-        explanation.new }
-{
-    *explanation = explain_index_numbers_to_texts::<u64>(archive, wide);
-}
-
-/// Stores the decoded header of the index map in `header`, for lookups and iteration.
-///
-/// # Requires
-///
-/// - The archive is valid: `rkyv_c_index_open_long_numbers_to_texts` returned 0.
-#[unsafe(no_mangle)]
-pub extern "C" fn rkyv_c_index_decode_long_numbers_to_texts(
-    archive: &[u8],
-    wide: bool,
-    header: &mut Decoded,
-)
-    requires { IsNumberTextIndex long_key wide archive.now }
-    ensures { IsHeaderOf (number_text_index_in long_key wide archive.now) header.new }
-{
-    *header = decode_index_numbers_to_texts::<u64>(archive, wide);
-}
 
 /// Stores the pairs from the index `from` on, in insertion order, and returns their number.
 ///
@@ -69,7 +20,7 @@ pub extern "C" fn rkyv_c_index_decode_long_numbers_to_texts(
 ///
 /// # Requires
 ///
-/// - The archive is valid: `rkyv_c_index_open_long_numbers_to_texts` returned 0.
+/// - The archive is valid: `rkyv_c_open` returned 0 for the map's codes.
 /// - `header` is its decoded header.
 #[unsafe(no_mangle)]
 pub extern "C" fn rkyv_c_index_long_number_texts_from<'a>(

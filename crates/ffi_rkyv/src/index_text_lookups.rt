@@ -19,7 +19,7 @@ use rkyv_table::table::decoded::Decoded;
 ///
 /// # Requires
 ///
-/// - The archive is valid: `rkyv_c_index_open_texts` returned 0.
+/// - The archive is valid: `rkyv_c_open` returned 0 for the map's codes.
 /// - `header` is its decoded header.
 ///
 /// # Errors
@@ -53,7 +53,7 @@ pub extern "C" fn rkyv_c_index_get_text_u32_narrow(
 ///
 /// # Requires
 ///
-/// - The archive is valid: `rkyv_c_index_open_texts` returned 0.
+/// - The archive is valid: `rkyv_c_open` returned 0 for the map's codes.
 /// - `header` is its decoded header.
 ///
 /// # Errors
@@ -87,7 +87,7 @@ pub extern "C" fn rkyv_c_index_get_text_u64_narrow(
 ///
 /// # Requires
 ///
-/// - The archive is valid: `rkyv_c_index_open_texts` returned 0.
+/// - The archive is valid: `rkyv_c_open` returned 0 for the map's codes.
 /// - `header` is its decoded header.
 ///
 /// # Errors
@@ -121,7 +121,7 @@ pub extern "C" fn rkyv_c_index_get_text_u32_wide(
 ///
 /// # Requires
 ///
-/// - The archive is valid: `rkyv_c_index_open_texts` returned 0.
+/// - The archive is valid: `rkyv_c_open` returned 0 for the map's codes.
 /// - `header` is its decoded header.
 ///
 /// # Errors

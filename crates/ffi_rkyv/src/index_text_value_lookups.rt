@@ -22,7 +22,7 @@ use rkyv_table::table::decoded::Decoded;
 ///
 /// # Requires
 ///
-/// - The archive is valid: `rkyv_c_index_open_numbers_to_texts` returned 0.
+/// - The archive is valid: `rkyv_c_open` returned 0 for the map's codes.
 /// - `header` is its decoded header.
 ///
 /// # Errors
@@ -51,7 +51,7 @@ pub extern "C" fn rkyv_c_index_get_text_of_number_narrow<'a>(
 ///
 /// # Requires
 ///
-/// - The archive is valid: `rkyv_c_index_open_numbers_to_texts` returned 0.
+/// - The archive is valid: `rkyv_c_open` returned 0 for the map's codes.
 /// - `header` is its decoded header.
 ///
 /// # Errors
@@ -80,7 +80,7 @@ pub extern "C" fn rkyv_c_index_get_text_of_number_wide<'a>(
 ///
 /// # Requires
 ///
-/// - The archive is valid: `rkyv_c_index_open_long_numbers_to_texts` returned 0.
+/// - The archive is valid: `rkyv_c_open` returned 0 for the map's codes.
 /// - `header` is its decoded header.
 ///
 /// # Errors
@@ -109,7 +109,7 @@ pub extern "C" fn rkyv_c_index_get_text_of_long_number_narrow<'a>(
 ///
 /// # Requires
 ///
-/// - The archive is valid: `rkyv_c_index_open_long_numbers_to_texts` returned 0.
+/// - The archive is valid: `rkyv_c_open` returned 0 for the map's codes.
 /// - `header` is its decoded header.
 ///
 /// # Errors
@@ -138,7 +138,7 @@ pub extern "C" fn rkyv_c_index_get_text_of_long_number_wide<'a>(
 ///
 /// # Requires
 ///
-/// - The archive is valid: `rkyv_c_index_open_texts_to_texts` returned 0.
+/// - The archive is valid: `rkyv_c_open` returned 0 for the map's codes.
 /// - `header` is its decoded header.
 ///
 /// # Errors
@@ -171,7 +171,7 @@ pub extern "C" fn rkyv_c_index_get_text_of_text_narrow<'a>(
 ///
 /// # Requires
 ///
-/// - The archive is valid: `rkyv_c_index_open_texts_to_texts` returned 0.
+/// - The archive is valid: `rkyv_c_open` returned 0 for the map's codes.
 /// - `header` is its decoded header.
 ///
 /// # Errors

@@ -1,69 +1,19 @@
 //! The calls for index maps of texts.
 
-ghost use Rattle.std.specs.Prelude.{map, ◌≡◌};
+ghost use Rattle.std.specs.Prelude.{map};
 ghost use Rattle.std.specs.Str.{IsUtf8};
-ghost use Rattle.ffi_calls.specs.{Explains, IndexOfTextsFails, IsHeaderOf, IsIndexOfTexts};
-ghost use Rattle.ffi_calls.specs.{IsTextIndex, KeepsHeader, Opens, Outputs, SetsFirstIndexedText};
-ghost use Rattle.ffi_calls.specs.{SetsIndexedBytes, StoresListedTexts, StoresTexts, form_of};
-ghost use Rattle.ffi_calls.specs.{limit_of, text_index, text_index_in};
+ghost use Rattle.ffi_calls.specs.{IndexOfTextsFails, IsHeaderOf, IsIndexOfTexts, IsTextIndex};
+ghost use Rattle.ffi_calls.specs.{KeepsHeader, Outputs, SetsFirstIndexedText, SetsIndexedBytes};
+ghost use Rattle.ffi_calls.specs.{StoresListedTexts, StoresTexts, form_of, text_index_in};
 ghost use Rattle.ffi_rkyv.specs.Pairs.{text_pair};
 
 use crate::pairs::TextPair;
 use ffi_calls::building::Built;
-use ffi_calls::explanation::Explanation;
 use ffi_calls::form::Form;
 use ffi_calls::index_items::build_index_texts;
-use ffi_calls::index_texts::{
-    decode_index_texts, explain_index_texts, index_texts_from, open_index_texts, set_index_text,
-};
+use ffi_calls::index_texts::{index_texts_from, set_index_text};
 use rkyv_table::table::decoded::Decoded;
 use std::alloc::Global;
-
-/// Validates the archive of an index map of texts.
-///
-/// # Errors
-///
-/// - 16 to 23: the first validation error.
-#[unsafe(no_mangle)]
-pub extern "C" fn rkyv_c_index_open_texts(archive: &[u8], long_values: bool, wide: bool) -> u32
-    ensures status { Opens (limit_of wide) (text_index (form_of long_values wide)) archive.now
-        result }
-    ensures accepts { IsTextIndex (form_of long_values wide) archive.now → result ≡ 0 }
-{
-    open_index_texts(archive, Form { long_values, wide })
-}
-
-/// Validates the archive of an index map of texts, and stores the first error with its numbers.
-#[unsafe(no_mangle)]
-pub extern "C" fn rkyv_c_index_explain_texts(
-    archive: &[u8],
-    long_values: bool,
-    wide: bool,
-    explanation: &mut Explanation,
-)
-    ensures { Explains (limit_of wide) (text_index (form_of long_values wide)) archive.now
-        explanation.new }
-{
-    *explanation = explain_index_texts(archive, Form { long_values, wide });
-}
-
-/// Stores the decoded header of the index map in `header`, for lookups and iteration.
-///
-/// # Requires
-///
-/// - The archive is valid: `rkyv_c_index_open_texts` returned 0.
-#[unsafe(no_mangle)]
-pub extern "C" fn rkyv_c_index_decode_texts(
-    archive: &[u8],
-    long_values: bool,
-    wide: bool,
-    header: &mut Decoded,
-)
-    requires { IsTextIndex (form_of long_values wide) archive.now }
-    ensures { IsHeaderOf (text_index_in (form_of long_values wide) archive.now) header.new }
-{
-    *header = decode_index_texts(archive, Form { long_values, wide });
-}
 
 /// Looks up a key, and overwrites its value in place.
 ///
@@ -71,7 +21,7 @@ pub extern "C" fn rkyv_c_index_decode_texts(
 ///
 /// # Requires
 ///
-/// - The archive is valid: `rkyv_c_index_open_texts` returned 0.
+/// - The archive is valid: `rkyv_c_open` returned 0 for the map's codes.
 ///
 /// # Errors
 ///
@@ -107,7 +57,7 @@ pub extern "C" fn rkyv_c_index_set_text(
 ///
 /// # Requires
 ///
-/// - The archive is valid: `rkyv_c_index_open_texts` returned 0.
+/// - The archive is valid: `rkyv_c_open` returned 0 for the map's codes.
 /// - `header` is its decoded header.
 #[unsafe(no_mangle)]
 pub extern "C" fn rkyv_c_index_texts_from<'a>(

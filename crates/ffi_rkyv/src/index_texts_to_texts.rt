@@ -1,66 +1,17 @@
 //! The calls for index maps of texts to texts.
 
-ghost use Rattle.std.specs.Prelude.{map, ◌≡◌};
-ghost use Rattle.ffi_calls.specs.{Explains, IndexOfTextTextsFails, IsHeaderOf, IsIndexOfTextTexts};
-ghost use Rattle.ffi_calls.specs.{IsTextTextIndex, Opens, Outputs, StoresListedTextTexts};
-ghost use Rattle.ffi_calls.specs.{StoresTextTexts, limit_of, text_text_index, text_text_index_in};
+ghost use Rattle.std.specs.Prelude.{map};
+ghost use Rattle.ffi_calls.specs.{IndexOfTextTextsFails, IsHeaderOf, IsIndexOfTextTexts};
+ghost use Rattle.ffi_calls.specs.{IsTextTextIndex, Outputs, StoresListedTextTexts, StoresTextTexts};
+ghost use Rattle.ffi_calls.specs.{text_text_index_in};
 ghost use Rattle.ffi_rkyv.specs.Pairs.{text_text_pair};
 
 use crate::pairs::TextTextPair;
 use ffi_calls::building::Built;
-use ffi_calls::explanation::Explanation;
 use ffi_calls::index_text_items::build_index_texts_to_texts;
-use ffi_calls::index_texts_to_texts::{
-    decode_index_texts_to_texts, explain_index_texts_to_texts, index_text_texts_from,
-    open_index_texts_to_texts,
-};
+use ffi_calls::index_texts_to_texts::index_text_texts_from;
 use rkyv_table::table::decoded::Decoded;
 use std::alloc::Global;
-
-/// Validates the archive of an index map of texts to texts.
-///
-/// # Errors
-///
-/// - 16 to 23: the first validation error.
-#[unsafe(no_mangle)]
-pub extern "C" fn rkyv_c_index_open_texts_to_texts(archive: &[u8], wide: bool) -> u32
-    ensures status { Opens (limit_of wide) (text_text_index wide) archive.now result }
-    ensures accepts { IsTextTextIndex wide archive.now → result ≡ 0 }
-{
-    open_index_texts_to_texts(archive, wide)
-}
-
-/// Validates the archive of an index map of texts to texts.
-///
-/// Stores the first error with its numbers.
-#[unsafe(no_mangle)]
-pub extern "C" fn rkyv_c_index_explain_texts_to_texts(
-    archive: &[u8],
-    wide: bool,
-    explanation: &mut Explanation,
-)
-    ensures { Explains (limit_of wide) (text_text_index wide) archive.now
-        explanation.new }
-{
-    *explanation = explain_index_texts_to_texts(archive, wide);
-}
-
-/// Stores the decoded header of the index map in `header`, for lookups and iteration.
-///
-/// # Requires
-///
-/// - The archive is valid: `rkyv_c_index_open_texts_to_texts` returned 0.
-#[unsafe(no_mangle)]
-pub extern "C" fn rkyv_c_index_decode_texts_to_texts(
-    archive: &[u8],
-    wide: bool,
-    header: &mut Decoded,
-)
-    requires { IsTextTextIndex wide archive.now }
-    ensures { IsHeaderOf (text_text_index_in wide archive.now) header.new }
-{
-    *header = decode_index_texts_to_texts(archive, wide);
-}
 
 /// Stores the pairs from the index `from` on, in insertion order, and returns their number.
 ///
@@ -68,7 +19,7 @@ pub extern "C" fn rkyv_c_index_decode_texts_to_texts(
 ///
 /// # Requires
 ///
-/// - The archive is valid: `rkyv_c_index_open_texts_to_texts` returned 0.
+/// - The archive is valid: `rkyv_c_open` returned 0 for the map's codes.
 /// - `header` is its decoded header.
 #[unsafe(no_mangle)]
 pub extern "C" fn rkyv_c_index_text_texts_from<'a>(

@@ -7,6 +7,7 @@
 //! A call that returns a `u32` returns a status: 0 on success, otherwise one of its errors.
 #![tactic(auto)]
 
+mod archives;
 mod containers;
 mod index_long_lookups;
 mod index_long_numbers;

@@ -14,7 +14,7 @@ use rkyv_table::table::decoded::Decoded;
 ///
 /// # Requires
 ///
-/// - The archive is valid: `rkyv_c_open_long_numbers` returned 0.
+/// - The archive is valid: `rkyv_c_open` returned 0 for the map's codes.
 /// - `header` is its decoded header.
 ///
 /// # Errors
@@ -42,7 +42,7 @@ pub extern "C" fn rkyv_c_get_long_number_u32_narrow(
 ///
 /// # Requires
 ///
-/// - The archive is valid: `rkyv_c_open_long_numbers` returned 0.
+/// - The archive is valid: `rkyv_c_open` returned 0 for the map's codes.
 /// - `header` is its decoded header.
 ///
 /// # Errors
@@ -69,7 +69,7 @@ pub extern "C" fn rkyv_c_get_long_number_u64_narrow(
 ///
 /// # Requires
 ///
-/// - The archive is valid: `rkyv_c_open_long_numbers` returned 0.
+/// - The archive is valid: `rkyv_c_open` returned 0 for the map's codes.
 /// - `header` is its decoded header.
 ///
 /// # Errors
@@ -96,7 +96,7 @@ pub extern "C" fn rkyv_c_get_long_number_u32_wide(
 ///
 /// # Requires
 ///
-/// - The archive is valid: `rkyv_c_open_long_numbers` returned 0.
+/// - The archive is valid: `rkyv_c_open` returned 0 for the map's codes.
 /// - `header` is its decoded header.
 ///
 /// # Errors

@@ -1,68 +1,19 @@
 //! The calls for maps of numbers of 64 bits.
 
-ghost use Rattle.std.specs.Prelude.{map, ◌≡◌};
-ghost use Rattle.ffi_calls.specs.{ArchiveOfNumbersFails, Explains, IsArchiveOfNumbers, IsHeaderOf};
-ghost use Rattle.ffi_calls.specs.{IsNumberArchive, KeepsHeader, Opens, Outputs, SetsFirstNumber};
-ghost use Rattle.ffi_calls.specs.{SetsNumber, StoresNextNumbers, form_of, limit_of, long_key};
-ghost use Rattle.ffi_calls.specs.{number_map, numbers_at, numbers_in};
+ghost use Rattle.std.specs.Prelude.{map};
+ghost use Rattle.ffi_calls.specs.{ArchiveOfNumbersFails, IsArchiveOfNumbers, IsHeaderOf};
+ghost use Rattle.ffi_calls.specs.{IsNumberArchive, KeepsHeader, Outputs, SetsFirstNumber};
+ghost use Rattle.ffi_calls.specs.{SetsNumber, StoresNextNumbers, form_of, long_key, numbers_at};
+ghost use Rattle.ffi_calls.specs.{numbers_in};
 ghost use Rattle.ffi_rkyv.specs.Pairs.{long_number_pair, long_number_step};
 
 use crate::pairs::{LongNumberPair, LongNumberStep};
 use ffi_calls::building::Built;
-use ffi_calls::explanation::Explanation;
 use ffi_calls::form::Form;
 use ffi_calls::number_items::build_numbers;
-use ffi_calls::numbers::{decode_numbers, explain_numbers, next_numbers, open_numbers, set_number};
+use ffi_calls::numbers::{next_numbers, set_number};
 use rkyv_table::table::decoded::Decoded;
 use std::alloc::Global;
-
-/// Validates the archive of a map of numbers of 64 bits.
-///
-/// # Errors
-///
-/// - 16 to 23: the first validation error.
-#[unsafe(no_mangle)]
-pub extern "C" fn rkyv_c_open_long_numbers(archive: &[u8], long_values: bool, wide: bool) -> u32
-    ensures status { Opens (limit_of wide) (number_map long_key (form_of long_values wide))
-        archive.now result }
-    ensures accepts { IsNumberArchive long_key (form_of long_values wide) archive.now → result ≡ 0 }
-{
-    open_numbers::<u64>(archive, Form { long_values, wide })
-}
-
-/// Validates the archive of a map of numbers of 64 bits.
-///
-/// Stores the first error with its numbers.
-#[unsafe(no_mangle)]
-pub extern "C" fn rkyv_c_explain_long_numbers(
-    archive: &[u8],
-    long_values: bool,
-    wide: bool,
-    explanation: &mut Explanation,
-)
-    ensures { Explains (limit_of wide) (number_map long_key (form_of long_values wide)) archive.now
-        explanation.new }
-{
-    *explanation = explain_numbers::<u64>(archive, Form { long_values, wide });
-}
-
-/// Stores the decoded header of the map in `header`, for lookups and iteration.
-///
-/// # Requires
-///
-/// - The archive is valid: `rkyv_c_open_long_numbers` returned 0.
-#[unsafe(no_mangle)]
-pub extern "C" fn rkyv_c_decode_long_numbers(
-    archive: &[u8],
-    long_values: bool,
-    wide: bool,
-    header: &mut Decoded,
-)
-    requires { IsNumberArchive long_key (form_of long_values wide) archive.now }
-    ensures { IsHeaderOf (numbers_in long_key (form_of long_values wide) archive.now) header.new }
-{
-    *header = decode_numbers::<u64>(archive, Form { long_values, wide });
-}
 
 /// Looks up a key, and overwrites its value in place.
 ///
@@ -70,7 +21,7 @@ pub extern "C" fn rkyv_c_decode_long_numbers(
 ///
 /// # Requires
 ///
-/// - The archive is valid: `rkyv_c_open_long_numbers` returned 0.
+/// - The archive is valid: `rkyv_c_open` returned 0 for the map's codes.
 ///
 /// # Errors
 ///
@@ -105,7 +56,7 @@ pub extern "C" fn rkyv_c_set_long_number(
 ///
 /// # Requires
 ///
-/// - The archive is valid: `rkyv_c_open_long_numbers` returned 0.
+/// - The archive is valid: `rkyv_c_open` returned 0 for the map's codes.
 /// - `header` is its decoded header.
 #[unsafe(no_mangle)]
 pub extern "C" fn rkyv_c_next_long_numbers(

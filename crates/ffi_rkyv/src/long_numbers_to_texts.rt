@@ -1,65 +1,17 @@
 //! The calls for maps of numbers of 64 bits to texts.
 
-ghost use Rattle.std.specs.Prelude.{map, ◌≡◌};
-ghost use Rattle.ffi_calls.specs.{ArchiveOfNumberTextsFails, Explains, IsArchiveOfNumberTexts};
-ghost use Rattle.ffi_calls.specs.{IsHeaderOf, IsNumberTextArchive, Opens, Outputs};
-ghost use Rattle.ffi_calls.specs.{StoresNextNumberTexts, limit_of, long_key, number_keys_at};
-ghost use Rattle.ffi_calls.specs.{number_text_map, number_texts_in};
+ghost use Rattle.std.specs.Prelude.{map};
+ghost use Rattle.ffi_calls.specs.{ArchiveOfNumberTextsFails, IsArchiveOfNumberTexts, IsHeaderOf};
+ghost use Rattle.ffi_calls.specs.{IsNumberTextArchive, Outputs, StoresNextNumberTexts, long_key};
+ghost use Rattle.ffi_calls.specs.{number_keys_at, number_texts_in};
 ghost use Rattle.ffi_rkyv.specs.Pairs.{long_number_text_pair, long_number_text_step};
 
 use crate::pairs::{LongNumberTextPair, LongNumberTextStep};
 use ffi_calls::building::Built;
-use ffi_calls::explanation::Explanation;
-use ffi_calls::numbers_to_texts::{
-    decode_numbers_to_texts, explain_numbers_to_texts, next_number_texts, open_numbers_to_texts,
-};
+use ffi_calls::numbers_to_texts::next_number_texts;
 use ffi_calls::numbers_to_texts_items::build_numbers_to_texts;
 use rkyv_table::table::decoded::Decoded;
 use std::alloc::Global;
-
-/// Validates the archive of a map of numbers of 64 bits to texts.
-///
-/// # Errors
-///
-/// - 16 to 23: the first validation error.
-#[unsafe(no_mangle)]
-pub extern "C" fn rkyv_c_open_long_numbers_to_texts(archive: &[u8], wide: bool) -> u32
-    ensures status { Opens (limit_of wide) (number_text_map long_key wide) archive.now result }
-    ensures accepts { IsNumberTextArchive long_key wide archive.now → result ≡ 0 }
-{
-    open_numbers_to_texts::<u64>(archive, wide)
-}
-
-/// Validates the archive of a map of numbers of 64 bits to texts.
-///
-/// Stores the first error with its numbers.
-#[unsafe(no_mangle)]
-pub extern "C" fn rkyv_c_explain_long_numbers_to_texts(
-    archive: &[u8],
-    wide: bool,
-    explanation: &mut Explanation,
-)
-    ensures { Explains (limit_of wide) (number_text_map long_key wide) archive.now explanation.new }
-{
-    *explanation = explain_numbers_to_texts::<u64>(archive, wide);
-}
-
-/// Stores the decoded header of the map in `header`, for lookups and iteration.
-///
-/// # Requires
-///
-/// - The archive is valid: `rkyv_c_open_long_numbers_to_texts` returned 0.
-#[unsafe(no_mangle)]
-pub extern "C" fn rkyv_c_decode_long_numbers_to_texts(
-    archive: &[u8],
-    wide: bool,
-    header: &mut Decoded,
-)
-    requires { IsNumberTextArchive long_key wide archive.now }
-    ensures { IsHeaderOf (number_texts_in long_key wide archive.now) header.new }
-{
-    *header = decode_numbers_to_texts::<u64>(archive, wide);
-}
 
 /// Stores the next pairs from the bucket `from` on, in bucket order, and returns their number.
 ///
@@ -68,7 +20,7 @@ pub extern "C" fn rkyv_c_decode_long_numbers_to_texts(
 ///
 /// # Requires
 ///
-/// - The archive is valid: `rkyv_c_open_long_numbers_to_texts` returned 0.
+/// - The archive is valid: `rkyv_c_open` returned 0 for the map's codes.
 /// - `header` is its decoded header.
 #[unsafe(no_mangle)]
 pub extern "C" fn rkyv_c_next_long_number_texts<'a>(

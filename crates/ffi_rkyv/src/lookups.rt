@@ -17,7 +17,7 @@ use rkyv_table::table::decoded::Decoded;
 ///
 /// # Requires
 ///
-/// - The archive is valid: `rkyv_c_open_numbers` returned 0.
+/// - The archive is valid: `rkyv_c_open` returned 0 for the map's codes.
 /// - `header` is its decoded header.
 ///
 /// # Errors
@@ -45,7 +45,7 @@ pub extern "C" fn rkyv_c_get_number_u32_narrow(
 ///
 /// # Requires
 ///
-/// - The archive is valid: `rkyv_c_open_numbers` returned 0.
+/// - The archive is valid: `rkyv_c_open` returned 0 for the map's codes.
 /// - `header` is its decoded header.
 ///
 /// # Errors
@@ -73,7 +73,7 @@ pub extern "C" fn rkyv_c_get_number_u64_narrow(
 ///
 /// # Requires
 ///
-/// - The archive is valid: `rkyv_c_open_numbers` returned 0.
+/// - The archive is valid: `rkyv_c_open` returned 0 for the map's codes.
 /// - `header` is its decoded header.
 ///
 /// # Errors
@@ -101,7 +101,7 @@ pub extern "C" fn rkyv_c_get_number_u32_wide(
 ///
 /// # Requires
 ///
-/// - The archive is valid: `rkyv_c_open_numbers` returned 0.
+/// - The archive is valid: `rkyv_c_open` returned 0 for the map's codes.
 /// - `header` is its decoded header.
 ///
 /// # Errors
@@ -128,7 +128,7 @@ pub extern "C" fn rkyv_c_get_number_u64_wide(
 ///
 /// # Requires
 ///
-/// - The archive is valid: `rkyv_c_open_texts` returned 0.
+/// - The archive is valid: `rkyv_c_open` returned 0 for the map's codes.
 /// - `header` is its decoded header.
 ///
 /// # Errors
@@ -158,7 +158,7 @@ pub extern "C" fn rkyv_c_get_text_u32_narrow(
 ///
 /// # Requires
 ///
-/// - The archive is valid: `rkyv_c_open_texts` returned 0.
+/// - The archive is valid: `rkyv_c_open` returned 0 for the map's codes.
 /// - `header` is its decoded header.
 ///
 /// # Errors
@@ -188,7 +188,7 @@ pub extern "C" fn rkyv_c_get_text_u64_narrow(
 ///
 /// # Requires
 ///
-/// - The archive is valid: `rkyv_c_open_texts` returned 0.
+/// - The archive is valid: `rkyv_c_open` returned 0 for the map's codes.
 /// - `header` is its decoded header.
 ///
 /// # Errors
@@ -218,7 +218,7 @@ pub extern "C" fn rkyv_c_get_text_u32_wide(
 ///
 /// # Requires
 ///
-/// - The archive is valid: `rkyv_c_open_texts` returned 0.
+/// - The archive is valid: `rkyv_c_open` returned 0 for the map's codes.
 /// - `header` is its decoded header.
 ///
 /// # Errors

@@ -1,57 +1,16 @@
 //! The calls for sets of numbers of 32 bits.
 
-ghost use Rattle.std.specs.Prelude.{map, ◌≡◌};
-ghost use Rattle.ffi_calls.specs.{ArchiveOfNumberSetFails, Explains, IsArchiveOfNumberSet};
-ghost use Rattle.ffi_calls.specs.{IsHeaderOf, IsNumberSet, Opens, Outputs, StoresNextNumberMembers};
-ghost use Rattle.ffi_calls.specs.{limit_of, number_keys_at, number_set, number_set_in, short_key};
+ghost use Rattle.std.specs.Prelude.{map};
+ghost use Rattle.ffi_calls.specs.{ArchiveOfNumberSetFails, IsArchiveOfNumberSet, IsHeaderOf};
+ghost use Rattle.ffi_calls.specs.{IsNumberSet, Outputs, StoresNextNumberMembers, number_keys_at};
+ghost use Rattle.ffi_calls.specs.{number_set_in, short_key};
 ghost use Rattle.ffi_rkyv.specs.Pairs.{number_member};
 
 use crate::pairs::NumberMember;
 use ffi_calls::building::Built;
-use ffi_calls::explanation::Explanation;
-use ffi_calls::number_sets::{
-    build_number_set, decode_number_set, explain_number_set, next_number_members, open_number_set,
-};
+use ffi_calls::number_sets::{build_number_set, next_number_members};
 use rkyv_table::table::decoded::Decoded;
 use std::alloc::Global;
-
-/// Validates the archive of a set of numbers.
-///
-/// # Errors
-///
-/// - 16 to 23: the first validation error.
-#[unsafe(no_mangle)]
-pub extern "C" fn rkyv_c_open_number_set(archive: &[u8], wide: bool) -> u32
-    ensures status { Opens (limit_of wide) (number_set short_key wide) archive.now result }
-    ensures accepts { IsNumberSet short_key wide archive.now → result ≡ 0 }
-{
-    open_number_set::<u32>(archive, wide)
-}
-
-/// Validates the archive of a set of numbers, and stores the first error with its numbers.
-#[unsafe(no_mangle)]
-pub extern "C" fn rkyv_c_explain_number_set(
-    archive: &[u8],
-    wide: bool,
-    explanation: &mut Explanation,
-)
-    ensures { Explains (limit_of wide) (number_set short_key wide) archive.now explanation.new }
-{
-    *explanation = explain_number_set::<u32>(archive, wide);
-}
-
-/// Stores the decoded header of the set in `header`, for lookups and iteration.
-///
-/// # Requires
-///
-/// - The archive is valid: `rkyv_c_open_number_set` returned 0.
-#[unsafe(no_mangle)]
-pub extern "C" fn rkyv_c_decode_number_set(archive: &[u8], wide: bool, header: &mut Decoded)
-    requires { IsNumberSet short_key wide archive.now }
-    ensures { IsHeaderOf (number_set_in short_key wide archive.now) header.new }
-{
-    *header = decode_number_set::<u32>(archive, wide);
-}
 
 /// Stores the next items from the bucket `from` on, in bucket order, and returns their number.
 ///
@@ -60,7 +19,7 @@ pub extern "C" fn rkyv_c_decode_number_set(archive: &[u8], wide: bool, header: &
 ///
 /// # Requires
 ///
-/// - The archive is valid: `rkyv_c_open_number_set` returned 0.
+/// - The archive is valid: `rkyv_c_open` returned 0 for the set's codes.
 /// - `header` is its decoded header.
 #[unsafe(no_mangle)]
 pub extern "C" fn rkyv_c_next_number_members(

@@ -1,67 +1,19 @@
 //! The calls for maps of numbers of 32 bits.
 
-ghost use Rattle.std.specs.Prelude.{map, ◌≡◌};
-ghost use Rattle.ffi_calls.specs.{ArchiveOfNumbersFails, Explains, IsArchiveOfNumbers, IsHeaderOf};
-ghost use Rattle.ffi_calls.specs.{IsNumberArchive, KeepsHeader, Opens, Outputs, SetsFirstNumber};
-ghost use Rattle.ffi_calls.specs.{SetsNumber, StoresNextNumbers, form_of, limit_of, number_map};
-ghost use Rattle.ffi_calls.specs.{numbers_at, numbers_in, short_key};
+ghost use Rattle.std.specs.Prelude.{map};
+ghost use Rattle.ffi_calls.specs.{ArchiveOfNumbersFails, IsArchiveOfNumbers, IsHeaderOf};
+ghost use Rattle.ffi_calls.specs.{IsNumberArchive, KeepsHeader, Outputs, SetsFirstNumber};
+ghost use Rattle.ffi_calls.specs.{SetsNumber, StoresNextNumbers, form_of, numbers_at, numbers_in};
+ghost use Rattle.ffi_calls.specs.{short_key};
 ghost use Rattle.ffi_rkyv.specs.Pairs.{number_pair, number_step};
 
 use crate::pairs::{NumberPair, NumberStep};
 use ffi_calls::building::Built;
-use ffi_calls::explanation::Explanation;
 use ffi_calls::form::Form;
 use ffi_calls::number_items::build_numbers;
-use ffi_calls::numbers::{decode_numbers, explain_numbers, next_numbers, open_numbers, set_number};
+use ffi_calls::numbers::{next_numbers, set_number};
 use rkyv_table::table::decoded::Decoded;
 use std::alloc::Global;
-
-/// Validates the archive of a map of numbers.
-///
-/// # Errors
-///
-/// - 16 to 23: the first validation error.
-#[unsafe(no_mangle)]
-pub extern "C" fn rkyv_c_open_numbers(archive: &[u8], long_values: bool, wide: bool) -> u32
-    ensures status { Opens (limit_of wide) (number_map short_key (form_of long_values wide))
-        archive.now result }
-    ensures accepts { IsNumberArchive short_key (form_of long_values wide) archive.now
-        → result ≡ 0 }
-{
-    open_numbers::<u32>(archive, Form { long_values, wide })
-}
-
-/// Validates the archive of a map of numbers, and stores the first error with its numbers.
-#[unsafe(no_mangle)]
-pub extern "C" fn rkyv_c_explain_numbers(
-    archive: &[u8],
-    long_values: bool,
-    wide: bool,
-    explanation: &mut Explanation,
-)
-    ensures { Explains (limit_of wide) (number_map short_key (form_of long_values wide)) archive.now
-        explanation.new }
-{
-    *explanation = explain_numbers::<u32>(archive, Form { long_values, wide });
-}
-
-/// Stores the decoded header of the map in `header`, for lookups and iteration.
-///
-/// # Requires
-///
-/// - The archive is valid: `rkyv_c_open_numbers` returned 0.
-#[unsafe(no_mangle)]
-pub extern "C" fn rkyv_c_decode_numbers(
-    archive: &[u8],
-    long_values: bool,
-    wide: bool,
-    header: &mut Decoded,
-)
-    requires { IsNumberArchive short_key (form_of long_values wide) archive.now }
-    ensures { IsHeaderOf (numbers_in short_key (form_of long_values wide) archive.now) header.new }
-{
-    *header = decode_numbers::<u32>(archive, Form { long_values, wide });
-}
 
 /// Looks up a key, and overwrites its value in place.
 ///
@@ -69,7 +21,7 @@ pub extern "C" fn rkyv_c_decode_numbers(
 ///
 /// # Requires
 ///
-/// - The archive is valid: `rkyv_c_open_numbers` returned 0.
+/// - The archive is valid: `rkyv_c_open` returned 0 for the map's codes.
 ///
 /// # Errors
 ///
@@ -104,7 +56,7 @@ pub extern "C" fn rkyv_c_set_number(
 ///
 /// # Requires
 ///
-/// - The archive is valid: `rkyv_c_open_numbers` returned 0.
+/// - The archive is valid: `rkyv_c_open` returned 0 for the map's codes.
 /// - `header` is its decoded header.
 #[unsafe(no_mangle)]
 pub extern "C" fn rkyv_c_next_numbers(

@@ -16,7 +16,7 @@ use rkyv_table::table::decoded::Decoded;
 ///
 /// # Requires
 ///
-/// - The archive is valid: `rkyv_c_open_number_set` returned 0.
+/// - The archive is valid: `rkyv_c_open` returned 0 for the set's codes.
 /// - `header` is its decoded header.
 ///
 /// # Errors
@@ -36,7 +36,7 @@ pub extern "C" fn rkyv_c_contains_number_narrow(archive: &[u8], header: &Decoded
 ///
 /// # Requires
 ///
-/// - The archive is valid: `rkyv_c_open_number_set` returned 0.
+/// - The archive is valid: `rkyv_c_open` returned 0 for the set's codes.
 /// - `header` is its decoded header.
 ///
 /// # Errors
@@ -56,7 +56,7 @@ pub extern "C" fn rkyv_c_contains_number_wide(archive: &[u8], header: &Decoded, 
 ///
 /// # Requires
 ///
-/// - The archive is valid: `rkyv_c_open_long_number_set` returned 0.
+/// - The archive is valid: `rkyv_c_open` returned 0 for the set's codes.
 /// - `header` is its decoded header.
 ///
 /// # Errors
@@ -80,7 +80,7 @@ pub extern "C" fn rkyv_c_contains_long_number_narrow(
 ///
 /// # Requires
 ///
-/// - The archive is valid: `rkyv_c_open_long_number_set` returned 0.
+/// - The archive is valid: `rkyv_c_open` returned 0 for the set's codes.
 /// - `header` is its decoded header.
 ///
 /// # Errors
@@ -104,7 +104,7 @@ pub extern "C" fn rkyv_c_contains_long_number_wide(
 ///
 /// # Requires
 ///
-/// - The archive is valid: `rkyv_c_open_text_set` returned 0.
+/// - The archive is valid: `rkyv_c_open` returned 0 for the set's codes.
 /// - `header` is its decoded header.
 ///
 /// # Errors
@@ -125,7 +125,7 @@ pub extern "C" fn rkyv_c_contains_text_narrow(archive: &[u8], header: &Decoded, 
 ///
 /// # Requires
 ///
-/// - The archive is valid: `rkyv_c_open_text_set` returned 0.
+/// - The archive is valid: `rkyv_c_open` returned 0 for the set's codes.
 /// - `header` is its decoded header.
 ///
 /// # Errors

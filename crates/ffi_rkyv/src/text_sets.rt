@@ -1,52 +1,16 @@
 //! The calls for sets of texts.
 
-ghost use Rattle.std.specs.Prelude.{map, ◌≡◌};
-ghost use Rattle.ffi_calls.specs.{ArchiveOfTextSetFails, Explains, IsArchiveOfTextSet, IsHeaderOf};
-ghost use Rattle.ffi_calls.specs.{IsTextSet, Opens, Outputs, StoresNextTextMembers, limit_of};
-ghost use Rattle.ffi_calls.specs.{text_set, text_set_in};
+ghost use Rattle.std.specs.Prelude.{map};
+ghost use Rattle.ffi_calls.specs.{ArchiveOfTextSetFails, IsArchiveOfTextSet, IsHeaderOf, IsTextSet};
+ghost use Rattle.ffi_calls.specs.{Outputs, StoresNextTextMembers, text_set_in};
 ghost use Rattle.ffi_rkyv.specs.Pairs.{text_member};
 
 use crate::pairs::TextMember;
 use ffi_calls::building::Built;
-use ffi_calls::explanation::Explanation;
 use ffi_calls::text_set_items::{SetText, build_text_set};
-use ffi_calls::text_sets::{decode_text_set, explain_text_set, next_text_members, open_text_set};
+use ffi_calls::text_sets::next_text_members;
 use rkyv_table::table::decoded::Decoded;
 use std::alloc::Global;
-
-/// Validates the archive of a set of texts.
-///
-/// # Errors
-///
-/// - 16 to 23: the first validation error.
-#[unsafe(no_mangle)]
-pub extern "C" fn rkyv_c_open_text_set(archive: &[u8], wide: bool) -> u32
-    ensures status { Opens (limit_of wide) (text_set wide) archive.now result }
-    ensures accepts { IsTextSet wide archive.now → result ≡ 0 }
-{
-    open_text_set(archive, wide)
-}
-
-/// Validates the archive of a set of texts, and stores the first error with its numbers.
-#[unsafe(no_mangle)]
-pub extern "C" fn rkyv_c_explain_text_set(archive: &[u8], wide: bool, explanation: &mut Explanation)
-    ensures { Explains (limit_of wide) (text_set wide) archive.now explanation.new }
-{
-    *explanation = explain_text_set(archive, wide);
-}
-
-/// Stores the decoded header of the set in `header`, for lookups and iteration.
-///
-/// # Requires
-///
-/// - The archive is valid: `rkyv_c_open_text_set` returned 0.
-#[unsafe(no_mangle)]
-pub extern "C" fn rkyv_c_decode_text_set(archive: &[u8], wide: bool, header: &mut Decoded)
-    requires { IsTextSet wide archive.now }
-    ensures { IsHeaderOf (text_set_in wide archive.now) header.new }
-{
-    *header = decode_text_set(archive, wide);
-}
 
 /// Stores the next items from the bucket `from` on, in bucket order, and returns their number.
 ///
@@ -55,7 +19,7 @@ pub extern "C" fn rkyv_c_decode_text_set(archive: &[u8], wide: bool, header: &mu
 ///
 /// # Requires
 ///
-/// - The archive is valid: `rkyv_c_open_text_set` returned 0.
+/// - The archive is valid: `rkyv_c_open` returned 0 for the set's codes.
 /// - `header` is its decoded header.
 #[unsafe(no_mangle)]
 pub extern "C" fn rkyv_c_next_text_members<'a>(

@@ -18,7 +18,7 @@ use rkyv_table::table::decoded::Decoded;
 ///
 /// # Requires
 ///
-/// - The archive is valid: `rkyv_c_open_numbers_to_texts` returned 0.
+/// - The archive is valid: `rkyv_c_open` returned 0 for the map's codes.
 /// - `header` is its decoded header.
 ///
 /// # Errors
@@ -45,7 +45,7 @@ pub extern "C" fn rkyv_c_get_text_of_number_narrow<'a>(
 ///
 /// # Requires
 ///
-/// - The archive is valid: `rkyv_c_open_numbers_to_texts` returned 0.
+/// - The archive is valid: `rkyv_c_open` returned 0 for the map's codes.
 /// - `header` is its decoded header.
 ///
 /// # Errors
@@ -72,7 +72,7 @@ pub extern "C" fn rkyv_c_get_text_of_number_wide<'a>(
 ///
 /// # Requires
 ///
-/// - The archive is valid: `rkyv_c_open_long_numbers_to_texts` returned 0.
+/// - The archive is valid: `rkyv_c_open` returned 0 for the map's codes.
 /// - `header` is its decoded header.
 ///
 /// # Errors
@@ -99,7 +99,7 @@ pub extern "C" fn rkyv_c_get_text_of_long_number_narrow<'a>(
 ///
 /// # Requires
 ///
-/// - The archive is valid: `rkyv_c_open_long_numbers_to_texts` returned 0.
+/// - The archive is valid: `rkyv_c_open` returned 0 for the map's codes.
 /// - `header` is its decoded header.
 ///
 /// # Errors
@@ -126,7 +126,7 @@ pub extern "C" fn rkyv_c_get_text_of_long_number_wide<'a>(
 ///
 /// # Requires
 ///
-/// - The archive is valid: `rkyv_c_open_texts_to_texts` returned 0.
+/// - The archive is valid: `rkyv_c_open` returned 0 for the map's codes.
 /// - `header` is its decoded header.
 ///
 /// # Errors
@@ -156,7 +156,7 @@ pub extern "C" fn rkyv_c_get_text_of_text_narrow<'a>(
 ///
 /// # Requires
 ///
-/// - The archive is valid: `rkyv_c_open_texts_to_texts` returned 0.
+/// - The archive is valid: `rkyv_c_open` returned 0 for the map's codes.
 /// - `header` is its decoded header.
 ///
 /// # Errors

@@ -1,66 +1,19 @@
 //! The calls for maps of texts.
 
-ghost use Rattle.std.specs.Prelude.{IsTrue, map, ◌↔◌, ◌≡◌};
+ghost use Rattle.std.specs.Prelude.{IsTrue, map, ◌↔◌};
 ghost use Rattle.std.specs.Str.{IsUtf8};
-ghost use Rattle.ffi_calls.specs.{ArchiveOfTextsFails, Explains, IsArchiveOfTexts, IsHeaderOf};
-ghost use Rattle.ffi_calls.specs.{IsTextArchive, KeepsHeader, Opens, Outputs, SetsFirstText};
-ghost use Rattle.ffi_calls.specs.{SetsText, StoresNextTexts, form_of, limit_of, text_map, texts_in};
+ghost use Rattle.ffi_calls.specs.{ArchiveOfTextsFails, IsArchiveOfTexts, IsHeaderOf, IsTextArchive};
+ghost use Rattle.ffi_calls.specs.{KeepsHeader, Outputs, SetsFirstText, SetsText, StoresNextTexts};
+ghost use Rattle.ffi_calls.specs.{form_of, texts_in};
 ghost use Rattle.ffi_rkyv.specs.Pairs.{text_pair, text_step};
 
 use crate::pairs::{TextPair, TextStep};
 use ffi_calls::building::Built;
-use ffi_calls::explanation::Explanation;
 use ffi_calls::form::Form;
 use ffi_calls::text_items::build_texts;
-use ffi_calls::texts::{decode_texts, explain_texts, is_text, next_texts, open_texts, set_text};
+use ffi_calls::texts::{is_text, next_texts, set_text};
 use rkyv_table::table::decoded::Decoded;
 use std::alloc::Global;
-
-/// Validates the archive of a map of texts.
-///
-/// # Errors
-///
-/// - 16 to 23: the first validation error.
-#[unsafe(no_mangle)]
-pub extern "C" fn rkyv_c_open_texts(archive: &[u8], long_values: bool, wide: bool) -> u32
-    ensures status { Opens (limit_of wide) (text_map (form_of long_values wide)) archive.now
-        result }
-    ensures accepts { IsTextArchive (form_of long_values wide) archive.now → result ≡ 0 }
-{
-    open_texts(archive, Form { long_values, wide })
-}
-
-/// Validates the archive of a map of texts, and stores the first error with its numbers.
-#[unsafe(no_mangle)]
-pub extern "C" fn rkyv_c_explain_texts(
-    archive: &[u8],
-    long_values: bool,
-    wide: bool,
-    explanation: &mut Explanation,
-)
-    ensures { Explains (limit_of wide) (text_map (form_of long_values wide)) archive.now
-        explanation.new }
-{
-    *explanation = explain_texts(archive, Form { long_values, wide });
-}
-
-/// Stores the decoded header of the map in `header`, for lookups and iteration.
-///
-/// # Requires
-///
-/// - The archive is valid: `rkyv_c_open_texts` returned 0.
-#[unsafe(no_mangle)]
-pub extern "C" fn rkyv_c_decode_texts(
-    archive: &[u8],
-    long_values: bool,
-    wide: bool,
-    header: &mut Decoded,
-)
-    requires { IsTextArchive (form_of long_values wide) archive.now }
-    ensures { IsHeaderOf (texts_in (form_of long_values wide) archive.now) header.new }
-{
-    *header = decode_texts(archive, Form { long_values, wide });
-}
 
 /// Looks up a key, and overwrites its value in place.
 ///
@@ -68,7 +21,7 @@ pub extern "C" fn rkyv_c_decode_texts(
 ///
 /// # Requires
 ///
-/// - The archive is valid: `rkyv_c_open_texts` returned 0.
+/// - The archive is valid: `rkyv_c_open` returned 0 for the map's codes.
 ///
 /// # Errors
 ///
@@ -104,7 +57,7 @@ pub extern "C" fn rkyv_c_set_text(
 ///
 /// # Requires
 ///
-/// - The archive is valid: `rkyv_c_open_texts` returned 0.
+/// - The archive is valid: `rkyv_c_open` returned 0 for the map's codes.
 /// - `header` is its decoded header.
 #[unsafe(no_mangle)]
 pub extern "C" fn rkyv_c_next_texts<'a>(

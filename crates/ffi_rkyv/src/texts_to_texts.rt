@@ -1,60 +1,16 @@
 //! The calls for maps of texts to texts.
 
-ghost use Rattle.std.specs.Prelude.{map, ◌≡◌};
-ghost use Rattle.ffi_calls.specs.{ArchiveOfTextTextsFails, Explains, IsArchiveOfTextTexts};
-ghost use Rattle.ffi_calls.specs.{IsHeaderOf, IsTextTextArchive, Opens, Outputs};
-ghost use Rattle.ffi_calls.specs.{StoresNextTextTexts, limit_of, text_text_map, text_texts_in};
+ghost use Rattle.std.specs.Prelude.{map};
+ghost use Rattle.ffi_calls.specs.{ArchiveOfTextTextsFails, IsArchiveOfTextTexts, IsHeaderOf};
+ghost use Rattle.ffi_calls.specs.{IsTextTextArchive, Outputs, StoresNextTextTexts, text_texts_in};
 ghost use Rattle.ffi_rkyv.specs.Pairs.{text_text_pair, text_text_step};
 
 use crate::pairs::{TextTextPair, TextTextStep};
 use ffi_calls::building::Built;
-use ffi_calls::explanation::Explanation;
-use ffi_calls::texts_to_texts::{
-    decode_texts_to_texts, explain_texts_to_texts, next_text_texts, open_texts_to_texts,
-};
+use ffi_calls::texts_to_texts::next_text_texts;
 use ffi_calls::texts_to_texts_items::build_texts_to_texts;
 use rkyv_table::table::decoded::Decoded;
 use std::alloc::Global;
-
-/// Validates the archive of a map of texts to texts.
-///
-/// # Errors
-///
-/// - 16 to 23: the first validation error.
-#[unsafe(no_mangle)]
-pub extern "C" fn rkyv_c_open_texts_to_texts(archive: &[u8], wide: bool) -> u32
-    ensures status { Opens (limit_of wide) (text_text_map wide) archive.now result }
-    ensures accepts { IsTextTextArchive wide archive.now → result ≡ 0 }
-{
-    open_texts_to_texts(archive, wide)
-}
-
-/// Validates the archive of a map of texts to texts.
-///
-/// Stores the first error with its numbers.
-#[unsafe(no_mangle)]
-pub extern "C" fn rkyv_c_explain_texts_to_texts(
-    archive: &[u8],
-    wide: bool,
-    explanation: &mut Explanation,
-)
-    ensures { Explains (limit_of wide) (text_text_map wide) archive.now explanation.new }
-{
-    *explanation = explain_texts_to_texts(archive, wide);
-}
-
-/// Stores the decoded header of the map in `header`, for lookups and iteration.
-///
-/// # Requires
-///
-/// - The archive is valid: `rkyv_c_open_texts_to_texts` returned 0.
-#[unsafe(no_mangle)]
-pub extern "C" fn rkyv_c_decode_texts_to_texts(archive: &[u8], wide: bool, header: &mut Decoded)
-    requires { IsTextTextArchive wide archive.now }
-    ensures { IsHeaderOf (text_texts_in wide archive.now) header.new }
-{
-    *header = decode_texts_to_texts(archive, wide);
-}
 
 /// Stores the next pairs from the bucket `from` on, in bucket order, and returns their number.
 ///
@@ -63,7 +19,7 @@ pub extern "C" fn rkyv_c_decode_texts_to_texts(archive: &[u8], wide: bool, heade
 ///
 /// # Requires
 ///
-/// - The archive is valid: `rkyv_c_open_texts_to_texts` returned 0.
+/// - The archive is valid: `rkyv_c_open` returned 0 for the map's codes.
 /// - `header` is its decoded header.
 #[unsafe(no_mangle)]
 pub extern "C" fn rkyv_c_next_text_texts<'a>(

@@ -3,17 +3,17 @@
 //! These calls don't validate an archive, so the three bytes are none.
 
 use crate::tests::expect_equal;
+use crate::tests::opened::{Contents, INDEX_MAP, MAP, SET, codes};
 use crate::tests::support::{Numbers, numbers_of, with_byte};
 use ffi_calls::containers::{
-    Codes, Opened, container_width, explain_container, open_container, update_container,
-    write_header,
+    Opened, container_width, explain_container, open_container, update_container, write_header,
 };
 use std::process::Abort;
 
-/// The container of the bytes 1, 2, 3 as a narrow map of texts to numbers of 64 bits.
-///
-/// The sums of Adler-32 are 1 + 1 + 2 + 3 = 7 and 3 + 3 * 1 + 2 * 2 + 3 = 13.
-pub(crate) const TEXTS: &[u8; 35] = &[
+// The container of the bytes 1, 2, 3 as a narrow map of texts to numbers of 64 bits.
+//
+// The sums of Adler-32 are 1 + 1 + 2 + 3 = 7 and 3 + 3 * 1 + 2 * 2 + 3 = 13.
+const TEXTS: &[u8; 35] = &[
     0x89, b'R', b'K', b'Y', b'V', b'\r', b'\n', 0x1a, // magic bytes
     1, 0, 1, 4, 0x18, 4, 1, 0, // version, hash map, text, u64, narrow, a checksum
     3, 0, 0, 0, 0, 0, 0, 0, // length
@@ -21,33 +21,11 @@ pub(crate) const TEXTS: &[u8; 35] = &[
     1, 2, 3,
 ];
 
-/// The codes of contents: the kind, the key or item, the value and the width.
-pub(crate) type Contents = (u8, u8, u8, u8);
-
-/// The kind of a hash map.
-pub(crate) const MAP: u8 = 1;
-
-// The kind of a set, whose value is 1.
-const SET: u8 = 2;
-
-// The kind of an index map.
-const INDEX_MAP: u8 = 3;
-
-/// The contents of `TEXTS`.
-pub(crate) const OF_TEXTS: Contents = (MAP, 4, 0x18, 4);
+// The contents of `TEXTS`.
+const OF_TEXTS: Contents = (MAP, 4, 0x18, 4);
 
 // The contents of an index map of texts to numbers of 64 bits.
 const OF_INDEX: Contents = (INDEX_MAP, 4, 0x18, 4);
-
-// Returns the codes of these contents.
-fn codes((kind, key, value, width): Contents) -> Codes {
-    Codes {
-        kind,
-        key,
-        value,
-        width,
-    }
-}
 
 // Returns the container of the bytes 1, 2, 3 with these contents.
 fn container((kind, key, value, width): Contents) -> [u8; 35] {
@@ -82,8 +60,8 @@ fn opened(bytes: &[u8], contents: Contents) -> (u32, usize) {
     (status, archive.len())
 }
 
-/// Returns the numbers of the first error of a container that is opened as these contents.
-pub(crate) fn explained(bytes: &[u8], contents: Contents) -> Numbers {
+// Returns the numbers of the first error of a container that is opened as these contents.
+fn explained(bytes: &[u8], contents: Contents) -> Numbers {
     numbers_of(explain_container(bytes, codes(contents)))
 }
 
@@ -95,9 +73,9 @@ fn expect_opened(rt: &impl Abort, rows: &[(Contents, Contents, (u32, usize))]) {
     }
 }
 
-/// Fails the test unless the first error of opening each container as other contents has these
+// Fails the test unless the first error of opening each container as other contents has these
 /// numbers. A row is the contents, the others, and the numbers.
-pub(crate) fn expect_explained(rt: &impl Abort, rows: &[(Contents, Contents, Numbers)]) {
+fn expect_explained(rt: &impl Abort, rows: &[(Contents, Contents, Numbers)]) {
     for (contents, others, expected) in rows {
         expect_equal(rt, explained(&container(*contents), *others), *expected);
     }
@@ -168,6 +146,15 @@ fn expect_statuses(rt: &impl Abort, rows: &[(usize, u8, u32)]) {
 fn expect_updated(rt: &impl Abort, rows: &[(usize, u8, (u32, u8))]) {
     for (pos, byte, expected) in rows {
         expect_equal(rt, updated_with(*pos, *byte), *expected);
+    }
+}
+
+// Fails the test unless the container of three bytes with another byte at a position has this
+// explanation.
+fn expect_container_with(rt: &impl Abort, rows: &[(usize, u8, Numbers)]) {
+    for (pos, byte, expected) in rows {
+        let bytes = with_byte(*TEXTS, *pos, *byte);
+        expect_equal(rt, explained(&bytes, OF_TEXTS), *expected);
     }
 }
 
@@ -377,4 +364,31 @@ fn updates_correct_the_checksum(rt: HostRuntime) {
     index[34] = 4;
     expect_eq!(rt; update_container(&mut index), 0);
     expect_eq!(rt; (index[10], index[24]), (3, 8));
+}
+
+// The sums of Adler-32 of 1, 2 and 4 are 8 and 14.
+#[test]
+fn containers_have_their_numbers(rt: HostRuntime) {
+    expect_container_with(
+        &rt,
+        &[
+            (0, 0x89, (0, 0, 0, 0)),
+            (1, b'r', (33, 0, 0, 0)),
+            (8, 2, (34, 0, 2, 0)),
+            (10, 9, (35, 0, 9, 0)),
+            (14, 3, (39, 0, 3, 0)),
+            (10, 2, (42, 0, 1, 2)),
+            (34, 4, (47, 0, 13 << 16 | 7, 14 << 16 | 8)),
+        ],
+    );
+    expect_explained(
+        &rt,
+        &[
+            (OF_TEXTS, (MAP, 0x14, 0x18, 4), (43, 0, 0x14, 4)),
+            (OF_TEXTS, (MAP, 4, 0x14, 4), (44, 0, 0x14, 0x18)),
+            (OF_TEXTS, (MAP, 4, 0x18, 8), (45, 0, 8, 4)),
+        ],
+    );
+    expect_eq!(rt; explained(&TEXTS[..31], OF_TEXTS), (32, 0, 31, 0));
+    expect_eq!(rt; explained(&TEXTS[..34], OF_TEXTS), (46, 0, 3, 2));
 }

@@ -1,41 +1,21 @@
 //! Tests of lookups in index maps of numbers, and of their pairs by index.
 
-ghost use Rattle.std.specs.Prelude.{IsTrue};
-ghost use Rattle.ffi_calls.specs.{IsNumberIndex};
-
 use crate::tests::expect_equal;
 use crate::tests::index_archives::{
     LONG_NUMBER_TWICE, NO_PAIRS, NO_WIDE_PAIRS, ONE_LONG_NUMBER, ONE_NUMBER, ONE_NUMBER_TWICE,
     ONE_WIDE_GREAT_NUMBER, ONE_WIDE_LONG_NUMBER, ONE_WIDE_NUMBER,
 };
+use crate::tests::opened::CodedKey;
 use crate::tests::support::GREAT;
 use ffi_calls::form::{Form, LONG, SHORT, WIDE, WIDE_LONG};
-use ffi_calls::index_numbers::{
-    decode_index_numbers, get_index_number, index_numbers_from, open_index_numbers,
-};
+use ffi_calls::index_numbers::{get_index_number, index_numbers_from};
 use ffi_calls::pairs::{Indexed, Pair};
-use ffi_calls::reading::NumberKey;
-use ffi_calls::status::DONE;
 use std::process::Abort;
-
-/// Returns whether the archive is valid in the form.
-pub(crate) fn is_map<K: NumberKey>(archive: &[u8], form: Form) -> bool
-    ensures { IsTrue result → IsNumberIndex K.NumberKey form archive.now }
-{
-    if open_index_numbers::<K>(archive, form) == DONE {
-        true
-    } else {
-        false
-    }
-}
 
 // Returns the number of pairs, and the status, the index and the value of a lookup.
 // It replaces the index 8 and the value 9.
-fn lookup<K: NumberKey>(archive: &[u8], form: Form, key: K) -> Option<(usize, u32, usize, u64)> {
-    if !is_map::<K>(archive, form) {
-        return None;
-    }
-    let header = decode_index_numbers::<K>(archive, form);
+fn lookup<K: CodedKey>(archive: &[u8], form: Form, key: K) -> Option<(usize, u32, usize, u64)> {
+    let header = K::index_header(archive, form)?;
     let mut found = Indexed {
         index: 8,
         value: 9u64,
@@ -46,16 +26,13 @@ fn lookup<K: NumberKey>(archive: &[u8], form: Form, key: K) -> Option<(usize, u3
 }
 
 // Stores the pairs from an index on, and returns their number.
-fn read<K: NumberKey>(
+fn read<K: CodedKey>(
     archive: &[u8],
     form: Form,
     from: usize,
     pairs: &mut [Pair<K, u64>],
 ) -> Option<usize> {
-    if !is_map::<K>(archive, form) {
-        return None;
-    }
-    let header = decode_index_numbers::<K>(archive, form);
+    let header = K::index_header(archive, form)?;
     Some(index_numbers_from(archive, form, &header, from, pairs))
 }
 

@@ -1,47 +1,26 @@
 //! Tests of lookups in index maps of numbers to texts, and of their pairs by index.
 
-ghost use Rattle.std.specs.Prelude.{IsTrue};
-ghost use Rattle.ffi_calls.specs.{IsNumberTextIndex};
-
 use crate::tests::expect_equal;
 use crate::tests::index_archives::{NO_PAIRS, NO_WIDE_PAIRS};
 use crate::tests::index_text_archives::{
     GREAT_TO_WIDE_TEXT, LONG_TO_TEA, LONG_TO_TWO_TEXTS, ONE_TO_TEA, ONE_TO_TWO_TEXTS,
     ONE_TO_WIDE_TEXT,
 };
+use crate::tests::opened::CodedKey;
 use crate::tests::support::GREAT;
-use ffi_calls::index_numbers_to_texts::{
-    decode_index_numbers_to_texts, get_index_text_of_number, index_number_texts_from,
-    open_index_numbers_to_texts,
-};
+use ffi_calls::index_numbers_to_texts::{get_index_text_of_number, index_number_texts_from};
 use ffi_calls::pairs::{Indexed, Pair};
-use ffi_calls::reading::NumberKey;
-use ffi_calls::status::DONE;
 use std::process::Abort;
-
-// Returns whether the archive is valid.
-fn is_map<K: NumberKey>(archive: &[u8], wide: bool) -> bool
-    ensures { IsTrue result → IsNumberTextIndex K.NumberKey wide archive.now }
-{
-    if open_index_numbers_to_texts::<K>(archive, wide) == DONE {
-        true
-    } else {
-        false
-    }
-}
 
 // Returns the number of pairs, and the status and the index of a lookup, if the value is `expected`
 // afterwards. The index is 8 and the value `?` at first.
-fn lookup<'a, K: NumberKey>(
+fn lookup<'a, K: CodedKey>(
     archive: &'a [u8],
     wide: bool,
     key: K,
     expected: &[u8],
 ) -> Option<(usize, u32, usize)> {
-    if !is_map::<K>(archive, wide) {
-        return None;
-    }
-    let header = decode_index_numbers_to_texts::<K>(archive, wide);
+    let header = K::index_texts_header(archive, wide)?;
     let value: &'a [u8] = b"?";
     let mut found = Indexed { index: 8, value };
     let status = get_index_text_of_number(archive, wide, &header, key, &mut found);
@@ -79,10 +58,7 @@ fn several(
     first: (u32, &[u8]),
     second: (u32, &[u8]),
 ) -> Option<usize> {
-    if !is_map::<u32>(archive, wide) {
-        return None;
-    }
-    let header = decode_index_numbers_to_texts::<u32>(archive, wide);
+    let header = u32::index_texts_header(archive, wide)?;
     let mut pairs = [NINE; 2];
     let count = index_number_texts_from(archive, wide, &header, from, &mut pairs);
     (is_pair(pairs[0], first.0, first.1) && is_pair(pairs[1], second.0, second.1)).then_some(count)
@@ -96,10 +72,7 @@ fn several_long(
     first: (u64, &[u8]),
     second: (u64, &[u8]),
 ) -> Option<usize> {
-    if !is_map::<u64>(archive, wide) {
-        return None;
-    }
-    let header = decode_index_numbers_to_texts::<u64>(archive, wide);
+    let header = u64::index_texts_header(archive, wide)?;
     let mut pairs = [LONG_NINE; 2];
     let count = index_number_texts_from(archive, wide, &header, from, &mut pairs);
     let right = is_long_pair(pairs[0], first.0, first.1)

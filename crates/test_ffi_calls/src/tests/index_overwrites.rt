@@ -1,49 +1,44 @@
 //! Tests of overwrites in index maps of numbers and of texts.
 
+use crate::tests::expect_equal;
 use crate::tests::index_archives::{
     EMPTY_TEXT, EMPTY_WIDE_TEXT, LONG_NUMBER_TWICE, NO_PAIRS, ONE_LONG_NUMBER, ONE_NUMBER,
     ONE_NUMBER_TWICE, ONE_SYMBOL, ONE_WIDE_GREAT_NUMBER, ONE_WIDE_LONG_NUMBER, ONE_WIDE_NUMBER,
     TWO_TEXTS,
 };
+use crate::tests::opened::{CodedKey, text_index_header};
 use crate::tests::support::{GREAT, with_bytes};
-use crate::tests::{expect_equal, index_numbers, index_texts};
 use ffi_calls::form::{Form, LONG, SHORT, WIDE, WIDE_LONG};
-use ffi_calls::index_numbers::{decode_index_numbers, get_index_number, set_index_number};
-use ffi_calls::index_texts::{decode_index_texts, get_index_text, set_index_text};
+use ffi_calls::index_numbers::{get_index_number, set_index_number};
+use ffi_calls::index_texts::{get_index_text, set_index_text};
 use ffi_calls::pairs::Indexed;
-use ffi_calls::reading::NumberKey;
 use std::process::Abort;
 
 // Returns the status of an overwrite, if the archive is valid before and after it.
-fn number<K: NumberKey>(archive: &mut [u8], form: Form, key: K, value: u64) -> Option<u32> {
-    if !index_numbers::is_map::<K>(&*archive, form) {
-        return None;
-    }
+fn number<K: CodedKey>(archive: &mut [u8], form: Form, key: K, value: u64) -> Option<u32> {
+    K::index_header(&*archive, form)?;
     let status = set_index_number(archive, form, key, value);
-    index_numbers::is_map::<K>(&*archive, form).then_some(status)
+    K::index_header(&*archive, form).is_some().then_some(status)
 }
 
 // Returns the same for a key that is a text.
 fn text(archive: &mut [u8], form: Form, key: &[u8], value: u64) -> Option<u32> {
-    if !index_texts::is_map(&*archive, form) {
-        return None;
-    }
+    text_index_header(&*archive, form)?;
     let status = set_index_text(archive, form, key, value);
-    index_texts::is_map(&*archive, form).then_some(status)
+    text_index_header(&*archive, form)
+        .is_some()
+        .then_some(status)
 }
 
 // Returns the statuses of an overwrite and of a lookup by the header from before, and the index and
 // the value that are found. They are 8 and 9 at first.
-fn number_and_get<K: NumberKey>(
+fn number_and_get<K: CodedKey>(
     archive: &mut [u8],
     form: Form,
     key: K,
     value: u64,
 ) -> Option<(u32, u32, usize, u64)> {
-    if !index_numbers::is_map::<K>(&*archive, form) {
-        return None;
-    }
-    let header = decode_index_numbers::<K>(&*archive, form);
+    let header = K::index_header(&*archive, form)?;
     let status = set_index_number(archive, form, key, value);
     let mut found = Indexed {
         index: 8,
@@ -60,10 +55,7 @@ fn text_and_get(
     key: &[u8],
     value: u64,
 ) -> Option<(u32, u32, usize, u64)> {
-    if !index_texts::is_map(&*archive, form) {
-        return None;
-    }
-    let header = decode_index_texts(&*archive, form);
+    let header = text_index_header(&*archive, form)?;
     let status = set_index_text(archive, form, key, value);
     let mut found = Indexed {
         index: 8,

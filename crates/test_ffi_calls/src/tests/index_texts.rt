@@ -1,38 +1,19 @@
 //! Tests of lookups in index maps of texts, and of their pairs by index.
 
-ghost use Rattle.std.specs.Prelude.{IsTrue};
-ghost use Rattle.ffi_calls.specs.{IsTextIndex};
-
 use crate::tests::expect_equal;
 use crate::tests::index_archives::{
     EMPTY_TEXT, EMPTY_WIDE_TEXT, NO_PAIRS, NO_WIDE_PAIRS, ONE_SYMBOL, TWO_TEXTS,
 };
+use crate::tests::opened::text_index_header;
 use ffi_calls::form::{Form, LONG, SHORT, WIDE, WIDE_LONG};
-use ffi_calls::index_texts::{
-    decode_index_texts, get_index_text, index_texts_from, open_index_texts,
-};
+use ffi_calls::index_texts::{get_index_text, index_texts_from};
 use ffi_calls::pairs::{Indexed, Pair};
-use ffi_calls::status::DONE;
 use std::process::Abort;
-
-/// Returns whether the archive is valid in the form.
-pub(crate) fn is_map(archive: &[u8], form: Form) -> bool
-    ensures { IsTrue result → IsTextIndex form archive.now }
-{
-    if open_index_texts(archive, form) == DONE {
-        true
-    } else {
-        false
-    }
-}
 
 // Returns the number of pairs, and the status, the index and the value of a lookup.
 // It replaces the index 8 and the value 9.
 fn lookup(archive: &[u8], form: Form, key: &[u8]) -> Option<(usize, u32, usize, u64)> {
-    if !is_map(archive, form) {
-        return None;
-    }
-    let header = decode_index_texts(archive, form);
+    let header = text_index_header(archive, form)?;
     let mut found = Indexed {
         index: 8,
         value: 9u64,
@@ -51,10 +32,7 @@ const NINE: Pair<&[u8], u64> = Pair {
 // Returns how many pairs are stored over one, from an index on, if the one is as expected
 // afterwards. It has the key `?` and the value 9 at first.
 fn pair_at(archive: &[u8], form: Form, index: usize, key: &[u8], value: u64) -> Option<usize> {
-    if !is_map(archive, form) {
-        return None;
-    }
-    let header = decode_index_texts(archive, form);
+    let header = text_index_header(archive, form)?;
     let mut pairs = [NINE];
     let count = index_texts_from(archive, form, &header, index, &mut pairs);
     (pairs[0].key == key && pairs[0].value == value).then_some(count)
@@ -63,10 +41,7 @@ fn pair_at(archive: &[u8], form: Form, index: usize, key: &[u8], value: u64) -> 
 // Returns how many pairs are stored over two, from an index on, if the first is as expected
 // afterwards. Each has the key `?` and the value 9 at first.
 fn several(archive: &[u8], form: Form, from: usize, key: &[u8], value: u64) -> Option<usize> {
-    if !is_map(archive, form) {
-        return None;
-    }
-    let header = decode_index_texts(archive, form);
+    let header = text_index_header(archive, form)?;
     let mut pairs = [NINE; 2];
     let count = index_texts_from(archive, form, &header, from, &mut pairs);
     (pairs[0].key == key && pairs[0].value == value).then_some(count)

@@ -1,37 +1,17 @@
 //! Tests of lookups in index maps of texts to texts, and of their pairs by index.
 
-ghost use Rattle.std.specs.Prelude.{IsTrue};
-ghost use Rattle.ffi_calls.specs.{IsTextTextIndex};
-
 use crate::tests::expect_equal;
 use crate::tests::index_archives::{NO_PAIRS, NO_WIDE_PAIRS};
 use crate::tests::index_text_archives::{EMPTY_TO_TEXT, EMPTY_TO_WIDE_TEXT, TWO_TEXTS};
-use ffi_calls::index_texts_to_texts::{
-    decode_index_texts_to_texts, get_index_text_of_text, index_text_texts_from,
-    open_index_texts_to_texts,
-};
+use crate::tests::opened::text_index_texts_header;
+use ffi_calls::index_texts_to_texts::{get_index_text_of_text, index_text_texts_from};
 use ffi_calls::pairs::{Indexed, Pair};
-use ffi_calls::status::DONE;
 use std::process::Abort;
-
-// Returns whether the archive is valid.
-fn is_map(archive: &[u8], wide: bool) -> bool
-    ensures { IsTrue result → IsTextTextIndex wide archive.now }
-{
-    if open_index_texts_to_texts(archive, wide) == DONE {
-        true
-    } else {
-        false
-    }
-}
 
 // Returns the number of pairs, and the status and the index of a lookup, if the value is `expected`
 // afterwards. The index is 8 and the value `?` at first.
 fn lookup(archive: &[u8], wide: bool, key: &[u8], expected: &[u8]) -> Option<(usize, u32, usize)> {
-    if !is_map(archive, wide) {
-        return None;
-    }
-    let header = decode_index_texts_to_texts(archive, wide);
+    let header = text_index_texts_header(archive, wide)?;
     let value: &[u8] = b"?";
     let mut found = Indexed { index: 8, value };
     let status = get_index_text_of_text(archive, wide, &header, key, &mut found);
@@ -52,10 +32,7 @@ fn is_pair(pair: Pair<&[u8], &[u8]>, parts: [&[u8]; 2]) -> bool {
 // Returns how many pairs are stored over one, from an index on, if the one is as expected
 // afterwards. It is `!` to `?` at first.
 fn pair_at(archive: &[u8], wide: bool, index: usize, pair: [&[u8]; 2]) -> Option<usize> {
-    if !is_map(archive, wide) {
-        return None;
-    }
-    let header = decode_index_texts_to_texts(archive, wide);
+    let header = text_index_texts_header(archive, wide)?;
     let mut pairs = [NINE];
     let count = index_text_texts_from(archive, wide, &header, index, &mut pairs);
     is_pair(pairs[0], pair).then_some(count)
@@ -70,10 +47,7 @@ fn several(
     first: [&[u8]; 2],
     second: [&[u8]; 2],
 ) -> Option<usize> {
-    if !is_map(archive, wide) {
-        return None;
-    }
-    let header = decode_index_texts_to_texts(archive, wide);
+    let header = text_index_texts_header(archive, wide)?;
     let mut pairs = [NINE; 3];
     let count = index_text_texts_from(archive, wide, &header, from, &mut pairs);
     let right = is_pair(pairs[0], first)

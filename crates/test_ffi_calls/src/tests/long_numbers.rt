@@ -10,7 +10,6 @@ use crate::tests::expect_equal;
 use crate::tests::numbers::{lookup, numbers_of, overwrite, overwrite_and_get, walk};
 use crate::tests::support::{GREAT, with_bytes};
 use ffi_calls::form::{Form, LONG, SHORT, WIDE, WIDE_LONG};
-use ffi_calls::numbers::{explain_numbers, open_numbers};
 use ffi_calls::pairs::{Pair, Step};
 use std::process::Abort;
 
@@ -244,25 +243,4 @@ fn overwrites_under_long_numbers(rt: HostRuntime) {
     expect_overwrites(&rt, &mut wide, &[(WIDE, GREAT, u64::MAX, 3)]);
     expect_changed(&rt, &wide, WIDE, GREAT, 7, (8, &[7]));
     assert!(rt; long == *ONE_GREAT_NUMBER && wide == *ONE_WIDE_GREAT_NUMBER);
-}
-
-#[test]
-fn a_damaged_archive_of_long_numbers_is_invalid(rt: HostRuntime) {
-    let mut bytes = *ONE_LONG_NUMBER;
-    bytes[68] = 2;
-    expect_eq!(rt; open_numbers::<u64>(&bytes, SHORT), 18);
-    let error = explain_numbers::<u64>(&bytes, LONG);
-    expect_eq!(rt;
-        (error.status, error.position, error.first, error.second),
-        (18, 0, 2, 2)
-    );
-    let mut bytes = *ONE_WIDE_GREAT_NUMBER;
-    bytes[33] = 0xff;
-    expect_eq!(rt; open_numbers::<u64>(&bytes, WIDE), 19);
-    let error = explain_numbers::<u64>(&bytes, WIDE_LONG);
-    expect_eq!(rt;
-        (error.status, error.position, error.first, error.second),
-        (19, 0, 1, 0)
-    );
-    expect_eq!(rt; explain_numbers::<u64>(ONE_LONG_NUMBER, LONG).status, 0);
 }

@@ -1,22 +1,13 @@
 //! Tests of validation, lookups, walks and archives of sets of numbers.
 
-ghost use Rattle.std.specs.Prelude.{IsTrue};
-ghost use Rattle.ffi_calls.specs.{IsNumberSet};
-
 use crate::tests::archives::{HEADER, HEADER_OF_TWO, NO_ITEMS, WIDE_HEADER};
 use crate::tests::expect_equal;
-use crate::tests::support::{
-    GREAT, Numbers, expect_outcome, expect_permitted, numbers_of, outcome_of, with_byte,
-};
+use crate::tests::opened::CodedKey;
+use crate::tests::support::{GREAT, expect_outcome, expect_permitted, outcome_of};
 use ffi_calls::building::Built;
 use ffi_calls::laws;
-use ffi_calls::number_sets::{
-    build_number_set, contains_number, decode_number_set, explain_number_set, next_number_members,
-    open_number_set,
-};
+use ffi_calls::number_sets::{build_number_set, contains_number, next_number_members};
 use ffi_calls::pairs::{Pair, Step};
-use ffi_calls::reading::NumberKey;
-use ffi_calls::status::DONE;
 use rkyv_base::Narrow;
 use std::alloc::Global;
 use std::process::Abort;
@@ -28,7 +19,7 @@ const LONG_BUCKETS: &[u8; 20] = &[
 ];
 
 /// Returns the set of 1. Buckets from 0 on, controls from 8 on, header at 40.
-fn one() -> [u8; 52] {
+pub(crate) fn one() -> [u8; 52] {
     archive(&[1, 0, 0, 0, 0, 0, 0, 0, 0xff, 0x28, 0xff, 0x28], HEADER)
 }
 
@@ -41,7 +32,7 @@ fn one_twice() -> [u8; 56] {
 }
 
 /// Returns the wide set of 1. Buckets from 0 on, controls from 8 on, header at 40.
-fn wide_one() -> [u8; 64] {
+pub(crate) fn wide_one() -> [u8; 64] {
     archive(
         &[1, 0, 0, 0, 0, 0, 0, 0, 0xff, 0x28, 0xff, 0x28],
         WIDE_HEADER,
@@ -54,7 +45,7 @@ fn long_one() -> [u8; 60] {
 }
 
 /// Returns the wide set of 1, with 64 bits. Buckets, controls and header are as above.
-fn wide_long_one() -> [u8; 72] {
+pub(crate) fn wide_long_one() -> [u8; 72] {
     archive(LONG_BUCKETS, WIDE_HEADER)
 }
 
@@ -67,37 +58,20 @@ fn great() -> [u8; 60] {
     bytes
 }
 
-// Returns whether the archive is a valid set.
-fn is_set<K: NumberKey>(archive: &[u8], wide: bool) -> bool
-    ensures { IsTrue result → IsNumberSet K.NumberKey wide archive.now }
-{
-    if open_number_set::<K>(archive, wide) == DONE {
-        true
-    } else {
-        false
-    }
-}
-
 // Returns the number of items of a set, and the status of a lookup.
-fn found<K: NumberKey>(archive: &[u8], wide: bool, item: K) -> Option<(usize, u32)> {
-    if !is_set::<K>(archive, wide) {
-        return None;
-    }
-    let header = decode_number_set::<K>(archive, wide);
+fn found<K: CodedKey>(archive: &[u8], wide: bool, item: K) -> Option<(usize, u32)> {
+    let header = K::set_header(archive, wide)?;
     Some((header.len(), contains_number(archive, wide, &header, item)))
 }
 
 // Stores the next items of a set, from a bucket on, and returns their number.
-fn walk<K: NumberKey>(
+fn walk<K: CodedKey>(
     archive: &[u8],
     wide: bool,
     from: u64,
     members: &mut [Step<Pair<K, ()>>],
 ) -> Option<usize> {
-    if !is_set::<K>(archive, wide) {
-        return None;
-    }
-    let header = decode_number_set::<K>(archive, wide);
+    let header = K::set_header(archive, wide)?;
     Some(next_number_members(archive, wide, &header, from, members))
 }
 
@@ -187,30 +161,9 @@ fn expect_long_several(
     expect_equal(rt, found, (Some(count), first, second));
 }
 
-// Fails the test unless the set of 1 with another byte at `pos` has this explanation.
-fn expect_one_with(rt: &impl Abort, pos: usize, byte: u8, expected: Numbers) {
-    let bytes = with_byte(one(), pos, byte);
-    expect_equal(
-        rt,
-        numbers_of(explain_number_set::<u32>(&bytes, false)),
-        expected,
-    );
-}
-
-// Fails the test unless the wide set of 1, with 64 bits, with another byte at `pos`, has this
-// explanation.
-fn expect_long_with(rt: &impl Abort, pos: usize, byte: u8, expected: Numbers) {
-    let bytes = with_byte(wide_long_one(), pos, byte);
-    expect_equal(
-        rt,
-        numbers_of(explain_number_set::<u64>(&bytes, true)),
-        expected,
-    );
-}
-
 // Returns the status of a write of a set, and whether `built` has `bytes` if it is 0.
 // After an error the flag is whether `built` is unchanged.
-fn write<K: NumberKey>(alloc: Global, items: &[K], wide: bool, bytes: &[u8]) -> (u32, bool) {
+fn write<K: CodedKey>(alloc: Global, items: &[K], wide: bool, bytes: &[u8]) -> (u32, bool) {
     let mut before = [1, 2];
     let mut built = Built { bytes: &mut before };
     let status = build_number_set(alloc, items, wide, &mut built);
@@ -267,31 +220,6 @@ fn several_items_are_stored_at_once(rt: HostRuntime) {
     expect_several(&rt, &wide_one(), true, 2, (0, 9, 9));
     expect_long_several(&rt, &great(), false, 0, (1, GREAT, 9));
     expect_long_several(&rt, &wide_long_one(), true, 2, (0, 9, 9));
-}
-
-#[test]
-fn damaged_archives_are_explained(rt: HostRuntime) {
-    expect_one_with(&rt, 0, 2, (0, 0, 0, 0));
-    expect_one_with(&rt, 40, 0xe1, (17, 1, 4, 0));
-    expect_one_with(&rt, 44, 2, (18, 0, 2, 2));
-    expect_one_with(&rt, 9, 0xff, (19, 0, 1, 0));
-    expect_one_with(&rt, 11, 0xff, (20, 0, 3, 0));
-    let wide = explain_number_set::<u32>(&[0; 23], true);
-    expect_eq!(rt; numbers_of(wide), (16, -1, 24, 0));
-    assert!(rt; !is_set::<u32>(&[], false) && !is_set::<u32>(&[0; 23], true));
-}
-
-#[test]
-fn damaged_archives_of_long_numbers_are_explained(rt: HostRuntime) {
-    expect_long_with(&rt, 0, 2, (0, 0, 0, 0));
-    expect_long_with(&rt, 48, 0xe1, (17, 1, 8, 0));
-    expect_long_with(&rt, 56, 2, (18, 0, 2, 2));
-    expect_long_with(&rt, 17, 0xff, (19, 0, 1, 0));
-    expect_long_with(&rt, 19, 0xff, (20, 0, 3, 0));
-    let narrow = explain_number_set::<u64>(&[0; 11], false);
-    expect_eq!(rt; numbers_of(narrow), (16, -1, 12, 0));
-    assert!(rt; !is_set::<u64>(&[], false) && !is_set::<u64>(&[0; 23], true));
-    assert!(rt; !is_set::<u64>(&one(), false) && !is_set::<u64>(&wide_one(), true));
 }
 
 #[test]

@@ -1,59 +1,34 @@
 //! Tests of lookups, overwrites and walks of maps of numbers.
 
-ghost use Rattle.std.specs.Prelude.{IsTrue};
-ghost use Rattle.ffi_calls.specs.{IsNumberArchive};
-
 use crate::tests::archives::{
     ONE_LONG_NUMBER, ONE_NUMBER, ONE_NUMBER_TWICE, ONE_WIDE_LONG_NUMBER, ONE_WIDE_NUMBER,
 };
 use crate::tests::expect_equal;
+use crate::tests::opened::CodedKey;
 use crate::tests::support::with_bytes;
 use ffi_calls::form::{Form, LONG, SHORT, WIDE, WIDE_LONG};
 use ffi_calls::laws;
-use ffi_calls::numbers::{decode_numbers, get_number, next_numbers, open_numbers, set_number};
+use ffi_calls::numbers::{get_number, next_numbers, set_number};
 use ffi_calls::pairs::{Pair, Step};
-use ffi_calls::reading::NumberKey;
-use ffi_calls::status::DONE;
 use rkyv_base::Narrow;
 use std::process::Abort;
 
-/// Returns whether the archive is valid in the form.
-pub(crate) fn is_map<K: NumberKey>(archive: &[u8], form: Form) -> bool
-    ensures { IsTrue result → IsNumberArchive K.NumberKey form archive.now }
-{
-    if open_numbers::<K>(archive, form) == DONE {
-        true
-    } else {
-        false
-    }
-}
-
 /// Returns the number of pairs, and the status and the value of a lookup that replaces the value 9.
-pub(crate) fn lookup<K: NumberKey>(
-    archive: &[u8],
-    form: Form,
-    key: K,
-) -> Option<(usize, u32, u64)> {
-    if !is_map::<K>(archive, form) {
-        return None;
-    }
-    let header = decode_numbers::<K>(archive, form);
+pub(crate) fn lookup<K: CodedKey>(archive: &[u8], form: Form, key: K) -> Option<(usize, u32, u64)> {
+    let header = K::map_header(archive, form)?;
     let mut value = 9u64;
     let status = get_number(archive, form, &header, key, &mut value);
     Some((header.len(), status, value))
 }
 
 /// Stores the next pairs from the given bucket on, and returns their number.
-pub(crate) fn walk<K: NumberKey>(
+pub(crate) fn walk<K: CodedKey>(
     archive: &[u8],
     form: Form,
     from: u64,
     pairs: &mut [Step<Pair<K, u64>>],
 ) -> Option<usize> {
-    if !is_map::<K>(archive, form) {
-        return None;
-    }
-    let header = decode_numbers::<K>(archive, form);
+    let header = K::map_header(archive, form)?;
     Some(next_numbers(archive, form, &header, from, pairs))
 }
 
@@ -63,30 +38,25 @@ pub(crate) fn numbers_of<K>(step: Step<Pair<K, u64>>) -> (u64, K, u64) {
 }
 
 /// Returns the status of an overwrite, if the archive is valid before and after it.
-pub(crate) fn overwrite<K: NumberKey>(
+pub(crate) fn overwrite<K: CodedKey>(
     archive: &mut [u8],
     form: Form,
     key: K,
     value: u64,
 ) -> Option<u32> {
-    if !is_map::<K>(&*archive, form) {
-        return None;
-    }
+    K::map_header(&*archive, form)?;
     let status = set_number(archive, form, key, value);
-    is_map::<K>(&*archive, form).then_some(status)
+    K::map_header(&*archive, form).is_some().then_some(status)
 }
 
 /// Returns the statuses of an overwrite and of a lookup by the header from before, and its value.
-pub(crate) fn overwrite_and_get<K: NumberKey>(
+pub(crate) fn overwrite_and_get<K: CodedKey>(
     archive: &mut [u8],
     form: Form,
     key: K,
     value: u64,
 ) -> Option<(u32, u32, u64)> {
-    if !is_map::<K>(&*archive, form) {
-        return None;
-    }
-    let header = decode_numbers::<K>(&*archive, form);
+    let header = K::map_header(&*archive, form)?;
     let status = set_number(archive, form, key, value);
     let mut found = 9u64;
     let again = get_number(&*archive, form, &header, key, &mut found);

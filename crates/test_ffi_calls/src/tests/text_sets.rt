@@ -1,26 +1,19 @@
 //! Tests of validation, lookups, walks and archives of sets of texts.
 
-ghost use Rattle.std.specs.Prelude.{IsTrue};
-ghost use Rattle.ffi_calls.specs.{IsTextSet};
-
 use crate::tests::archives::{HEADER, HEADER_OF_TWO, NO_ITEMS, WIDE_HEADER};
 use crate::tests::expect_equal;
-use crate::tests::support::{
-    Numbers, expect_outcome, expect_permitted, numbers_of, outcome_of, with_byte,
-};
+use crate::tests::opened::text_set_header;
+use crate::tests::support::{expect_outcome, expect_permitted, outcome_of};
 use ffi_calls::building::Built;
 use ffi_calls::pairs::{Pair, Step};
-use ffi_calls::status::DONE;
 use ffi_calls::text_set_items::{SetText, build_text_set};
-use ffi_calls::text_sets::{
-    contains_text, decode_text_set, explain_text_set, next_text_members, open_text_set,
-};
+use ffi_calls::text_sets::{contains_text, next_text_members};
 use std::alloc::Global;
 use std::process::Abort;
 use test_support::archives::archive;
 
 /// Returns the set of the empty text. Buckets from 0 on, controls from 16 on, header at 48.
-fn empty_text() -> [u8; 60] {
+pub(crate) fn empty_text() -> [u8; 60] {
     let front = [
         0xff, 0xff, 0xff, 0xff, 0xff, 0xff, 0xff, 0xff, 0, 0, 0, 0, 0, 0, 0, 0, 0xff, 0x15, 0xff,
         0x15,
@@ -50,23 +43,9 @@ fn empty_text_twice() -> [u8; 68] {
     archive(&front, HEADER_OF_TWO)
 }
 
-// Returns whether the archive is a valid set.
-fn is_set(archive: &[u8], wide: bool) -> bool
-    ensures { IsTrue result → IsTextSet wide archive.now }
-{
-    if open_text_set(archive, wide) == DONE {
-        true
-    } else {
-        false
-    }
-}
-
 // Returns the number of items of a set, and the status of a lookup.
 fn found(archive: &[u8], wide: bool, item: &[u8]) -> Option<(usize, u32)> {
-    if !is_set(archive, wide) {
-        return None;
-    }
-    let header = decode_text_set(archive, wide);
+    let header = text_set_header(archive, wide)?;
     Some((header.len(), contains_text(archive, wide, &header, item)))
 }
 
@@ -82,10 +61,7 @@ const OTHER: Step<Pair<&[u8], ()>> = Step {
 // Returns how many texts are stored over one, from a bucket on, the next bucket, and whether the
 // item is `expected`. They are 9 and `?` at first.
 fn step(archive: &[u8], wide: bool, from: u64, expected: &[u8]) -> Option<(usize, u64, bool)> {
-    if !is_set(archive, wide) {
-        return None;
-    }
-    let header = decode_text_set(archive, wide);
+    let header = text_set_header(archive, wide)?;
     let mut members = [OTHER];
     let count = next_text_members(archive, wide, &header, from, &mut members);
     Some((count, members[0].next, members[0].pair.key == expected))
@@ -93,10 +69,7 @@ fn step(archive: &[u8], wide: bool, from: u64, expected: &[u8]) -> Option<(usize
 
 // Returns how many items are stored over two, and their lengths, which are 1 at first.
 fn several(archive: &[u8], wide: bool, from: u64) -> Option<(usize, usize, usize)> {
-    if !is_set(archive, wide) {
-        return None;
-    }
-    let header = decode_text_set(archive, wide);
+    let header = text_set_header(archive, wide)?;
     let mut members = [OTHER; 2];
     let count = next_text_members(archive, wide, &header, from, &mut members);
     Some((count, members[0].pair.key.len(), members[1].pair.key.len()))
@@ -130,12 +103,6 @@ fn expect_several(
     expected: (usize, usize, usize),
 ) {
     expect_equal(rt, several(archive, wide, from), Some(expected));
-}
-
-// Explains the set of the empty text with another byte at `pos`.
-fn with(pos: usize, byte: u8) -> Numbers {
-    let bytes = with_byte(empty_text(), pos, byte);
-    numbers_of(explain_text_set(&bytes, false))
 }
 
 // Returns the status of a write of a set, and whether `built` has `bytes` if it is 0.
@@ -189,15 +156,6 @@ fn several_items_are_stored_at_once(rt: HostRuntime) {
     expect_several(&rt, &empty_text(), false, 0, (1, 0, 1));
     expect_several(&rt, &wide_empty_text(), true, 0, (1, 0, 1));
     expect_several(&rt, &wide_empty_text(), true, 2, (0, 1, 1));
-}
-
-#[test]
-fn damaged_archives_are_explained(rt: HostRuntime) {
-    expect_eq!(rt; with(0, 0xff), (0, 0, 0, 0));
-    expect_eq!(rt; with(0, 0xc3), (22, 0, 0, 0));
-    let wide = explain_text_set(&[0; 23], true);
-    expect_eq!(rt; numbers_of(wide), (16, -1, 24, 0));
-    assert!(rt; !is_set(&[], false) && !is_set(&[0; 23], true));
 }
 
 #[test]

@@ -1,34 +1,17 @@
 //! Tests of lookups, overwrites and walks of maps of texts.
 
-ghost use Rattle.std.specs.Prelude.{IsTrue};
-ghost use Rattle.ffi_calls.specs.{IsTextArchive};
-
 use crate::tests::archives::{EMPTY_TEXT, EMPTY_WIDE_TEXT, ONE_SYMBOL, empty_text_twice};
 use crate::tests::expect_equal;
+use crate::tests::opened::text_map_header;
 use crate::tests::support::with_bytes;
 use ffi_calls::form::{Form, LONG, SHORT, WIDE, WIDE_LONG};
 use ffi_calls::pairs::{Pair, Step};
-use ffi_calls::status::DONE;
-use ffi_calls::texts::{decode_texts, get_text, is_text, next_texts, open_texts, set_text};
+use ffi_calls::texts::{get_text, is_text, next_texts, set_text};
 use std::process::Abort;
-
-// Returns whether the archive is valid in the form.
-fn is_map(archive: &[u8], form: Form) -> bool
-    ensures { IsTrue result → IsTextArchive form archive.now }
-{
-    if open_texts(archive, form) == DONE {
-        true
-    } else {
-        false
-    }
-}
 
 // Returns the number of pairs, and the status and the value of a lookup that replaces the value 9.
 fn lookup(archive: &[u8], form: Form, key: &[u8]) -> Option<(usize, u32, u64)> {
-    if !is_map(archive, form) {
-        return None;
-    }
-    let header = decode_texts(archive, form);
+    let header = text_map_header(archive, form)?;
     let mut value = 9u64;
     let status = get_text(archive, form, &header, key, &mut value);
     Some((header.len(), status, value))
@@ -51,10 +34,7 @@ fn is_step(step: Step<Pair<&[u8], u64>>, next: u64, key: &[u8], value: u64) -> b
 // Returns how many pairs are stored over one, from the given bucket on, if the one is as expected
 // afterwards. It has the key `?` and the value 9 at first.
 fn step(archive: &[u8], form: Form, from: u64, next: u64, key: &[u8], value: u64) -> Option<usize> {
-    if !is_map(archive, form) {
-        return None;
-    }
-    let header = decode_texts(archive, form);
+    let header = text_map_header(archive, form)?;
     let mut pairs = [NINE];
     let count = next_texts(archive, form, &header, from, &mut pairs);
     is_step(pairs[0], next, key, value).then_some(count)
@@ -69,10 +49,7 @@ fn several(
     first: (u64, &[u8], u64),
     second: (u64, &[u8], u64),
 ) -> Option<usize> {
-    if !is_map(archive, form) {
-        return None;
-    }
-    let header = decode_texts(archive, form);
+    let header = text_map_header(archive, form)?;
     let mut pairs = [NINE; 2];
     let count = next_texts(archive, form, &header, from, &mut pairs);
     let right = is_step(pairs[0], first.0, first.1, first.2)
@@ -82,11 +59,9 @@ fn several(
 
 // Returns the status of an overwrite, if the archive is valid before and after it.
 fn overwrite(archive: &mut [u8], form: Form, key: &[u8], value: u64) -> Option<u32> {
-    if !is_map(&*archive, form) {
-        return None;
-    }
+    text_map_header(&*archive, form)?;
     let status = set_text(archive, form, key, value);
-    is_map(&*archive, form).then_some(status)
+    text_map_header(&*archive, form).is_some().then_some(status)
 }
 
 // Returns the statuses of an overwrite and of a lookup by the header from before, and its value.
@@ -96,10 +71,7 @@ fn overwrite_and_get(
     key: &[u8],
     value: u64,
 ) -> Option<(u32, u32, u64)> {
-    if !is_map(&*archive, form) {
-        return None;
-    }
-    let header = decode_texts(&*archive, form);
+    let header = text_map_header(&*archive, form)?;
     let status = set_text(archive, form, key, value);
     let mut found = 9u64;
     let again = get_text(&*archive, form, &header, key, &mut found);

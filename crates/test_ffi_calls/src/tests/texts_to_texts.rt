@@ -1,38 +1,17 @@
 //! Tests of validation, lookups and walks of maps of texts to texts.
 
-ghost use Rattle.std.specs.Prelude.{IsTrue};
-ghost use Rattle.ffi_calls.specs.{IsTextTextArchive};
-
 use crate::tests::archives::NO_ITEMS;
 use crate::tests::expect_equal;
-use crate::tests::support::{Numbers, numbers_of, with_byte};
+use crate::tests::opened::text_texts_header;
 use crate::tests::text_archives::{empty_to_text, empty_to_two_texts, empty_to_wide_text};
 use ffi_calls::pairs::{Pair, Step};
-use ffi_calls::status::DONE;
-use ffi_calls::texts_to_texts::{
-    decode_texts_to_texts, explain_texts_to_texts, get_text_of_text, next_text_texts,
-    open_texts_to_texts,
-};
+use ffi_calls::texts_to_texts::{get_text_of_text, next_text_texts};
 use std::process::Abort;
-
-// Returns whether the archive is valid.
-fn is_map(archive: &[u8], wide: bool) -> bool
-    ensures { IsTrue result → IsTextTextArchive wide archive.now }
-{
-    if open_texts_to_texts(archive, wide) == DONE {
-        true
-    } else {
-        false
-    }
-}
 
 // Returns the number of pairs and the status of a lookup, if the value is `expected` afterwards.
 // It is `?` at first.
 fn lookup(archive: &[u8], wide: bool, key: &[u8], expected: &[u8]) -> Option<(usize, u32)> {
-    if !is_map(archive, wide) {
-        return None;
-    }
-    let header = decode_texts_to_texts(archive, wide);
+    let header = text_texts_header(archive, wide)?;
     let mut value: &[u8] = b"?";
     let status = get_text_of_text(archive, wide, &header, key, &mut value);
     (value == expected).then_some((header.len(), status))
@@ -55,10 +34,7 @@ fn is_step(step: Step<Pair<&[u8], &[u8]>>, next: u64, pair: [&[u8]; 2]) -> bool 
 // Returns how many pairs are stored over one, from the given bucket on, if the one is as expected
 // afterwards. It is `!` to `?` at first.
 fn step(archive: &[u8], wide: bool, from: u64, next: u64, pair: [&[u8]; 2]) -> Option<usize> {
-    if !is_map(archive, wide) {
-        return None;
-    }
-    let header = decode_texts_to_texts(archive, wide);
+    let header = text_texts_header(archive, wide)?;
     let mut pairs = [NINE];
     let count = next_text_texts(archive, wide, &header, from, &mut pairs);
     is_step(pairs[0], next, pair).then_some(count)
@@ -67,22 +43,10 @@ fn step(archive: &[u8], wide: bool, from: u64, next: u64, pair: [&[u8]; 2]) -> O
 // Returns how many pairs are stored over two, from the given bucket on, if the first is as expected
 // afterwards and the second is unchanged. Each is `!` to `?` at first.
 fn several(archive: &[u8], wide: bool, from: u64, next: u64, pair: [&[u8]; 2]) -> Option<usize> {
-    if !is_map(archive, wide) {
-        return None;
-    }
-    let header = decode_texts_to_texts(archive, wide);
+    let header = text_texts_header(archive, wide)?;
     let mut pairs = [NINE; 2];
     let count = next_text_texts(archive, wide, &header, from, &mut pairs);
     (is_step(pairs[0], next, pair) && is_step(pairs[1], 9, [b"!", b"?"])).then_some(count)
-}
-
-// Fails the test unless the map of the empty text with another byte at `pos` has this status and
-// this explanation.
-fn expect_status(rt: &impl Abort, pos: usize, byte: u8, expected: (u32, Numbers)) {
-    let bytes = with_byte(empty_to_text(), pos, byte);
-    let status = open_texts_to_texts(&bytes, false);
-    let explanation = numbers_of(explain_texts_to_texts(&bytes, false));
-    expect_equal(rt, (status, explanation), expected);
 }
 
 // Fails the test unless a lookup has this result, and the value is `value` afterwards.
@@ -168,28 +132,4 @@ fn several_pairs_are_stored_at_once(rt: HostRuntime) {
         several(&empty_to_wide_text(), true, 2, 9, [b"!", b"?"]),
         Some(0)
     );
-}
-
-#[test]
-fn damaged_archives_have_statuses(rt: HostRuntime) {
-    expect_status(&rt, 0, b'W', (0, (0, 0, 0, 0)));
-    expect_status(&rt, 8, 0xc3, (22, (22, 20, 0, 0)));
-    expect_status(&rt, 12, 0xc3, (22, (22, 12, 0, 0)));
-    expect_status(&rt, 20, 0x88, (22, (22, 20, 0, 0)));
-    expect_status(&rt, 24, 0xf0, (16, (16, 4, 9, 0)));
-    expect_status(&rt, 45, 0xff, (19, (19, 0, 1, 0)));
-}
-
-#[test]
-fn wide_archives_are_explained(rt: HostRuntime) {
-    let mut bytes = empty_to_wide_text();
-    bytes[16] = 0xc3;
-    let error = explain_texts_to_texts(&bytes, true);
-    expect_eq!(rt; (error.status, error.position), (22, 40));
-}
-
-#[test]
-fn archives_of_another_width_are_rejected(rt: HostRuntime) {
-    assert!(rt; is_map(NO_ITEMS, false) && !is_map(NO_ITEMS, true));
-    assert!(rt; !is_map(&empty_to_text(), true) && !is_map(&empty_to_wide_text(), false));
 }

@@ -1,5 +1,0 @@
-use Rattle.ffi_calls.proofs.Statuses.{opened}
-use Rattle.ffi_calls.proofs.index_numbers_to_texts.open_index_numbers_to_texts.Goals as goal
-
-pub returns-clause-status : goal.returns-clause-status
-returns-clause-status g c = opened c.explain_index_numbers_to_texts.ensures

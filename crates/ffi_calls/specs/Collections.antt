@@ -1,0 +1,112 @@
+-- Archived collections, by the codes of their contents.
+use Rattle.std.specs.Prelude.{◌≡◌, ℕ, ◌-◌, ◌==◌, Bool, true, false, IfSome, IsSomeAnd, List}
+use Rattle.std.specs.Prelude.{MatchOption, None, Option, Some, cond, length, pos as int}
+use Rattle.std.specs.Int.{Width, w32, w64}
+use Rattle.std.specs.Option.{option_map, option_zip}
+use Rattle.rkyv_base.specs.{ElementSpec, IsValidArchive, scalar_spec, text_spec, unit_spec}
+use Rattle.rkyv_base.specs.{unsigned}
+use Rattle.rkyv_collections.specs.{MapAt, map_spec}
+use Rattle.rkyv_table.specs.declared.table.decoded.Decoded.{Decoded}
+use Rattle.ffi_calls.specs.Archives.{IsHeaderOf, Opens, limit_of, word_of}
+use Rattle.ffi_calls.specs.Explanation.{Explains, explained}
+use Rattle.ffi_calls.specs.IndexArchives.{index_map}
+use Rattle.ffi_calls.specs.declared.collection.Collection.{Collection}
+use Rattle.ffi_calls.specs.declared.collection.KeyType.{KeyType}
+use Rattle.ffi_calls.specs.declared.collection.KeyType.TheVariants as key
+use Rattle.ffi_calls.specs.declared.collection.ValueType.{ValueType}
+use Rattle.ffi_calls.specs.declared.collection.ValueType.TheVariants as value
+use Rattle.ffi_calls.specs.declared.containers.Codes.{Codes}
+use Rattle.ffi_calls.specs.declared.explanation.Explanation.{Explanation}
+
+-- whether the kind with the code is an index map, or `None` if no collection has it
+abbrev pub index_flag : ℕ → Option Bool
+index_flag kind = cond (kind == 1) (Some false) (cond (kind == 2) (Some false)
+    (cond (kind == 3) (Some true) None))
+
+-- the type of keys with the code, or `None` if no collection has such keys
+abbrev pub key_type : ℕ → Option KeyType
+key_type code = cond (code == 0x14) (Some key.U32) (cond (code == 0x18) (Some key.U64)
+    (cond (code == 0x04) (Some key.Text) None))
+
+-- the type of values with the code, or `None` if no collection of the kind has such values.
+-- Those of a set are units alone.
+abbrev pub value_type : ℕ → ℕ → Option ValueType
+value_type kind code = cond (kind == 2) (cond (code == 0x01) (Some value.Unit) None)
+    (cond (code == 0x14) (Some value.U32) (cond (code == 0x18) (Some value.U64)
+    (cond (code == 0x04) (Some value.Text) None)))
+
+-- whether the width with the code is wide, or `None` if no width has it
+abbrev pub wide_flag : ℕ → Option Bool
+wide_flag code = cond (code == 4) (Some false) (cond (code == 8) (Some true) None)
+
+-- the collection of a flag, a type of keys, a type of values and a flag
+abbrev pub collection_by : (Bool × KeyType) × (ValueType × Bool) → Collection
+collection_by p = record { indexed = p.0.0; key = p.0.1; value = p.1.0; wide = p.1.1 }
+
+-- the collection with the codes, or `None` if the library has none
+abbrev pub collection_of : Codes → Option Collection
+collection_of codes = option_map collection_by
+    (option_zip (option_zip (index_flag codes.kind) (key_type codes.key))
+    (option_zip (value_type codes.kind codes.value) (wide_flag codes.width)))
+
+-- the spec of a key of the type in an archive of the word
+abbrev pub key_type_spec : Width → KeyType → ElementSpec
+key_type_spec w key.U32 = scalar_spec (unsigned w32)
+key_type_spec w key.U64 = scalar_spec (unsigned w64)
+key_type_spec w key.Text = text_spec w
+
+-- the spec of a value of the type in an archive of the word
+abbrev pub value_type_spec : Width → ValueType → ElementSpec
+value_type_spec w value.U32 = scalar_spec (unsigned w32)
+value_type_spec w value.U64 = scalar_spec (unsigned w64)
+value_type_spec w value.Text = text_spec w
+value_type_spec w value.Unit = unit_spec
+
+-- the spec of the header of a hash map with keys of spec `k` and values of spec `v`, or of an
+-- index map if the flag is `true`. A hash set is a hash map to units.
+abbrev pub root_spec : Bool → Width → ElementSpec → ElementSpec → ElementSpec
+root_spec false w k v = map_spec w k v
+root_spec true w k v = index_map w k v
+
+-- the hash map at the root of the archive `b`, or the index map if the flag is `true`
+abbrev pub root_in : Bool → Width → ElementSpec → ElementSpec → List ℕ → MapAt
+root_in indexed w k v b = record {
+  word = w;
+  key = k;
+  value = v;
+  bytes = b;
+  pos = length b - (root_spec indexed w k v).size;
+}
+
+-- the spec of the header of a collection
+abbrev pub collection_spec : Collection → ElementSpec
+collection_spec c = let w = word_of c.wide in
+    root_spec c.indexed w (key_type_spec w c.key) (value_type_spec w c.value)
+
+-- the collection at the root of an archive
+abbrev pub collection_in : Collection → List ℕ → MapAt
+collection_in c = let w = word_of c.wide in
+    root_in c.indexed w (key_type_spec w c.key) (value_type_spec w c.value)
+
+-- `b` is the valid archive of the collection with the codes
+abbrev pub IsValidByCodes : Codes → List ℕ → Type 0
+IsValidByCodes codes b = IsSomeAnd (collection_of codes)
+    (λ c. IsValidArchive (limit_of c.wide) (collection_spec c) b)
+
+-- `b` is valid and the status is 0, or the status is that of the first validation error.
+-- It is 7 if the library has no collection with the codes.
+abbrev pub OpensByCodes : Codes → List ℕ → ℕ → Type 0
+OpensByCodes codes b status = MatchOption (collection_of codes) (status ≡ 7)
+    (λ c. Opens (limit_of c.wide) (collection_spec c) b status)
+
+-- `b` is valid and there is no error, or it is the first validation error.
+-- Its status is 7, and its numbers are 0, if the library has no collection with the codes.
+abbrev pub ExplainsByCodes : Codes → List ℕ → Explanation → Type 0
+ExplainsByCodes codes b result = MatchOption (collection_of codes)
+    (result ≡ explained 7 (int 0) 0 0)
+    (λ c. Explains (limit_of c.wide) (collection_spec c) b result)
+
+-- the decoded header is that of the collection with the codes at the root of `b`
+abbrev pub IsHeaderByCodes : Codes → List ℕ → Decoded → Type 0
+IsHeaderByCodes codes b header =
+    IfSome (collection_of codes) (λ c. IsHeaderOf (collection_in c b) header)

@@ -1,0 +1,271 @@
+//! Archives by the codes of their contents: their validation, and their decoded header.
+//!
+//! `open_archive` and `explain_archive` validate an archive. `decode_header` and all calls of other
+//! modules that read an archive require a valid one. At given codes, that an archive is valid by
+//! its codes is the condition of the calls for this collection.
+//!
+//! The codes are those in the header of a container. `docs/FORMAT.md` lists them. A container may
+//! have contents that are no collection of this library, as those of an index set.
+
+ghost use Rattle.std.specs.Prelude.{◌≡◌};
+ghost use Rattle.rkyv_base.specs.{IsValidArchive};
+ghost use Rattle.ffi_calls.specs.{Explains, ExplainsByCodes, IsHeaderByCodes, IsHeaderOf};
+ghost use Rattle.ffi_calls.specs.{IsValidByCodes, OpensByCodes, collection_in, collection_of};
+ghost use Rattle.ffi_calls.specs.{collection_spec, index_flag, key_type, key_type_spec, limit_of};
+ghost use Rattle.ffi_calls.specs.{root_in, root_spec, value_type, value_type_spec, wide_flag};
+
+use crate::archives::{explain_root, header_of};
+use crate::containers::Codes;
+use crate::explanation::{Explanation, explained};
+use crate::index::index_header_of;
+use crate::status::UNKNOWN_CODES;
+use rkyv_base::{Element, Narrow, Text, Wide};
+use rkyv_collections::{FxHasher64, HashMapOf};
+use rkyv_index::{IndexMapOf, IndexWidth};
+use rkyv_table::table::decoded::Decoded;
+
+/// The type of the keys of a collection.
+#[derive(Clone, Copy)]
+enum KeyType {
+    /// Numbers of 32 bits.
+    U32,
+    /// Numbers of 64 bits.
+    U64,
+    /// Texts.
+    Text,
+}
+
+/// The type of the values of a collection.
+#[derive(Clone, Copy)]
+enum ValueType {
+    /// Numbers of 32 bits.
+    U32,
+    /// Numbers of 64 bits.
+    U64,
+    /// Texts.
+    Text,
+    /// Units, the values of a set.
+    Unit,
+}
+
+/// The type of an archived collection.
+#[derive(Clone, Copy)]
+struct Collection {
+    /// Whether it is an index map, in place of a hash map or a hash set.
+    indexed: bool,
+    /// The type of the keys.
+    key: KeyType,
+    /// The type of the values.
+    value: ValueType,
+    /// Whether the archive is wide, in place of narrow.
+    wide: bool,
+}
+
+/// Returns whether the kind with this code is an index map, or `None` if no collection has it.
+fn index_flag(kind: u8) -> Option<bool>
+    ensures { result ≡ index_flag kind }
+{
+    match kind {
+        1 | 2 => Some(false),
+        3 => Some(true),
+        _ => None,
+    }
+}
+
+/// Returns the type of keys with this code, or `None` if no collection has such keys.
+fn key_type(code: u8) -> Option<KeyType>
+    ensures { result ≡ key_type code }
+{
+    match code {
+        0x14 => Some(KeyType::U32),
+        0x18 => Some(KeyType::U64),
+        0x04 => Some(KeyType::Text),
+        _ => None,
+    }
+}
+
+/// Returns the type of values with this code, or `None` if no collection of the kind has such
+/// values.
+fn value_type(kind: u8, code: u8) -> Option<ValueType>
+    ensures { result ≡ value_type kind code }
+{
+    match (kind, code) {
+        (2, 0x01) => Some(ValueType::Unit),
+        (2, _) => None,
+        (_, 0x14) => Some(ValueType::U32),
+        (_, 0x18) => Some(ValueType::U64),
+        (_, 0x04) => Some(ValueType::Text),
+        _ => None,
+    }
+}
+
+/// Returns whether the width with this code is wide, or `None` if no width has it.
+fn wide_flag(code: u8) -> Option<bool>
+    ensures { result ≡ wide_flag code }
+{
+    match code {
+        4 => Some(false),
+        8 => Some(true),
+        _ => None,
+    }
+}
+
+/// Returns the collection with these codes, or `None` if the library has none.
+fn collection_of(codes: Codes) -> Option<Collection>
+    ensures { result ≡ collection_of codes }
+{
+    Some(Collection {
+        indexed: index_flag(codes.kind)?,
+        key: key_type(codes.key)?,
+        value: value_type(codes.kind, codes.value)?,
+        wide: wide_flag(codes.width)?,
+    })
+}
+
+/// Validates an archive, by whether it is of an index map.
+fn explain_kind<K: Element, V: Element, W: IndexWidth>(archive: &[u8], indexed: bool) -> Explanation
+    ensures { Explains W.LIMIT (root_spec indexed W.word K.spec V.spec) archive.now result }
+{
+    if indexed {
+        explain_root::<IndexMapOf<K, V, FxHasher64, W>, W>(archive)
+    } else {
+        explain_root::<HashMapOf<K, V, FxHasher64, W>, W>(archive)
+    }
+}
+
+/// Validates an archive, by the type of its values too.
+fn explain_values<K: Element, W: IndexWidth>(
+    archive: &[u8],
+    indexed: bool,
+    value: ValueType,
+) -> Explanation
+    ensures { Explains W.LIMIT (root_spec indexed W.word K.spec (value_type_spec W.word value))
+        archive.now result }
+{
+    match value {
+        ValueType::U32 => explain_kind::<K, u32, W>(archive, indexed),
+        ValueType::U64 => explain_kind::<K, u64, W>(archive, indexed),
+        ValueType::Text => explain_kind::<K, Text<W>, W>(archive, indexed),
+        ValueType::Unit => explain_kind::<K, (), W>(archive, indexed),
+    }
+}
+
+/// Validates an archive, by the type of its keys too.
+fn explain_keys<W: IndexWidth>(archive: &[u8], of: Collection) -> Explanation
+    ensures { Explains W.LIMIT (root_spec of.indexed W.word (key_type_spec W.word of.key)
+        (value_type_spec W.word of.value)) archive.now result }
+{
+    match of.key {
+        KeyType::U32 => explain_values::<u32, W>(archive, of.indexed, of.value),
+        KeyType::U64 => explain_values::<u64, W>(archive, of.indexed, of.value),
+        KeyType::Text => explain_values::<Text<W>, W>(archive, of.indexed, of.value),
+    }
+}
+
+/// Validates the archive of a collection.
+fn explain_collection(archive: &[u8], of: Collection) -> Explanation
+    ensures { Explains (limit_of of.wide) (collection_spec of) archive.now result }
+{
+    if of.wide {
+        explain_keys::<Wide>(archive, of)
+    } else {
+        explain_keys::<Narrow>(archive, of)
+    }
+}
+
+/// Validates the archive of the collection with the codes, and returns the first error with its
+/// numbers.
+///
+/// If no collection of this library has the codes, the status is `UNKNOWN_CODES`, and the numbers
+/// are 0.
+pub fn explain_archive(archive: &[u8], codes: Codes) -> Explanation
+    ensures explains { ExplainsByCodes codes archive.now result }
+    ensures accepts { IsValidByCodes codes archive.now → result.status ≡ 0 }
+{
+    match collection_of(codes) {
+        Some(of) => explain_collection(archive, of),
+        None => explained(UNKNOWN_CODES, 0, 0, 0),
+    }
+}
+
+/// Validates the archive of the collection with the codes.
+///
+/// # Errors
+///
+/// - `UNKNOWN_CODES`: no collection of this library has the codes.
+/// - The status of the first validation error: 16 to 23.
+pub fn open_archive(archive: &[u8], codes: Codes) -> u32
+    ensures status { OpensByCodes codes archive.now result }
+    ensures accepts { IsValidByCodes codes archive.now → result ≡ 0 }
+{
+    explain_archive(archive, codes).status
+}
+
+/// Returns the decoded header of a valid archive, by whether it is of an index map.
+fn decode_kind<K: Element, V: Element, W: IndexWidth>(archive: &[u8], indexed: bool) -> Decoded
+    requires { IsValidArchive W.LIMIT (root_spec indexed W.word K.spec V.spec) archive.now }
+    ensures { IsHeaderOf (root_in indexed W.word K.spec V.spec archive.now) result }
+{
+    if indexed {
+        index_header_of::<K, V, W>(archive)
+    } else {
+        header_of::<K, V, W>(archive)
+    }
+}
+
+/// Returns the decoded header of a valid archive, by the type of its values too.
+fn decode_values<K: Element, W: IndexWidth>(
+    archive: &[u8],
+    indexed: bool,
+    value: ValueType,
+) -> Decoded
+    requires { IsValidArchive W.LIMIT (root_spec indexed W.word K.spec
+        (value_type_spec W.word value)) archive.now }
+    ensures { IsHeaderOf (root_in indexed W.word K.spec (value_type_spec W.word value) archive.now)
+        result }
+{
+    match value {
+        ValueType::U32 => decode_kind::<K, u32, W>(archive, indexed),
+        ValueType::U64 => decode_kind::<K, u64, W>(archive, indexed),
+        ValueType::Text => decode_kind::<K, Text<W>, W>(archive, indexed),
+        ValueType::Unit => decode_kind::<K, (), W>(archive, indexed),
+    }
+}
+
+/// Returns the decoded header of a valid archive, by the type of its keys too.
+fn decode_keys<W: IndexWidth>(archive: &[u8], of: Collection) -> Decoded
+    requires { IsValidArchive W.LIMIT (root_spec of.indexed W.word (key_type_spec W.word of.key)
+        (value_type_spec W.word of.value)) archive.now }
+    ensures { IsHeaderOf (root_in of.indexed W.word (key_type_spec W.word of.key)
+        (value_type_spec W.word of.value) archive.now) result }
+{
+    match of.key {
+        KeyType::U32 => decode_values::<u32, W>(archive, of.indexed, of.value),
+        KeyType::U64 => decode_values::<u64, W>(archive, of.indexed, of.value),
+        KeyType::Text => decode_values::<Text<W>, W>(archive, of.indexed, of.value),
+    }
+}
+
+/// Returns the decoded header of the valid archive of a collection.
+fn decode_collection(archive: &[u8], of: Collection) -> Decoded
+    requires { IsValidArchive (limit_of of.wide) (collection_spec of) archive.now }
+    ensures { IsHeaderOf (collection_in of archive.now) result }
+{
+    if of.wide {
+        decode_keys::<Wide>(archive, of)
+    } else {
+        decode_keys::<Narrow>(archive, of)
+    }
+}
+
+/// Returns the decoded header of the collection with the codes, for lookups and iteration.
+///
+/// # Requires
+///
+/// - The archive is valid: `open_archive` returned `DONE` for these codes.
+pub fn decode_header(archive: &[u8], codes: Codes) -> Decoded
+    requires { IsValidByCodes codes archive.now }
+    ensures { IsHeaderByCodes codes archive.now result }
+{
+    decode_collection(archive, collection_of(codes).unwrap())
+}
