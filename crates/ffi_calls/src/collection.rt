@@ -26,7 +26,7 @@ use rkyv_table::table::decoded::Decoded;
 
 /// The type of the keys of a collection.
 #[derive(Clone, Copy)]
-enum KeyType {
+pub enum KeyType {
     /// Numbers of 32 bits.
     U32,
     /// Numbers of 64 bits.
@@ -37,7 +37,7 @@ enum KeyType {
 
 /// The type of the values of a collection.
 #[derive(Clone, Copy)]
-enum ValueType {
+pub enum ValueType {
     /// Numbers of 32 bits.
     U32,
     /// Numbers of 64 bits.
@@ -50,15 +50,15 @@ enum ValueType {
 
 /// The type of an archived collection.
 #[derive(Clone, Copy)]
-struct Collection {
+pub struct Collection {
     /// Whether it is an index map, in place of a hash map or a hash set.
-    indexed: bool,
+    pub indexed: bool,
     /// The type of the keys.
-    key: KeyType,
+    pub key: KeyType,
     /// The type of the values.
-    value: ValueType,
+    pub value: ValueType,
     /// Whether the archive is wide, in place of narrow.
-    wide: bool,
+    pub wide: bool,
 }
 
 /// Returns whether the kind with this code is an index map, or `None` if no collection has it.
