@@ -1,4 +1,4 @@
-//! The archive of a map: its validation, and its header, which is decoded once.
+//! Archives: their validation, and the map in a valid one, whose header is decoded once.
 
 ghost use Rattle.std.specs.Prelude.{length, ◌-◌, ◌≡◌};
 ghost use Rattle.rkyv_base.specs.{IsValidArchive, Viewable};

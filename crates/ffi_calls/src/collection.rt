@@ -1,11 +1,12 @@
 //! Archives by the codes of their contents: their validation, and their decoded header.
 //!
 //! `open_archive` and `explain_archive` validate an archive. `decode_header` and all calls of other
-//! modules that read an archive require a valid one. At given codes, that an archive is valid by
-//! its codes is the condition of the calls for this collection.
+//! modules that read an archive require a valid one. `IsValidByCodes` of given codes computes to
+//! the condition of the calls for their collection.
 //!
 //! The codes are those in the header of a container. `docs/FORMAT.md` lists them. A container may
-//! have contents that are no collection of this library, as those of an index set.
+//! have contents of which this library has no collection, as an index set. Their codes are unknown
+//! here, as those that no contents have.
 
 ghost use Rattle.std.specs.Prelude.{◌≡◌};
 ghost use Rattle.rkyv_base.specs.{IsValidArchive};

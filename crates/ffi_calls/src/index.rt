@@ -1,4 +1,4 @@
-//! Index maps: their validation, the map in a valid archive, and lookups of keys.
+//! Index maps: the map in a valid archive, lookups of keys, and pairs by index.
 
 ghost use Rattle.std.specs.Prelude.{drop, map, ◌≡◌};
 ghost use Rattle.rkyv_index.specs.{index_bytes, index_pos};

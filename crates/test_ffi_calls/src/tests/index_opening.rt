@@ -9,11 +9,7 @@ use crate::tests::index_text_archives::{
     ONE_TO_TEA, ONE_TO_TWO_TEXTS, ONE_TO_WIDE_TEXT, TWO_TEXTS as TWO_TO_TEXTS,
 };
 use crate::tests::opened::{INDEX_MAP, TEXT, U32, U64};
-use crate::tests::opening::{expect_errors, expect_errors_with, expect_rejected};
-use crate::tests::support::Numbers;
-
-// The numbers of no error.
-const VALID: Numbers = (0, 0, 0, 0);
+use crate::tests::opening::{VALID, expect_errors, expect_errors_with, expect_rejected};
 
 #[test]
 fn archives_to_numbers_have_no_error(rt: HostRuntime) {

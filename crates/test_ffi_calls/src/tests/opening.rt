@@ -17,8 +17,8 @@ use crate::tests::text_sets::empty_text;
 use ffi_calls::collection::{explain_archive, open_archive};
 use std::process::Abort;
 
-// The numbers of no error.
-const VALID: Numbers = (0, 0, 0, 0);
+/// The numbers of no error.
+pub(crate) const VALID: Numbers = (0, 0, 0, 0);
 
 // The error of codes without a collection.
 const UNKNOWN: Numbers = (7, 0, 0, 0);

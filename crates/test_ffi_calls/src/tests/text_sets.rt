@@ -1,4 +1,4 @@
-//! Tests of validation, lookups, walks and archives of sets of texts.
+//! Tests of lookups, walks and archives of sets of texts.
 
 use crate::tests::archives::{HEADER, HEADER_OF_TWO, NO_ITEMS, WIDE_HEADER};
 use crate::tests::expect_equal;

@@ -1,4 +1,4 @@
-//! Tests of validation, lookups and walks of maps of texts to texts.
+//! Tests of lookups and walks of maps of texts to texts.
 
 use crate::tests::archives::NO_ITEMS;
 use crate::tests::expect_equal;
