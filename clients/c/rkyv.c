@@ -166,6 +166,10 @@ set_long_number rkyv_c_set_long_number, rkyv_c_index_set_long_number;
 set_text rkyv_c_set_text, rkyv_c_index_set_text;
 bool rkyv_c_is_text(const uint8_t *bytes, size_t length);
 
+/* A function without effect, whose name has the number of the library's interface: these files do not
+ * link with a library of another interface. */
+void rkyv_c_interface_1(void);
+
 /* The library's functions that open archives, and those for containers, by the codes of their
  * contents. */
 uint32_t rkyv_c_open(const uint8_t *archive, size_t length, uint8_t collection, uint8_t key,
@@ -473,6 +477,7 @@ static const rkyv_map closed = {NULL, NULL, 0, 0, 0, {0, 0, 0, 1, UINT64_MAX}};
 /* Validates an archive. */
 static rkyv_status open_archive(const uint8_t *archive, size_t length, uint32_t kind, bool wide) {
     const contents *of = &kinds[kind];
+    rkyv_c_interface_1();
     return (rkyv_status)rkyv_c_open(archive, length, of->collection, of->key, of->value,
                                     width_code(wide));
 }

@@ -19,6 +19,7 @@ mod index_text_lookups;
 mod index_text_value_lookups;
 mod index_texts;
 mod index_texts_to_texts;
+mod interface;
 mod long_lookups;
 mod long_number_sets;
 mod long_numbers;
