@@ -116,10 +116,10 @@ typedef uint32_t set_text(uint8_t *archive, size_t length, bool longer, bool wid
 extern "C" {
 #endif
 
-/* The proved library. The functions that decode, get, set, contain and return pairs require valid
- * bytes: the function that opens has returned 0 for them. A decoded header is that of these bytes.
- * Setting a value leaves the header unchanged. The header of a container has 32 bytes. No pointer is
- * null, and memory that a function writes overlaps no other argument. */
+/* The proved library. The functions that decode, count, get, set, contain and return pairs require
+ * valid bytes: the function that opens has returned 0 for them. A decoded header is that of these
+ * bytes. Setting a value leaves the header unchanged. The header of a container has 32 bytes. No
+ * pointer is null, and memory that a function writes overlaps no other argument. */
 next_numbers rkyv_c_next_numbers, rkyv_c_next_long_numbers, rkyv_c_next_texts;
 next_others rkyv_c_next_number_texts, rkyv_c_next_long_number_texts, rkyv_c_next_text_texts;
 next_others rkyv_c_next_number_members, rkyv_c_next_long_number_members, rkyv_c_next_text_members;
@@ -170,14 +170,17 @@ bool rkyv_c_is_text(const uint8_t *bytes, size_t length);
  * link with a library of another interface. */
 void rkyv_c_interface_1(void);
 
-/* The library's functions that open archives, and those for containers, by the codes of their
- * contents. */
+/* The library's functions that open archives and count misplaced keys, and those for containers, by
+ * the codes of their contents. */
 uint32_t rkyv_c_open(const uint8_t *archive, size_t length, uint8_t collection, uint8_t key,
                      uint8_t value, uint8_t width);
 void rkyv_c_explain(const uint8_t *archive, size_t length, uint8_t collection, uint8_t key,
                     uint8_t value, uint8_t width, rkyv_error *error);
 void rkyv_c_decode(const uint8_t *archive, size_t length, uint8_t collection, uint8_t key,
                    uint8_t value, uint8_t width, rkyv_table_header *header);
+uint32_t rkyv_c_misplaced_up_to(const uint8_t *archive, size_t length, uint8_t collection,
+                                uint8_t key, uint8_t value, uint8_t width,
+                                const rkyv_table_header *header, uint64_t limit, uint64_t *count);
 uint32_t rkyv_c_write_header(const uint8_t *archive, size_t length, uint8_t collection, uint8_t key,
                              uint8_t value, uint8_t width, bool checked, uint8_t *header,
                              size_t header_length);
@@ -437,6 +440,7 @@ const char *rkyv_status_name(uint32_t status) {
     case RKYV_NO_MEMORY: return "RKYV_NO_MEMORY";
     case RKYV_WRONG_SIZE: return "RKYV_WRONG_SIZE";
     case RKYV_OVERLAP: return "RKYV_OVERLAP";
+    case RKYV_LIMIT_REACHED: return "RKYV_LIMIT_REACHED";
     case RKYV_OUT_OF_RANGE: return "RKYV_OUT_OF_RANGE";
     case RKYV_UNALIGNED: return "RKYV_UNALIGNED";
     case RKYV_INVALID_LENGTH: return "RKYV_INVALID_LENGTH";
@@ -704,6 +708,23 @@ static rkyv_status store_number(rkyv_status status, uint64_t found, uint64_t *va
         *value = found;
     }
     return status;
+}
+
+rkyv_status rkyv_map_misplaced_up_to(const rkyv_map *map, uint64_t limit, uint64_t *count) {
+    uint64_t misplaced = 0;
+    rkyv_status status = first(check_open(map), check_output(count));
+    if (status != RKYV_OK) {
+        return status;
+    }
+    const contents *of = &kinds[map->kind];
+    status = (rkyv_status)rkyv_c_misplaced_up_to(map->bytes, map->length, of->collection, of->key,
+                                                 of->value, width_code(is_wide(map)), &map->header,
+                                                 limit, &misplaced);
+    return store_number(status, misplaced, count);
+}
+
+rkyv_status rkyv_index_misplaced_up_to(const rkyv_index_map *map, uint64_t limit, uint64_t *count) {
+    return rkyv_map_misplaced_up_to(map_of(map), limit, count);
 }
 
 rkyv_status rkyv_map_get_number(const rkyv_map *map, uint32_t key, uint64_t *value) {

@@ -22,7 +22,8 @@
  *
  * The bytes of an archive may be at any address: its alignments are of positions. The hash has no
  * random seed. So building takes quadratic time if many keys were chosen to share a hash, and a
- * lookup in an archive of others may read all control bytes.
+ * lookup in an archive of others may read all control bytes. It may also miss a key that iteration
+ * shows: `rkyv_map_misplaced_up_to` counts these keys.
  *
  * Requirements that the calls cannot test:
  *
@@ -85,6 +86,8 @@ typedef enum rkyv_status {
     /* The key of a write in place has a byte of the archive, which the call writes, or an archive has a
      * byte of the header that is written. */
     RKYV_OVERLAP = 14,
+    /* The lookups of all keys read more control bytes than the limit allows. */
+    RKYV_LIMIT_REACHED = 15,
 
     /* Errors of validation: the bytes are not an archive of such a map. They are not checked in the
      * order of their numbers. */
@@ -408,6 +411,25 @@ rkyv_status rkyv_map_width(const rkyv_map *map, uint32_t *width);
  *   - RKYV_NULL: `count` is null. */
 rkyv_status rkyv_map_count(const rkyv_map *map, size_t *count);
 
+/* Stores the number of misplaced keys of a map, or items of a set: of those that a lookup of the key
+ * itself does not find. The lookup finds an equal key, or none. If the number is 0, lookups are
+ * complete: each finds the one pair with the key, or no pair has it. In a map that a call of this
+ * header has built, the number is that of the pairs whose key an earlier pair has too.
+ *
+ * Opening a map does not look up keys, so an archive of others may have misplaced keys. This call looks
+ * each key up once. A lookup reads control bytes, sixteen at a time. In a built map it does so one to
+ * two times, if the hashes of the keys are spread evenly. So a limit of four times the number of pairs
+ * has room for such a map. In an archive of others a lookup may read all control bytes. The call ends
+ * after the lookup that exceeds the limit.
+ *
+ * Errors:
+ *   - RKYV_NULL: `map` is null;
+ *   - RKYV_CLOSED;
+ *   - RKYV_NULL: `count` is null;
+ *   - RKYV_LIMIT_REACHED: the lookups of all keys read sixteen control bytes more often than `limit`
+ *     times, or more often than 2^63 times. */
+rkyv_status rkyv_map_misplaced_up_to(const rkyv_map *map, uint64_t limit, uint64_t *count);
+
 /* Stores the value of a number key. In a map that a call of this header has built, this is the value
  * of the first pair with the key. `value` is not stored if it is null.
  *
@@ -685,6 +707,15 @@ rkyv_status rkyv_index_width(const rkyv_index_map *map, uint32_t *width);
  *   - RKYV_CLOSED;
  *   - RKYV_NULL: `count` is null. */
 rkyv_status rkyv_index_count(const rkyv_index_map *map, size_t *count);
+
+/* Stores the number of misplaced keys of an index map, as `rkyv_map_misplaced_up_to` does.
+ *
+ * Errors:
+ *   - RKYV_NULL: `map` is null;
+ *   - RKYV_CLOSED;
+ *   - RKYV_NULL: `count` is null;
+ *   - RKYV_LIMIT_REACHED. */
+rkyv_status rkyv_index_misplaced_up_to(const rkyv_index_map *map, uint64_t limit, uint64_t *count);
 
 /* Stores the index of a number key and its value. In a map that a call of this header has built, these
  * are of the first pair with the key. `index` is not stored if it is null, and neither is `value`.

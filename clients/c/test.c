@@ -173,7 +173,8 @@ static void names(void) {
         NAMED(RKYV_NOT_TEXT), NAMED(RKYV_NULL), NAMED(RKYV_TOO_LONG), NAMED(RKYV_UNKNOWN_KIND),
         NAMED(RKYV_UNKNOWN_WIDTH), NAMED(RKYV_WRONG_KIND), NAMED(RKYV_CLOSED),
         NAMED(RKYV_READ_ONLY), NAMED(RKYV_NO_MEMORY), NAMED(RKYV_WRONG_SIZE), NAMED(RKYV_OVERLAP),
-        NAMED(RKYV_OUT_OF_RANGE), NAMED(RKYV_UNALIGNED), NAMED(RKYV_INVALID_LENGTH),
+        NAMED(RKYV_LIMIT_REACHED), NAMED(RKYV_OUT_OF_RANGE), NAMED(RKYV_UNALIGNED),
+        NAMED(RKYV_INVALID_LENGTH),
         NAMED(RKYV_WRONG_NUMBER_OF_ELEMENTS), NAMED(RKYV_UNWRAPPED_CONTROL_BYTE),
         NAMED(RKYV_PLACE_OUT_OF_RANGE), NAMED(RKYV_INVALID_VALUE), NAMED(RKYV_REFUSED),
         NAMED(RKYV_CAPACITY_TOO_LARGE), NAMED(RKYV_POSITION_TOO_LARGE),
@@ -2721,6 +2722,166 @@ static void opening_errors(open_call *open, bool index, bool container) {
                   container ? RKYV_CONTAINER_WRONG_MAGIC : RKYV_UNKNOWN_WIDTH);
 }
 
+/* Tests the number of misplaced keys of a map with fewer than 17 buckets. Each lookup of a key then
+ * reads sixteen control bytes once. */
+static void are_misplaced(const rkyv_map *map, uint64_t keys, uint64_t misplaced) {
+    const rkyv_index_map index_map = {*map};
+    uint64_t count = 9;
+    if (keys > 0) {
+        returns("one too small", rkyv_map_misplaced_up_to(map, keys - 1, &count),
+                RKYV_LIMIT_REACHED);
+        returns("one too small", rkyv_index_misplaced_up_to(&index_map, keys - 1, &count),
+                RKYV_LIMIT_REACHED);
+        returns("no limit of 0", rkyv_map_misplaced_up_to(map, 0, &count), RKYV_LIMIT_REACHED);
+        same("kept", count, 9);
+    }
+    returns("exact", rkyv_map_misplaced_up_to(map, keys, &count), RKYV_OK);
+    same("misplaced", count, misplaced);
+    count = 9;
+    returns("no limit", rkyv_map_misplaced_up_to(map, UINT64_MAX, &count), RKYV_OK);
+    same("misplaced", count, misplaced);
+    count = 9;
+    returns("exact", rkyv_index_misplaced_up_to(&index_map, keys, &count), RKYV_OK);
+    same("misplaced", count, misplaced);
+}
+
+/* The archive of the first `count` of three pairs or items, the third of which has the key of the
+ * first. */
+static uint8_t *some_of_three(uint32_t kind, size_t count, uint32_t width, size_t *length) {
+    const rkyv_number_item numbers[] = {{7, 1}, {8, 2}, {9, 1}};
+    const rkyv_long_number_item long_numbers[] = {{7, 1}, {8, 1ull << 40 | 1}, {9, 1}};
+    const rkyv_text_item texts[] = {{7, "a text out of line", 18}, {8, "", 0},
+                                    {9, "a text out of line", 18}};
+    const rkyv_number_text_item number_texts[] = {{"x", 1, 1}, {"y", 1, 2}, {"z", 1, 1}};
+    const rkyv_long_number_text_item long_number_texts[] = {
+        {"x", 1, 1}, {"y", 1, 1ull << 40 | 1}, {"z", 1, 1}};
+    const rkyv_text_text_item text_texts[] = {
+        {"x", 1, "abc", 3}, {"y", 1, "ab", 2}, {"z", 1, "abc", 3}};
+    const uint32_t items[] = {1, 2, 1};
+    const uint64_t long_items[] = {1, 1ull << 40 | 1, 1};
+    const rkyv_set_text text_items[] = {{"abc", 3}, {"ab", 2}, {"abc", 3}};
+    uint8_t *bytes = NULL;
+    rkyv_status status = RKYV_UNKNOWN_KIND;
+    switch (kind) {
+    case RKYV_NUMBER_TO_U32:
+    case RKYV_NUMBER_TO_U64:
+    case RKYV_INDEX_NUMBER_TO_U32:
+    case RKYV_INDEX_NUMBER_TO_U64:
+        status = rkyv_build_numbers(numbers, count, kind, width, &bytes, length);
+        break;
+    case RKYV_LONG_NUMBER_TO_U32:
+    case RKYV_LONG_NUMBER_TO_U64:
+    case RKYV_INDEX_LONG_NUMBER_TO_U32:
+    case RKYV_INDEX_LONG_NUMBER_TO_U64:
+        status = rkyv_build_long_numbers(long_numbers, count, kind, width, &bytes, length);
+        break;
+    case RKYV_TEXT_TO_U32:
+    case RKYV_TEXT_TO_U64:
+    case RKYV_INDEX_TEXT_TO_U32:
+    case RKYV_INDEX_TEXT_TO_U64:
+        status = rkyv_build_texts(texts, count, kind, width, &bytes, length);
+        break;
+    case RKYV_NUMBER_TO_TEXT:
+    case RKYV_INDEX_NUMBER_TO_TEXT:
+        status = rkyv_build_number_texts(number_texts, count, kind, width, &bytes, length);
+        break;
+    case RKYV_LONG_NUMBER_TO_TEXT:
+    case RKYV_INDEX_LONG_NUMBER_TO_TEXT:
+        status = rkyv_build_long_number_texts(long_number_texts, count, kind, width, &bytes,
+                                              length);
+        break;
+    case RKYV_TEXT_TO_TEXT:
+    case RKYV_INDEX_TEXT_TO_TEXT:
+        status = rkyv_build_text_texts(text_texts, count, kind, width, &bytes, length);
+        break;
+    case RKYV_SET_OF_NUMBERS:
+        status = rkyv_build_number_set(items, count, width, &bytes, length);
+        break;
+    case RKYV_SET_OF_LONG_NUMBERS:
+        status = rkyv_build_long_number_set(long_items, count, width, &bytes, length);
+        break;
+    case RKYV_SET_OF_TEXTS:
+        status = rkyv_build_text_set(text_items, count, width, &bytes, length);
+        break;
+    }
+    returns("build", status, RKYV_OK);
+    return bytes;
+}
+
+/* In a built map of any kind and width, a key is misplaced if an earlier pair has it. */
+static void misplaced_of_built_maps(void) {
+    for (uint32_t kind = RKYV_NUMBER_TO_U32; kind <= RKYV_INDEX_LONG_NUMBER_TO_TEXT; kind++) {
+        for (uint32_t width = 32; width <= 64; width += 32) {
+            for (size_t keys = 0; keys <= 3; keys++) {
+                size_t length = 0;
+                uint8_t *bytes = some_of_three(kind, keys, width, &length);
+                rkyv_map map;
+                rkyv_index_map index_map;
+                rkyv_status status = rkyv_map_open(bytes, length, kind, width, &map);
+                if (status == RKYV_WRONG_KIND) {
+                    status = rkyv_index_open(bytes, length, kind, width, &index_map);
+                    map = index_map.map;
+                }
+                returns("open", status, RKYV_OK);
+                are_misplaced(&map, keys, keys == 3);
+                rkyv_bytes_free(bytes);
+            }
+        }
+    }
+}
+
+/* A valid archive of others may have misplaced keys, which lookups do not find. */
+static void misplaced_of_others(void) {
+    uint8_t bytes[88];
+    uint64_t value = 9;
+    size_t length = one_to_two(bytes), index = 9;
+    rkyv_map map;
+    rkyv_index_map index_map;
+    rkyv_number_pair pair = RKYV_PAIR_INIT;
+
+    /* The control byte of the key has another tag. */
+    bytes[17] = bytes[19] = 0x29;
+    returns("open", rkyv_map_open(bytes, length, RKYV_NUMBER_TO_U32, 32, &map), RKYV_OK);
+    are_misplaced(&map, 1, 1);
+    returns("not found", rkyv_map_get_number(&map, 1, &value), RKYV_NOT_FOUND);
+    returns("but there", rkyv_map_next_number(&map, &pair), RKYV_OK);
+    same("key", pair.key, 1);
+
+    /* The bucket of the key 5 has the index of the first pair. The key 1 is there twice. */
+    length = three_pairs(bytes);
+    bytes[4] = 0;
+    returns("open", rkyv_index_open(bytes, length, RKYV_INDEX_NUMBER_TO_U32, 32, &index_map),
+            RKYV_OK);
+    are_misplaced(&index_map.map, 3, 2);
+    returns("not found", rkyv_index_get_number(&index_map, 5, &index, &value), RKYV_NOT_FOUND);
+}
+
+/* In a map with many buckets, a lookup may read all control bytes. */
+static void misplaced_of_many(void) {
+    enum { BUCKETS = 64, CONTROLS = BUCKETS + 15, HEADER = 8 * BUCKETS + CONTROLS + 1 };
+    uint8_t bytes[HEADER + 12];
+    uint64_t count = 9;
+    rkyv_map map;
+
+    /* 63 pairs of 0 and 0, each with the tag 2. The hash of 0 is 0, with the tag 0, so no lookup finds
+     * a pair. Bucket 63 is empty. A lookup reads the control bytes of the buckets 0 to 15, then of 16
+     * to 31, then of 48 to 63, one of which is empty. */
+    memset(bytes, 0, sizeof bytes);
+    memset(bytes + 8 * BUCKETS, 2, CONTROLS);
+    bytes[8 * BUCKETS + BUCKETS - 1] = 0xff;
+    bytes[HEADER] = (uint8_t)-(CONTROLS + 1);
+    memset(bytes + HEADER + 1, 0xff, 3);
+    bytes[HEADER + 4] = BUCKETS - 1;
+    bytes[HEADER + 8] = BUCKETS;
+    returns("open", rkyv_map_open(bytes, sizeof bytes, RKYV_NUMBER_TO_U32, 32, &map), RKYV_OK);
+    returns("one too small", rkyv_map_misplaced_up_to(&map, 3 * 63 - 1, &count),
+            RKYV_LIMIT_REACHED);
+    returns("twice the pairs", rkyv_map_misplaced_up_to(&map, 2 * 63, &count), RKYV_LIMIT_REACHED);
+    same("kept", count, 9);
+    returns("exact", rkyv_map_misplaced_up_to(&map, 3 * 63, &count), RKYV_OK);
+    same("misplaced", count, 63);
+}
+
 /* The calls of hash maps with a handle for which they fail. */
 static void calls_of_maps(const rkyv_map *map, rkyv_status wanted) {
     uint64_t number = 9;
@@ -2826,6 +2987,7 @@ static void handles(void) {
     const size_t index_length = indexed_empty(index_bytes);
     const size_t index_text_length = indexed_empty_to_text(index_text_bytes);
     uint32_t width = 9;
+    uint64_t misplaced = 9;
     rkyv_map map, set;
     rkyv_index_map index_map, index_map_to_texts;
     returns("open", rkyv_map_open_writable(bytes, length, RKYV_NUMBER_TO_U32, 32, &map), RKYV_OK);
@@ -2852,6 +3014,13 @@ static void handles(void) {
     calls_of_index_maps_to_texts(&closed_index, RKYV_CLOSED);
     calls_of_index_maps_to_texts(&index_map, RKYV_WRONG_KIND);
     returns("width", rkyv_index_width(&closed_index, &width), RKYV_CLOSED);
+    returns("misplaced", rkyv_map_misplaced_up_to(NULL, 1, &misplaced), RKYV_NULL);
+    returns("misplaced", rkyv_map_misplaced_up_to(&closed, 1, &misplaced), RKYV_CLOSED);
+    returns("misplaced", rkyv_map_misplaced_up_to(&map, 1, NULL), RKYV_NULL);
+    returns("misplaced", rkyv_index_misplaced_up_to(NULL, 1, &misplaced), RKYV_NULL);
+    returns("misplaced", rkyv_index_misplaced_up_to(&closed_index, 1, &misplaced), RKYV_CLOSED);
+    returns("misplaced", rkyv_index_misplaced_up_to(&index_map, 1, NULL), RKYV_NULL);
+    same("kept", misplaced, 9);
 }
 
 /* The calls with a text key, with one type. Those that write have a value that is too large for 32
@@ -2962,6 +3131,8 @@ static void orders_of_lookups(void) {
     returns("read only, too large", rkyv_map_set_number(&map, 1, 1ull << 32), RKYV_READ_ONLY);
     returns("closed, null", rkyv_map_width(&closed, NULL), RKYV_CLOSED);
     returns("closed, null", rkyv_map_count(&closed, NULL), RKYV_CLOSED);
+    returns("closed, null", rkyv_map_misplaced_up_to(&closed, 1, NULL), RKYV_CLOSED);
+    returns("null, limit", rkyv_map_misplaced_up_to(&map, 0, NULL), RKYV_NULL);
     returns("closed, null", rkyv_map_next_number(&closed, NULL), RKYV_CLOSED);
     returns("another kind, null", rkyv_map_next_text(&map, NULL), RKYV_WRONG_KIND);
     returns("closed, null", rkyv_map_next_numbers(&closed, 0, &pair, 1, NULL), RKYV_CLOSED);
@@ -2982,6 +3153,8 @@ static void orders_of_lookups(void) {
             RKYV_READ_ONLY);
     returns("closed, null", rkyv_index_width(&closed_index, NULL), RKYV_CLOSED);
     returns("closed, null", rkyv_index_count(&closed_index, NULL), RKYV_CLOSED);
+    returns("closed, null", rkyv_index_misplaced_up_to(&closed_index, 1, NULL), RKYV_CLOSED);
+    returns("null, limit", rkyv_index_misplaced_up_to(&index_map, 0, NULL), RKYV_NULL);
     returns("closed, null", rkyv_index_number_at(&closed_index, 0, NULL), RKYV_CLOSED);
     returns("another kind, null", rkyv_index_text_at(&index_map, 0, NULL), RKYV_WRONG_KIND);
     returns("null, end", rkyv_index_number_at(&index_map, 3, NULL), RKYV_NULL);
@@ -3187,6 +3360,9 @@ int main(void) {
     indexed_numbers_to_texts();
     indexed_long_numbers_to_texts();
     indexed_texts_to_texts();
+    misplaced_of_built_maps();
+    misplaced_of_others();
+    misplaced_of_many();
     handles();
     orders();
     if (faults == 0) {

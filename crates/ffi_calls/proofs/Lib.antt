@@ -12,3 +12,4 @@ pub mod IndexPairs
 pub mod IndexFound
 pub mod IndexWriting
 pub mod StoredArchive
+pub mod Counting

@@ -20,6 +20,7 @@ pub mod IndexItems
 pub mod IndexInPlace
 pub mod IndexTextValues
 pub mod Collections
+pub mod Misplaced
 pub mod Lemmas
 unfoldable pub use Status.{container_status, verify_status, write_status}
 unfoldable pub use Reading.{Agrees, HasBytesOf, IsNumberOf, IsSame, ReadsText, ReadsWord}
@@ -115,3 +116,6 @@ unfoldable pub use Collections.{ExplainsByCodes, IsHeaderByCodes, IsValidByCodes
 unfoldable pub use Collections.{collection_by, collection_in, collection_of, collection_spec}
 unfoldable pub use Collections.{index_flag, key_type, key_type_spec, root_in, root_spec, value_type}
 unfoldable pub use Collections.{value_type_spec, wide_flag}
+unfoldable pub use Misplaced.{CountsIn, CountsMisplaced, StoresMisplaced, index_with_keys}
+unfoldable pub use Misplaced.{key_type_calls, key_type_same, misplaced_in, misplaced_of}
+unfoldable pub use Misplaced.{number_calls, number_same, strides_in, strides_of}

@@ -112,7 +112,7 @@ fn wide_flag(code: u8) -> Option<bool>
 }
 
 /// Returns the collection with these codes, or `None` if the library has none.
-fn collection_of(codes: Codes) -> Option<Collection>
+pub(crate) fn collection_of(codes: Codes) -> Option<Collection>
     ensures { result ≡ collection_of codes }
 {
     Some(Collection {

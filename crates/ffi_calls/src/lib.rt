@@ -1,6 +1,7 @@
 //! Hash maps and sets, index maps and containers for C, of numbers or texts, narrow or wide.
 //!
 //! - `collection` validates archives and decodes their headers, by the codes of their contents.
+//!   `misplaced` counts the keys that a lookup of the key itself doesn't find.
 //! - `numbers` and `texts` look up, overwrite and walk maps to numbers.
 //!   `number_items` and `text_items` write their archives.
 //! - `numbers_to_texts` and `texts_to_texts` are the same for maps to texts, without overwrites.
@@ -35,6 +36,7 @@ pub mod index_texts;
 pub mod index_texts_to_texts;
 pub mod laws;
 mod lookup;
+pub mod misplaced;
 pub mod number_items;
 pub mod number_sets;
 pub mod numbers;

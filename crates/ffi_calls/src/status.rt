@@ -25,6 +25,9 @@ pub const UNKNOWN_CODES: u32 = 7;
 /// An allocation failed.
 pub const NO_MEMORY: u32 = 12;
 
+/// The lookups of all keys read more strides of control bytes than the limit.
+pub const LIMIT_REACHED: u32 = 15;
+
 /// The length in a container's header isn't the number of bytes after the header.
 pub const WRONG_LENGTH: u32 = 46;
 

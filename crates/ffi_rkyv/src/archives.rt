@@ -1,15 +1,16 @@
-//! The calls that open archives, by the codes of their contents.
+//! The calls that open archives, and that count misplaced keys, by the codes of their contents.
 //!
 //! The codes are those in the header of a container. The library has maps of fewer contents than a
 //! container may have: all other codes are unknown here.
 
 ghost use Rattle.std.specs.Prelude.{◌≡◌};
-ghost use Rattle.ffi_calls.specs.{ExplainsByCodes, IsHeaderByCodes, IsValidByCodes, OpensByCodes};
-ghost use Rattle.ffi_calls.specs.{codes_of};
+ghost use Rattle.ffi_calls.specs.{CountsMisplaced, ExplainsByCodes, IsHeaderByCodes};
+ghost use Rattle.ffi_calls.specs.{IsValidByCodes, OpensByCodes, codes_of};
 
 use ffi_calls::collection::{decode_header, explain_archive, open_archive};
 use ffi_calls::containers::Codes;
 use ffi_calls::explanation::Explanation;
+use ffi_calls::misplaced::misplaced_up_to;
 use rkyv_table::table::decoded::Decoded;
 
 /// Validates the archive of the collection with the codes.
@@ -82,4 +83,42 @@ pub extern "C" fn rkyv_c_decode(
         width,
     };
     *header = decode_header(archive, codes);
+}
+
+/// Stores the number of misplaced keys of the collection with the codes in `count`.
+///
+/// A key is misplaced if a lookup of the key itself finds another key that is the same, or none.
+///
+/// # Requires
+///
+/// - The archive is valid: `rkyv_c_open` returned 0 for these codes.
+/// - `header` is its decoded header.
+///
+/// # Errors
+///
+/// - 15: the lookups of all keys read more than `limit` strides of sixteen control bytes, or more
+///   than 2^63; `count` is unchanged then.
+#[unsafe(no_mangle)]
+pub extern "C" fn rkyv_c_misplaced_up_to(
+    archive: &[u8],
+    kind: u8,
+    key: u8,
+    value: u8,
+    width: u8,
+    header: &Decoded,
+    limit: u64,
+    count: &mut u64,
+) -> u32
+    requires archive { IsValidByCodes (codes_of kind key value width) archive.now }
+    requires header { IsHeaderByCodes (codes_of kind key value width) archive.now header.now }
+    ensures { CountsMisplaced (codes_of kind key value width) archive.now limit count.old result
+        count.new }
+{
+    let codes = Codes {
+        kind,
+        key,
+        value,
+        width,
+    };
+    misplaced_up_to(archive, codes, header, limit, count)
 }

@@ -28,6 +28,7 @@ mod index_text_items;
 mod index_texts;
 mod index_texts_to_texts;
 mod long_numbers;
+mod misplaced;
 mod number_items;
 mod number_sets;
 mod numbers;

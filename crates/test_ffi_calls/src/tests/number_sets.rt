@@ -24,7 +24,7 @@ pub(crate) fn one() -> [u8; 52] {
 }
 
 /// Returns the set of 1, inserted twice. Buckets from 0 on, controls from 12 on, header at 44.
-fn one_twice() -> [u8; 56] {
+pub(crate) fn one_twice() -> [u8; 56] {
     let front = [
         0, 0, 0, 0, 1, 0, 0, 0, 1, 0, 0, 0, 0x28, 0x28, 0xff, 0x28, 0x28,
     ];

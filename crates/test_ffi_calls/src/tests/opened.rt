@@ -82,8 +82,8 @@ fn to_others(kind: u8, key: u8, value: u8, wide: bool) -> Codes
     }
 }
 
-// Returns the decoded header of an archive, or `None` if it is invalid.
-fn header_in(archive: &[u8], codes: Codes) -> Option<Decoded>
+/// Returns the decoded header of an archive, or `None` if it is invalid.
+pub(crate) fn header_in(archive: &[u8], codes: Codes) -> Option<Decoded>
     ensures { IfSome result (λ header. IsValidByCodes codes archive.now
         × IsHeaderByCodes codes archive.now header) }
 {

@@ -33,7 +33,7 @@ fn wide_empty_text() -> [u8; 88] {
 /// Returns the set of the empty text, inserted twice.
 ///
 /// Buckets from 0 on, controls from 24 on, header at 56.
-fn empty_text_twice() -> [u8; 68] {
+pub(crate) fn empty_text_twice() -> [u8; 68] {
     let front = [
         0, 0, 0, 0, 0, 0, 0, 0, // bucket 2
         0xff, 0xff, 0xff, 0xff, 0xff, 0xff, 0xff, 0xff, // bucket 1

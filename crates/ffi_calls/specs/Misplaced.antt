@@ -1,0 +1,91 @@
+-- The misplaced keys of collections, by the codes of their contents.
+use Rattle.std.specs.Prelude.{◌≡◌, ℕ, ◌<◌, ◌^◌, ◌≤◌, ◌⊎◌, Bool, true, false, IfSome, List}
+use Rattle.std.specs.Prelude.{MatchOption, Option}
+use Rattle.std.specs.Int.{Width}
+use Rattle.rkyv_scan.specs.{HasherCall}
+use Rattle.rkyv_keys.specs.{Comparison, scalar_calls, scalar_same, text_key_calls, text_same}
+use Rattle.rkyv_collections.specs.{MapAt, map_misplaced, map_strides}
+use Rattle.rkyv_index.specs.{Index, index_misplaced, keys_strides}
+use Rattle.ffi_calls.specs.Archives.{word_of}
+use Rattle.ffi_calls.specs.Collections.{collection_in, collection_of}
+use Rattle.ffi_calls.specs.Keys.{NumberKey, long_key, short_key}
+use Rattle.ffi_calls.specs.SetItems.{fx_hash_at}
+use Rattle.ffi_calls.specs.declared.collection.Collection.{Collection}
+use Rattle.ffi_calls.specs.declared.collection.KeyType.{KeyType}
+use Rattle.ffi_calls.specs.declared.collection.KeyType.TheVariants as key
+use Rattle.ffi_calls.specs.declared.containers.Codes.{Codes}
+
+-- the comparison of keys that are numbers
+abbrev pub number_same : {A : Type 0} → NumberKey A → Comparison
+number_same k = scalar_same k.encoding k.eq
+
+-- the hasher calls of the number at a position
+abbrev pub number_calls : {A : Type 0} → NumberKey A → List ℕ → ℕ → List HasherCall
+number_calls k = scalar_calls k.encoding k.call
+
+-- the comparison of keys of the type in an archive of the word
+abbrev pub key_type_same : Width → KeyType → Comparison
+key_type_same w key.U32 = number_same short_key
+key_type_same w key.U64 = number_same long_key
+key_type_same w key.Text = text_same w
+
+-- the hasher calls of the key at a position
+abbrev pub key_type_calls : Width → KeyType → List ℕ → ℕ → List HasherCall
+key_type_calls w key.U32 = number_calls short_key
+key_type_calls w key.U64 = number_calls long_key
+key_type_calls w key.Text = text_key_calls w
+
+-- the index map `m`, for lookups of its own keys
+abbrev pub index_with_keys : MapAt → Index (Unit {0})
+index_with_keys m = record {
+  word = m.word;
+  key = m.key;
+  value = m.value;
+  bytes = m.bytes;
+  pos = m.pos;
+  is_key = λ i view. Unit {0};
+}
+
+module _ (m : MapAt) (same : Comparison) (calls : List ℕ → ℕ → List HasherCall) where
+  -- the number of keys of the hash map `m`, or of the index map if the flag is `true`, that
+  -- a lookup of the key itself doesn't find
+  abbrev pub misplaced_in : Bool → ℕ
+  misplaced_in false =
+      map_misplaced m.word m.key m.value (fx_hash_at calls) same m.bytes m.pos
+  misplaced_in true = index_misplaced (index_with_keys m) (fx_hash_at calls) same
+
+  -- the number of strides that the lookups of all keys read
+  abbrev pub strides_in : Bool → ℕ
+  strides_in false = map_strides m.word m.key m.value (fx_hash_at calls) same m.bytes m.pos
+  strides_in true = keys_strides (index_with_keys m) (fx_hash_at calls) same
+
+  -- `result`: number of misplaced keys, or `None` if the lookups of all keys read more
+  -- than `limit` strides, or more than 2^63
+  abbrev pub CountsIn : Bool → ℕ → Option ℕ → Type 0
+  CountsIn indexed limit result =
+      MatchOption result ((limit < strides_in indexed) ⊎ (2 ^ 63 < strides_in indexed))
+      (λ n. (strides_in indexed ≤ limit) × (strides_in indexed ≤ 2 ^ 63)
+      × (n ≡ misplaced_in indexed))
+
+-- the number of misplaced keys of the collection at the root of an archive
+abbrev pub misplaced_of : Collection → List ℕ → ℕ
+misplaced_of c b = let w = word_of c.wide in
+    misplaced_in (collection_in c b) (key_type_same w c.key) (key_type_calls w c.key) c.indexed
+
+-- the number of strides that the lookups of all its keys read
+abbrev pub strides_of : Collection → List ℕ → ℕ
+strides_of c b = let w = word_of c.wide in
+    strides_in (collection_in c b) (key_type_same w c.key) (key_type_calls w c.key) c.indexed
+
+-- The status is 0 and `after` is the number `misplaced`. The status is 15 and `after` is `before`
+-- if the number of strides is greater than `limit`, or greater than 2^63
+abbrev pub StoresMisplaced : ℕ → ℕ → ℕ → ℕ → ℕ → ℕ → Type 0
+StoresMisplaced misplaced strides limit before status after =
+    ((strides ≤ limit) × (strides ≤ 2 ^ 63) × (status ≡ 0) × (after ≡ misplaced))
+    ⊎ (((limit < strides) ⊎ (2 ^ 63 < strides)) × (status ≡ 15) × (after ≡ before))
+
+-- the number of misplaced keys of the collection with the codes at the root of `b` is stored,
+-- unless the lookups of all its keys read more than `limit` strides
+abbrev pub CountsMisplaced : Codes → List ℕ → ℕ → ℕ → ℕ → ℕ → Type 0
+CountsMisplaced codes b limit before status after = IfSome (collection_of codes)
+    (λ c. StoresMisplaced (misplaced_of c b) (strides_of c b) limit before status after)
