@@ -216,6 +216,11 @@ macro_rules! map_buf {
                 self.as_map().contains_key(key)
             }
 
+            #[doc = concat!("Returns the number of misplaced keys, as [`", stringify!($map), "::misplaced_up_to`] does.")]
+            pub fn misplaced_up_to(&self, limit: u64) -> Option<u64> {
+                self.as_map().misplaced_up_to(limit)
+            }
+
             #[doc = concat!("Returns an iterator over the pairs, as [`", stringify!($map), "::iter`] does.")]
             pub fn iter(&self) -> $iter<'_, K, V> {
                 self.as_map().iter()
@@ -390,6 +395,11 @@ impl<K: Key + ?Sized, B: StableBytes> SetBuf<K, B> {
     /// Returns `true` if a lookup finds the item.
     pub fn contains(&self, item: &K) -> bool {
         self.as_set().contains(item)
+    }
+
+    /// Returns the number of misplaced items, as [`Set::misplaced_up_to`] does.
+    pub fn misplaced_up_to(&self, limit: u64) -> Option<u64> {
+        self.as_set().misplaced_up_to(limit)
     }
 
     /// Returns an iterator over the items, in the order of the archive.

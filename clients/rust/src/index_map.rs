@@ -4,7 +4,7 @@ use std::fmt;
 use std::iter::FusedIterator;
 use std::marker::PhantomData;
 
-use crate::map::found;
+use crate::map::{found, within_limit};
 use crate::open::{INDEX, INDEX_CONTAINER};
 use crate::raw::{self, Indexed, Pair, RawMap};
 use crate::types::index_kind;
@@ -272,6 +272,30 @@ impl<'a, K: Key + ?Sized, V: Value + ?Sized> IndexMap<'a, K, V> {
         self.find(key).is_some()
     }
 
+    /// Returns the number of misplaced keys, or `None` at a limit on the work.
+    ///
+    /// A key is misplaced if a lookup of the key itself doesn't find its index, but that of an equal key,
+    /// or none. The limit is that of [`Map::misplaced_up_to`](crate::Map::misplaced_up_to).
+    ///
+    /// # Examples
+    /// ```
+    /// use rkyv_maps::{Builder, Width};
+    ///
+    /// # fn main() -> Result<(), rkyv_maps::Error> {
+    /// let builder = Builder::<str, u32>::from([("was", 7), ("der", 8), ("was", 9)]);
+    /// let archive = builder.build_index(Width::Narrow)?;
+    /// assert_eq!(archive.open().misplaced_up_to(12), Some(1));
+    /// assert_eq!(archive.open().misplaced_up_to(2), None);
+    /// # Ok(())
+    /// # }
+    /// ```
+    pub fn misplaced_up_to(&self, limit: u64) -> Option<u64> {
+        let mut count = 0;
+        // SAFETY: the map is open and borrows its bytes.
+        let status = unsafe { raw::rkyv_index_misplaced_up_to(&self.raw, limit, &mut count) };
+        within_limit(status).then_some(count)
+    }
+
     /// Returns an iterator over the pairs, in insertion order.
     pub fn iter(&self) -> Iter<'a, K, V> {
         Iter {
@@ -471,6 +495,11 @@ impl<'a, K: Key + ?Sized, V: Number> IndexMapMut<'a, K, V> {
     /// Returns `true` if a lookup finds the key.
     pub fn contains_key(&self, key: &K) -> bool {
         self.as_map().contains_key(key)
+    }
+
+    /// Returns the number of misplaced keys, as [`IndexMap::misplaced_up_to`] does.
+    pub fn misplaced_up_to(&self, limit: u64) -> Option<u64> {
+        self.as_map().misplaced_up_to(limit)
     }
 
     /// Returns an iterator over the pairs, in insertion order.

@@ -50,8 +50,8 @@
 //!
 //! The calls that open an archive or a container take any bytes, and fail with an [`Error`] if they
 //! are not valid. The keys of an untrusted archive may repeat, and may be in buckets where lookups
-//! don't find them. A lookup there may read all control bytes, since the hash has no random seed. The
-//! bytes may be at any address.
+//! don't find them: [`Map::misplaced_up_to`] counts these keys. A lookup there may read all control
+//! bytes, since the hash has no random seed. The bytes may be at any address.
 //!
 //! # Bytes that change after validation
 //!

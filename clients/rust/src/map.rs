@@ -206,6 +206,48 @@ impl<'a, K: Key + ?Sized, V: Value + ?Sized> Map<'a, K, V> {
         self.get(key).is_some()
     }
 
+    /// Returns the number of misplaced keys, or `None` at a limit on the work.
+    ///
+    /// A key is misplaced if a lookup of the key itself doesn't find its pair, but one with an equal
+    /// key, or none. If no key is misplaced, lookups are complete: each finds the one pair with the
+    /// key, or no pair has it. In a map that a [`Builder`](crate::Builder) has built, the misplaced
+    /// keys are those that an earlier pair has too. [`open`](Map::open) doesn't look up keys, so an
+    /// untrusted archive may have others.
+    ///
+    /// Each key is looked up once. A lookup reads control bytes, sixteen at a time. The result is
+    /// `None` if the lookups of all keys do so more often than `limit` times, or 2^63 times. The call
+    /// then ends after the lookup that exceeds the limit.
+    ///
+    /// In a built map, the lookups do so one to two times for each key, if the hashes of the keys are
+    /// spread evenly. So a limit of four times the number of pairs has room for such a map.
+    ///
+    /// # Examples
+    /// ```
+    /// use rkyv_maps::{Builder, Map, Width};
+    ///
+    /// // Whether the bytes are of a map whose lookups are complete.
+    /// fn is_complete(bytes: &[u8]) -> bool {
+    ///     Map::<str, u64>::open(bytes, Width::Narrow)
+    ///         .is_ok_and(|map| map.misplaced_up_to(4 * map.len() as u64) == Some(0))
+    /// }
+    ///
+    /// # fn main() -> Result<(), rkyv_maps::Error> {
+    /// let archive = Builder::<str, u64>::from([("tea", 3), ("cake", 4)]).build(Width::Narrow)?;
+    /// assert!(is_complete(archive.as_bytes()));
+    /// let repeated = Builder::<str, u64>::from([("tea", 3), ("tea", 4)]).build(Width::Narrow)?;
+    /// assert!(!is_complete(repeated.as_bytes()));
+    /// assert_eq!(repeated.open().misplaced_up_to(2), Some(1));
+    /// assert_eq!(repeated.open().misplaced_up_to(1), None);
+    /// # Ok(())
+    /// # }
+    /// ```
+    pub fn misplaced_up_to(&self, limit: u64) -> Option<u64> {
+        let mut count = 0;
+        // SAFETY: the map is open and borrows its bytes.
+        let status = unsafe { raw::rkyv_map_misplaced_up_to(&self.raw, limit, &mut count) };
+        within_limit(status).then_some(count)
+    }
+
     /// Returns an iterator over the pairs, in the order of the archive.
     pub fn iter(&self) -> Iter<'a, K, V> {
         Iter::new(self.raw, self.len())
@@ -368,6 +410,11 @@ impl<'a, K: Key + ?Sized, V: Number> MapMut<'a, K, V> {
         self.as_map().contains_key(key)
     }
 
+    /// Returns the number of misplaced keys, as [`Map::misplaced_up_to`] does.
+    pub fn misplaced_up_to(&self, limit: u64) -> Option<u64> {
+        self.as_map().misplaced_up_to(limit)
+    }
+
     /// Returns an iterator over the pairs, in the order of the archive.
     pub fn iter(&self) -> Iter<'_, K, V> {
         self.as_map().iter()
@@ -421,6 +468,14 @@ impl<K: Key + ?Sized, V: Number> fmt::Debug for MapMut<'_, K, V> {
 #[inline]
 pub(crate) fn found(status: u32) -> bool {
     if status > raw::NOT_FOUND {
+        unexpected(status);
+    }
+    status == raw::OK
+}
+
+/// Whether a count is within its limit, by the status of the call with an open map.
+pub(crate) fn within_limit(status: u32) -> bool {
+    if status != raw::OK && status != raw::LIMIT_REACHED {
         unexpected(status);
     }
     status == raw::OK

@@ -177,6 +177,7 @@ const _: () = {
 pub const OK: u32 = 0;
 pub const NOT_FOUND: u32 = 1;
 pub const UNKNOWN_KIND: u32 = 7;
+pub const LIMIT_REACHED: u32 = 15;
 
 /// The number of bytes of a container's header.
 pub const HEADER_LEN: usize = 32;
@@ -241,6 +242,8 @@ unsafe extern "C" {
         width: u32,
         map: *mut RawMap,
     ) -> u32;
+    pub fn rkyv_map_misplaced_up_to(map: *const RawMap, limit: u64, count: *mut u64) -> u32;
+    pub fn rkyv_index_misplaced_up_to(map: *const RawMap, limit: u64, count: *mut u64) -> u32;
     pub fn rkyv_map_explain(
         bytes: *const c_void,
         length: usize,

@@ -112,6 +112,26 @@ impl<'a, K: Key + ?Sized> Set<'a, K> {
         self.map.contains_key(item)
     }
 
+    /// Returns the number of misplaced items, or `None` at a limit on the work.
+    ///
+    /// An item is misplaced if a lookup of the item itself finds an equal one in its place, or none. The
+    /// limit is that of [`Map::misplaced_up_to`].
+    ///
+    /// # Examples
+    /// ```
+    /// use rkyv_maps::{SetBuilder, Width};
+    ///
+    /// # fn main() -> Result<(), rkyv_maps::Error> {
+    /// let archive = SetBuilder::<u32>::from([2, 3, 2]).build(Width::Narrow)?;
+    /// assert_eq!(archive.open().misplaced_up_to(12), Some(1));
+    /// assert_eq!(archive.open().misplaced_up_to(2), None);
+    /// # Ok(())
+    /// # }
+    /// ```
+    pub fn misplaced_up_to(&self, limit: u64) -> Option<u64> {
+        self.map.misplaced_up_to(limit)
+    }
+
     /// Returns an iterator over the items, in the order of the archive.
     pub fn iter(&self) -> Members<'a, K> {
         Members {
