@@ -978,29 +978,29 @@ static rkyv_status write_text(const rkyv_map *map, uint32_t kind, set_text *set,
     return status;
 }
 
-rkyv_status rkyv_map_set_number(const rkyv_map *map, uint32_t key, uint64_t value) {
+rkyv_status rkyv_map_set_number(rkyv_map *map, uint32_t key, uint64_t value) {
     return write_number(map, RKYV_NUMBER_TO_U32, rkyv_c_set_number, key, value);
 }
 
-rkyv_status rkyv_map_set_long_number(const rkyv_map *map, uint64_t key, uint64_t value) {
+rkyv_status rkyv_map_set_long_number(rkyv_map *map, uint64_t key, uint64_t value) {
     return write_long_number(map, RKYV_LONG_NUMBER_TO_U32, rkyv_c_set_long_number, key, value);
 }
 
-rkyv_status rkyv_map_set_text(const rkyv_map *map, const char *key, size_t length,
+rkyv_status rkyv_map_set_text(rkyv_map *map, const char *key, size_t length,
                               uint64_t value) {
     return write_text(map, RKYV_TEXT_TO_U32, rkyv_c_set_text, key, length, value);
 }
 
-rkyv_status rkyv_index_set_number(const rkyv_index_map *map, uint32_t key, uint64_t value) {
+rkyv_status rkyv_index_set_number(rkyv_index_map *map, uint32_t key, uint64_t value) {
     return write_number(map_of(map), RKYV_INDEX_NUMBER_TO_U32, rkyv_c_index_set_number, key, value);
 }
 
-rkyv_status rkyv_index_set_long_number(const rkyv_index_map *map, uint64_t key, uint64_t value) {
+rkyv_status rkyv_index_set_long_number(rkyv_index_map *map, uint64_t key, uint64_t value) {
     return write_long_number(map_of(map), RKYV_INDEX_LONG_NUMBER_TO_U32,
                              rkyv_c_index_set_long_number, key, value);
 }
 
-rkyv_status rkyv_index_set_text(const rkyv_index_map *map, const char *key, size_t length,
+rkyv_status rkyv_index_set_text(rkyv_index_map *map, const char *key, size_t length,
                                 uint64_t value) {
     return write_text(map_of(map), RKYV_INDEX_TEXT_TO_U32, rkyv_c_index_set_text, key, length,
                       value);

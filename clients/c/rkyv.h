@@ -501,17 +501,17 @@ rkyv_status rkyv_set_contains_text(const rkyv_map *set, const char *item, size_t
 
 /* Writes the value of a number key in place: the value that `rkyv_map_get_number` finds.
  *
- * The handle is `const`, but the call writes bytes of the archive. So no other thread may use the
- * archive meanwhile, by this handle or another.
+ * The call leaves the handle unchanged, and writes bytes of the archive. So no other thread may use
+ * the archive meanwhile, by this handle or another.
  *
  * Errors, after which no byte is changed:
  *   - RKYV_NULL: `map` is null;
  *   - RKYV_CLOSED, RKYV_WRONG_KIND, RKYV_READ_ONLY, RKYV_VALUE_TOO_LARGE, RKYV_NOT_FOUND. */
-rkyv_status rkyv_map_set_number(const rkyv_map *map, uint32_t key, uint64_t value);
+rkyv_status rkyv_map_set_number(rkyv_map *map, uint32_t key, uint64_t value);
 
 /* Writes the value of a number key of 64 bits in place, as `rkyv_map_set_number` does. No other
  * thread may use the archive meanwhile. */
-rkyv_status rkyv_map_set_long_number(const rkyv_map *map, uint64_t key, uint64_t value);
+rkyv_status rkyv_map_set_long_number(rkyv_map *map, uint64_t key, uint64_t value);
 
 /* Writes the value of a text key of `length` bytes in place: the value that `rkyv_map_get_text`
  * finds. `key` may be null if `length` is 0. A key that another call has stored is a part of the
@@ -525,7 +525,7 @@ rkyv_status rkyv_map_set_long_number(const rkyv_map *map, uint64_t key, uint64_t
  *   - RKYV_TOO_LONG, RKYV_READ_ONLY;
  *   - RKYV_OVERLAP: a byte of the key is in the archive;
  *   - RKYV_NOT_TEXT, RKYV_VALUE_TOO_LARGE, RKYV_NOT_FOUND. */
-rkyv_status rkyv_map_set_text(const rkyv_map *map, const char *key, size_t length,
+rkyv_status rkyv_map_set_text(rkyv_map *map, const char *key, size_t length,
                               uint64_t value);
 
 /* Stores the next pair of a map with number keys, in the order of the archive. After a pair that
@@ -770,17 +770,17 @@ rkyv_status rkyv_index_get_text_of_text(const rkyv_index_map *map, const char *k
 
 /* Writes the value of a number key in place: the value that `rkyv_index_get_number` finds.
  *
- * The handle is `const`, but the call writes bytes of the archive. So no other thread may use the
- * archive meanwhile, by this handle or another.
+ * The call leaves the handle unchanged, and writes bytes of the archive. So no other thread may use
+ * the archive meanwhile, by this handle or another.
  *
  * Errors, after which no byte is changed:
  *   - RKYV_NULL: `map` is null;
  *   - RKYV_CLOSED, RKYV_WRONG_KIND, RKYV_READ_ONLY, RKYV_VALUE_TOO_LARGE, RKYV_NOT_FOUND. */
-rkyv_status rkyv_index_set_number(const rkyv_index_map *map, uint32_t key, uint64_t value);
+rkyv_status rkyv_index_set_number(rkyv_index_map *map, uint32_t key, uint64_t value);
 
 /* Writes the value of a number key of 64 bits in place, as `rkyv_index_set_number` does. No other
  * thread may use the archive meanwhile. */
-rkyv_status rkyv_index_set_long_number(const rkyv_index_map *map, uint64_t key, uint64_t value);
+rkyv_status rkyv_index_set_long_number(rkyv_index_map *map, uint64_t key, uint64_t value);
 
 /* Writes the value of a text key of `length` bytes in place: the value that `rkyv_index_get_text`
  * finds. `key` may be null if `length` is 0. A key that another call has stored is a part of the
@@ -794,7 +794,7 @@ rkyv_status rkyv_index_set_long_number(const rkyv_index_map *map, uint64_t key, 
  *   - RKYV_TOO_LONG, RKYV_READ_ONLY;
  *   - RKYV_OVERLAP: a byte of the key is in the archive;
  *   - RKYV_NOT_TEXT, RKYV_VALUE_TOO_LARGE, RKYV_NOT_FOUND. */
-rkyv_status rkyv_index_set_text(const rkyv_index_map *map, const char *key, size_t length,
+rkyv_status rkyv_index_set_text(rkyv_index_map *map, const char *key, size_t length,
                                 uint64_t value);
 
 /* Stores the pair at an index of a map with number keys. Indices count from 0, in the order in

@@ -2883,7 +2883,7 @@ static void misplaced_of_many(void) {
 }
 
 /* The calls of hash maps with a handle for which they fail. */
-static void calls_of_maps(const rkyv_map *map, rkyv_status wanted) {
+static void calls_of_maps(rkyv_map *map, rkyv_status wanted) {
     uint64_t number = 9;
     size_t length = 9, count = 9;
     const char *text = NULL;
@@ -2937,7 +2937,7 @@ static void calls_of_sets(const rkyv_map *set, rkyv_status wanted) {
 }
 
 /* The calls of index maps to numbers with a handle for which they fail. */
-static void calls_of_index_maps(const rkyv_index_map *map, rkyv_status wanted) {
+static void calls_of_index_maps(rkyv_index_map *map, rkyv_status wanted) {
     uint64_t value = 9;
     size_t index = 9, count = 9;
     rkyv_index_number_pair numbers = RKYV_PAIR_INIT;
@@ -2980,8 +2980,8 @@ static void calls_of_index_maps_to_texts(const rkyv_index_map *map, rkyv_status 
 /* Each call fails with a handle that is null, that is of no open map, and that is of a map of another
  * kind. */
 static void handles(void) {
-    const rkyv_map closed = {NULL, NULL, 0, 0, 0, {0, 0, 0, 0, 0}};
-    const rkyv_index_map closed_index = {{NULL, NULL, 0, 0, 0, {0, 0, 0, 0, 0}}};
+    rkyv_map closed = {NULL, NULL, 0, 0, 0, {0, 0, 0, 0, 0}};
+    rkyv_index_map closed_index = {{NULL, NULL, 0, 0, 0, {0, 0, 0, 0, 0}}};
     uint8_t bytes[64], set_bytes[88], index_bytes[104], index_text_bytes[112];
     const size_t length = one_to_two(bytes), set_length = set_of_empty(set_bytes);
     const size_t index_length = indexed_empty(index_bytes);
@@ -3036,7 +3036,8 @@ static rkyv_status get_text_by_key(const rkyv_map *map, const char *key, size_t 
 }
 
 static rkyv_status set_by_key(const rkyv_map *map, const char *key, size_t length) {
-    return rkyv_map_set_text(map, key, length, 1ull << 32);
+    rkyv_map of = *map;
+    return rkyv_map_set_text(&of, key, length, 1ull << 32);
 }
 
 static rkyv_status index_get_by_key(const rkyv_map *map, const char *key, size_t length) {
@@ -3050,7 +3051,7 @@ static rkyv_status index_get_text_by_key(const rkyv_map *map, const char *key, s
 }
 
 static rkyv_status index_set_by_key(const rkyv_map *map, const char *key, size_t length) {
-    const rkyv_index_map of = {*map};
+    rkyv_index_map of = {*map};
     return rkyv_index_set_text(&of, key, length, 1ull << 32);
 }
 
