@@ -59,13 +59,13 @@ pub trait KeyCalls: 'static {
     ///
     /// # Safety
     /// `map` is closed, or it is open and its bytes are borrowed, mutably if it is writable.
-    unsafe fn set(map: &RawMap, key: &Self, value: u64) -> u32;
+    unsafe fn set(map: &mut RawMap, key: &Self, value: u64) -> u32;
 
     /// Writes the value of a key of an index map, as `set` does.
     ///
     /// # Safety
     /// As `set`.
-    unsafe fn index_set(map: &RawMap, key: &Self, value: u64) -> u32;
+    unsafe fn index_set(map: &mut RawMap, key: &Self, value: u64) -> u32;
 }
 
 /// Calls the function for the width of a map with its bytes, its header and the other arguments, by
@@ -184,8 +184,8 @@ macro_rules! calls {
                 pairs: *mut Pair<u64, $raw>,
                 room: usize,
             ) -> usize;
-            fn $set(map: *const RawMap, $($parameter: $of),+, value: u64) -> u32;
-            fn $index_set(map: *const RawMap, $($parameter: $of),+, value: u64) -> u32;
+            fn $set(map: *mut RawMap, $($parameter: $of),+, value: u64) -> u32;
+            fn $index_set(map: *mut RawMap, $($parameter: $of),+, value: u64) -> u32;
 
             fn $next_text(
                 bytes: *const u8,
@@ -285,13 +285,13 @@ macro_rules! calls {
                 index_pairs: |_map, _from, _pairs| 0,
             };
 
-            unsafe fn set(map: &RawMap, $key: &$type, value: u64) -> u32 {
+            unsafe fn set(map: &mut RawMap, $key: &$type, value: u64) -> u32 {
                 // SAFETY: the caller ensures that the map is closed, or that its bytes are borrowed,
                 // mutably if it is writable. A text has the pointer and the length of one `&str`.
                 unsafe { $set(map, $($argument),+, value) }
             }
 
-            unsafe fn index_set(map: &RawMap, $key: &$type, value: u64) -> u32 {
+            unsafe fn index_set(map: &mut RawMap, $key: &$type, value: u64) -> u32 {
                 // SAFETY: as for `set`, of an index map.
                 unsafe { $index_set(map, $($argument),+, value) }
             }

@@ -436,7 +436,7 @@ impl<'a, K: Key + ?Sized, V: Number> MapMut<'a, K, V> {
     #[must_use = "the value is not written if the key is not found"]
     pub fn set(&mut self, key: &K, value: V) -> bool {
         // SAFETY: the map is open and borrows its bytes mutably.
-        found(unsafe { K::set(&self.raw, key, value.into()) })
+        found(unsafe { K::set(&mut self.raw, key, value.into()) })
     }
 }
 
