@@ -7,8 +7,8 @@
  * line has at most 65,535 bytes, and none is zero. A number is at most 18446744073709551615, and a
  * key of 32 bits is taken modulo 4294967296. The file has the archive, or its container with a
  * checksum. The last status is printed. It is RKYV_TOO_LONG for a longer line, or for more than 2,048
- * lines if no builder is used. The file is written only if it is RKYV_OK. One that can't be written
- * whole is left in part.
+ * lines if no builder is used. The file is written only if it is RKYV_OK, else its message is printed
+ * to standard error. A file that can't be written whole is left in part.
  *
  * The program exits with 1 if the lines can't be read or the file or standard output can't be
  * written, with 2 if the arguments are wrong, and else with 0. */
@@ -216,6 +216,9 @@ int main(int count, char **words) {
         status = rkyv_container_header(bytes, length, kind, width, true, header);
     }
     printf("%s\n", rkyv_status_name(status));
+    if (status != RKYV_OK) {
+        fprintf(stderr, "%s: %s\n", words[3], rkyv_status_message(status));
+    }
     int failed = status == RKYV_OK && !written(words[3], header, in_container ? sizeof header : 0,
                                                bytes, length);
     rkyv_bytes_free(bytes);

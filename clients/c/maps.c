@@ -10,7 +10,8 @@
  * result on a line. `list` prints a line for each pair. An unknown command prints RKYV_NOT_FOUND. A
  * number is at most 18446744073709551615, and a key of 32 bits is taken modulo 4294967296. `set`
  * writes numbers, and doesn't change the file. A line has at most 65,535 bytes, and none is zero. A
- * longer line prints RKYV_TOO_LONG, and no further line is read.
+ * longer line prints RKYV_TOO_LONG, and no further line is read. The first line that is printed is the
+ * status of opening. If it isn't RKYV_OK, its message is printed to standard error.
  *
  * The program exits with 1 if the file or the lines can't be read or standard output can't be
  * written, with 2 if the arguments are wrong, and else with 0. */
@@ -396,6 +397,9 @@ int main(int count, char **words) {
     }
     rkyv_status status = opened(bytes, length, kind, width, in_container);
     printf("%s\n", rkyv_status_name(status));
+    if (status != RKYV_OK) {
+        fprintf(stderr, "%s: %s\n", words[3], rkyv_status_message(status));
+    }
     while (status == RKYV_OK && (status = next_line()) == RKYV_OK) {
         run(kind, line);
     }

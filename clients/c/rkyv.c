@@ -475,6 +475,70 @@ const char *rkyv_status_name(uint32_t status) {
     }
 }
 
+const char *rkyv_status_message(uint32_t status) {
+    switch (status) {
+    case RKYV_OK: return "success";
+    case RKYV_NOT_FOUND: return "the lookup does not find the key";
+    case RKYV_END: return "no pair remains, or none has the index";
+    case RKYV_VALUE_TOO_LARGE:
+        return "the value has more than 32 bits, but the values of the map have 32";
+    case RKYV_NOT_TEXT: return "the key or a text that is to be archived is not UTF-8";
+    case RKYV_NULL: return "a pointer is null";
+    case RKYV_TOO_LONG: return "a length is greater than its limit";
+    case RKYV_UNKNOWN_KIND: return "the kind of the map or of the container is unknown";
+    case RKYV_UNKNOWN_WIDTH: return "the width is neither 32 nor 64";
+    case RKYV_WRONG_KIND: return "the call is for another collection, key type or value type";
+    case RKYV_CLOSED: return "the handle is not of an open map";
+    case RKYV_READ_ONLY: return "the map was opened to read";
+    case RKYV_NO_MEMORY: return "an allocation failed";
+    case RKYV_WRONG_SIZE: return "the room for a container does not have the size of the container";
+    case RKYV_OVERLAP: return "the memory that the call writes overlaps an input";
+    case RKYV_LIMIT_REACHED:
+        return "the lookups of all keys read more control bytes than the limit allows";
+    case RKYV_OUT_OF_RANGE:
+        return "the map or a part of it is outside the bytes that it may use, "
+               "or the archive exceeds the limit of its width";
+    case RKYV_UNALIGNED: return "the map or a part of it is not at a multiple of its alignment";
+    case RKYV_INVALID_LENGTH: return "the number of pairs is not less than the number of buckets";
+    case RKYV_WRONG_NUMBER_OF_ELEMENTS:
+        return "the number of full buckets differs from the number of pairs";
+    case RKYV_UNWRAPPED_CONTROL_BYTE:
+        return "a mirrored control byte differs from the one that it mirrors, "
+               "or one after them is not empty";
+    case RKYV_PLACE_OUT_OF_RANGE:
+        return "an index in the table is not less than the number of pairs";
+    case RKYV_INVALID_VALUE: return "a text is not UTF-8, or its length is malformed";
+    case RKYV_REFUSED: return "the type has no valid values";
+    case RKYV_CAPACITY_TOO_LARGE: return "the map needs more buckets than the width can count";
+    case RKYV_POSITION_TOO_LARGE: return "the archive would be longer than the width allows";
+    case RKYV_DISTANCE_TOO_LARGE:
+        return "a distance between two parts of the archive does not fit the width";
+    case RKYV_TEXT_TOO_LONG: return "a text is too long for the width";
+    case RKYV_INVALID_LOAD_FACTOR: return "the load factor is invalid";
+    case RKYV_ITERATOR_LENGTH_MISMATCH: return "the number of pairs differs from the expected one";
+    case RKYV_CONTAINER_TOO_SHORT: return "the container is shorter than its header of 32 bytes";
+    case RKYV_CONTAINER_WRONG_MAGIC: return "the first eight bytes are not those of a container";
+    case RKYV_CONTAINER_UNSUPPORTED_VERSION: return "the version of the container is not 1";
+    case RKYV_CONTAINER_UNKNOWN_COLLECTION:
+        return "the container has an unknown kind of collection";
+    case RKYV_CONTAINER_UNKNOWN_KEY_TYPE: return "the container has an unknown type of keys";
+    case RKYV_CONTAINER_UNKNOWN_VALUE_TYPE: return "the container has an unknown type of values";
+    case RKYV_CONTAINER_UNKNOWN_WIDTH: return "the container has an unknown width";
+    case RKYV_CONTAINER_UNKNOWN_FLAGS: return "the container has unknown flags";
+    case RKYV_CONTAINER_UNEXPECTED_CHECKSUM:
+        return "the container has a checksum, but no flag for one";
+    case RKYV_CONTAINER_NONZERO_RESERVED: return "the reserved bytes of the container are not 0";
+    case RKYV_CONTAINER_WRONG_COLLECTION: return "the container has another kind of collection";
+    case RKYV_CONTAINER_WRONG_KEY_TYPE: return "the keys in the container are of another type";
+    case RKYV_CONTAINER_WRONG_VALUE_TYPE: return "the values in the container are of another type";
+    case RKYV_CONTAINER_WRONG_WIDTH: return "the archive in the container has another width";
+    case RKYV_CONTAINER_WRONG_LENGTH: return "the length of the archive is not that in the header";
+    case RKYV_CONTAINER_WRONG_CHECKSUM:
+        return "the checksum of the archive is not that in the header";
+    default: return "unknown status";
+    }
+}
+
 /* A handle of no open map. */
 static const rkyv_map closed = {NULL, NULL, 0, 0, 0, {0, 0, 0, 1, UINT64_MAX}};
 

@@ -319,6 +319,10 @@ typedef struct rkyv_error {
 /* Returns the name of a status, such as "RKYV_OK", or "unknown". */
 const char *rkyv_status_name(uint32_t status);
 
+/* Returns a short sentence about a status, for messages to people, such as "the lookup does not find
+ * the key", or "unknown status". It begins with a small letter and has no full stop. */
+const char *rkyv_status_message(uint32_t status);
+
 /* Stores the error of validation with which `rkyv_map_open` fails on these bytes, and its numbers.
  * For a kind of index maps, it is the error of `rkyv_index_open`. Its status is RKYV_OK if the call
  * does not fail. `bytes` may be null if `length` is 0.

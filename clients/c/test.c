@@ -163,7 +163,7 @@ static void initializers(void) {
 /* A status and its name. */
 #define NAMED(status) {status, #status}
 
-/* Each status has its name, and other numbers have none. */
+/* Each status has its name and its message, and other numbers have none. */
 static void names(void) {
     static const struct named {
         uint32_t status;
@@ -195,9 +195,19 @@ static void names(void) {
         const bool is_named = next < count && named[next].status == status;
         const char *wanted = is_named ? named[next].name : "unknown";
         same(wanted, strcmp(rkyv_status_name(status), wanted) == 0, 1);
+        const char *message = rkyv_status_message(status);
+        same(message, strcmp(message, "unknown status") != 0, is_named);
+        same(message, message[0] != 0, 1);
+        for (size_t i = 0; i < next; i++) {
+            same(message, is_named && strcmp(message, rkyv_status_message(named[i].status)) == 0, 0);
+        }
         next += is_named;
     }
     same("all", next, count);
+    same("unknown", strcmp(rkyv_status_message(UINT32_MAX), "unknown status") == 0, 1);
+    same("unknown", strcmp(rkyv_status_name(UINT32_MAX), "unknown") == 0, 1);
+    same("end", strcmp(rkyv_status_message(RKYV_END), "no pair remains, or none has the index") == 0,
+         1);
 }
 
 /* The map of the number 1 to 2: the eight bytes of the pair, an empty bucket of zeros, 31 control
