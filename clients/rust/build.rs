@@ -4,6 +4,9 @@
 //! leaves it, in `../../crates/ffi_rkyv/out`. If it isn't there, `cargo check`, `cargo clippy` and
 //! `cargo doc` work, building fails, and a warning says how to give the path.
 //!
+//! The library is for x86-64 Linux. For another target, a path in `RKYV_C_LIBRARY` is an error. If it
+//! isn't set, the same commands work, building fails, and a warning names the target.
+//!
 //! `CC` and `AR` are the commands of the C compiler and the archiver, `cc` and `ar` by default.
 //! `CFLAGS` has options of the compiler. The words of each are separated by spaces. A build for
 //! another target than this machine needs `CC`.
@@ -50,9 +53,22 @@ fn command(variable: &str, default: &str) -> Command {
     command
 }
 
+/// The target that the crate is built for.
+fn target() -> String {
+    env::var("TARGET").unwrap()
+}
+
+/// Whether the library is for the target: x86-64 Linux with pointers of 64 bits, as `rkyv.c` needs.
+fn is_for_target() -> bool {
+    let is = |property: &str, value: &str| {
+        env::var(format!("CARGO_CFG_TARGET_{property}")).is_ok_and(|of| of == value)
+    };
+    is("ARCH", "x86_64") && is("OS", "linux") && is("POINTER_WIDTH", "64")
+}
+
 /// Fails if the default compiler would compile for another target than that of the crate.
-fn check_target() {
-    let target = env::var("TARGET").unwrap();
+fn check_compiler() {
+    let target = target();
     if target != env::var("HOST").unwrap() && words("CC").is_empty() {
         fail(format_args!(
             "the target is {target}: set CC to the command of a C compiler for it, and AR if needed"
@@ -60,12 +76,18 @@ fn check_target() {
     }
 }
 
-/// The library's absolute path, or `None` if it isn't given and isn't built.
+/// The library's absolute path, or `None` if it isn't given, and isn't built or isn't for the target.
 fn library(here: &Path) -> Option<PathBuf> {
     println!("cargo::rerun-if-env-changed={VARIABLE}");
     let given = env::var_os(VARIABLE).filter(|path| !path.is_empty());
     let path = match &given {
+        Some(path) if !is_for_target() => fail(format_args!(
+            "{VARIABLE}={}: libffi_rkyv.a is for x86-64 Linux alone, and the target is {}",
+            Path::new(path).display(),
+            target()
+        )),
         Some(path) => PathBuf::from(path),
+        None if !is_for_target() => return None,
         None => here.join("../../crates/ffi_rkyv/out/libffi_rkyv.a"),
     };
     println!("cargo::rerun-if-changed={}", path.display());
@@ -80,7 +102,7 @@ fn library(here: &Path) -> Option<PathBuf> {
 
 /// Compiles the C functions to a static library in `out`.
 fn compile(sources: &Path, out: &Path) {
-    check_target();
+    check_compiler();
     let archive = out.join("librkyv_calls.a");
     let mut archiver = command("AR", "ar");
     archiver.arg("crs").arg(&archive);
@@ -107,10 +129,18 @@ fn main() {
     let out = PathBuf::from(env::var_os("OUT_DIR").unwrap());
     println!("cargo::rerun-if-changed=build.rs");
     let Some(library) = library(&here) else {
-        println!(
-            "cargo::warning=libffi_rkyv.a is not built, so programs cannot be linked. \
-             Run `rt lib` in crates/ffi_rkyv, or set {VARIABLE} to the path of the library."
-        );
+        if is_for_target() {
+            println!(
+                "cargo::warning=libffi_rkyv.a is not built, so programs cannot be linked. \
+                 Run `rt lib` in crates/ffi_rkyv, or set {VARIABLE} to the path of the library."
+            );
+        } else {
+            println!(
+                "cargo::warning=libffi_rkyv.a is for x86-64 Linux alone, so programs for {} cannot \
+                 be linked.",
+                target()
+            );
+        }
         // Building then fails with one error, and not with one for each call.
         println!("cargo::rustc-link-lib=static:+verbatim=libffi_rkyv.a");
         return;
