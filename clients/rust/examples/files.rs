@@ -14,7 +14,7 @@ use std::error::Error;
 use std::fs::File;
 
 use mapping::{Mapping, MappingMut, Temporary};
-use rkyv_maps::{update_container, Builder, Checksum, Map, MapMut, Width};
+use rkyv_maps::{Builder, Checksum, Map, MapMut, Width};
 
 fn main() -> Result<(), Box<dyn Error>> {
     let file = Temporary::new("visits.map")?;
@@ -31,8 +31,8 @@ fn main() -> Result<(), Box<dyn Error>> {
             None => println!("{page} is not in the file"),
         }
     }
-    // The checksum is written anew when all values are.
-    update_container(&mut bytes)?;
+    // Dropping the map writes the checksum anew.
+    drop(map);
     drop(bytes);
 
     // SAFETY: as above.

@@ -195,7 +195,7 @@ impl<K: Key + ?Sized, V: Number> Archive<K, V> {
     pub fn open_mut(&mut self) -> MapMut<'_, K, V> {
         // SAFETY: the archive is of a map of these types, and the struct that has its bytes is
         // borrowed mutably while the map is used.
-        unsafe { MapMut::of(self.built.handle(&MAP)) }
+        unsafe { MapMut::of(self.built.handle(&MAP), false) }
     }
 }
 
@@ -301,7 +301,7 @@ impl<K: Key + ?Sized, V: Number> IndexArchive<K, V> {
     pub fn open_mut(&mut self) -> IndexMapMut<'_, K, V> {
         // SAFETY: the archive is of a map of these types, and the struct that has its bytes is
         // borrowed mutably while the map is used.
-        unsafe { IndexMapMut::of(self.built.handle(&INDEX)) }
+        unsafe { IndexMapMut::of(self.built.handle(&INDEX), false) }
     }
 }
 

@@ -3,7 +3,7 @@ use crate::raw::{self, HEADER_LEN};
 use crate::types::sealed::SealedValue;
 use crate::types::Unit;
 #[cfg(doc)]
-use crate::{Builder, IndexMap, Map, Set};
+use crate::{Builder, IndexMap, IndexMapMut, Map, MapMut, Set};
 use crate::{Error, ErrorKind, Width};
 
 /// Whether a container has a checksum of its archive.
@@ -151,6 +151,10 @@ fn types_of<V: SealedValue + ?Sized>(
 
 /// Writes the checksum of a container anew, after values were written in place.
 ///
+/// Dropping a [`MapMut`] or an [`IndexMapMut`] that was opened in the container does this. The call is
+/// for the other cases: the map was opened in the archive alone, or it was not dropped, as when the
+/// program was aborted. It then takes the values as they are.
+///
 /// The container may be of any contents. If it has no checksum, nothing is changed.
 ///
 /// # Errors
@@ -165,7 +169,7 @@ fn types_of<V: SealedValue + ?Sized>(
 /// # fn main() -> Result<(), Error> {
 /// let archive = Builder::<str, u64>::from([("visits", 10)]).build(Width::Narrow)?;
 /// let mut container = archive.to_container(Checksum::Adler32);
-/// assert!(MapMut::<str, u64>::open_container(&mut container)?.set("visits", 11));
+/// assert!(MapMut::<str, u64>::open(&mut container[32..], Width::Narrow)?.set("visits", 11));
 /// let error = Map::<str, u64>::open_container(&container).unwrap_err();
 /// assert_eq!(error.kind(), ErrorKind::WrongChecksum);
 /// update_container(&mut container)?;

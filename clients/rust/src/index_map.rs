@@ -5,7 +5,7 @@ use std::iter::FusedIterator;
 use std::marker::PhantomData;
 
 use crate::map::{found, within_limit};
-use crate::open::{INDEX, INDEX_CONTAINER};
+use crate::open::{Writable, INDEX, INDEX_CONTAINER};
 use crate::raw::{self, Indexed, Pair, RawMap};
 use crate::types::index_kind;
 use crate::{Error, Key, Number, Value, Width};
@@ -345,7 +345,8 @@ impl<'a, K: Key + ?Sized, V: Value + ?Sized> IntoIterator for &IndexMap<'a, K, V
 
 /// An index map whose values, which are numbers, can be written in place.
 ///
-/// Keys can't be inserted or removed, and pairs keep their indices.
+/// Keys can't be inserted or removed, and pairs keep their indices. The map borrows its bytes until it
+/// is dropped.
 ///
 /// # Examples
 /// ```
@@ -362,8 +363,7 @@ impl<'a, K: Key + ?Sized, V: Value + ?Sized> IntoIterator for &IndexMap<'a, K, V
 /// # }
 /// ```
 pub struct IndexMapMut<'a, K: ?Sized, V> {
-    raw: RawMap,
-    bytes: PhantomData<&'a mut [u8]>,
+    map: Writable<'a>,
     types: PhantomData<fn(&K) -> V>,
 }
 
@@ -383,13 +383,13 @@ impl<'a, K: Key + ?Sized, V: Number> IndexMapMut<'a, K, V> {
         let raw = INDEX.open_writable(bytes, index_kind::<K, V>(), width as u32)?;
         // SAFETY: the call has opened the map of this kind in the bytes, which are borrowed mutably
         // for 'a.
-        Ok(unsafe { IndexMapMut::of(raw) })
+        Ok(unsafe { IndexMapMut::of(raw, false) })
     }
 
     /// Opens the index map in a container, to read and to write.
     ///
-    /// A write doesn't change the checksum in the header. If there is one, call
-    /// [`update_container`](crate::update_container) before the container is opened again.
+    /// If there is a checksum and [`set`](IndexMapMut::set) has written a value, dropping the map writes the
+    /// checksum anew, which reads all bytes of the archive. If no value was written, it costs nothing.
     ///
     /// # Errors
     /// As [`IndexMap::open_container`].
@@ -410,18 +410,18 @@ impl<'a, K: Key + ?Sized, V: Number> IndexMapMut<'a, K, V> {
         let raw = INDEX_CONTAINER.open_writable(container, index_kind::<K, V>(), width)?;
         // SAFETY: the call has opened the map of this kind in the container, which is borrowed
         // mutably for 'a.
-        Ok(unsafe { IndexMapMut::of(raw) })
+        Ok(unsafe { IndexMapMut::of(raw, true) })
     }
 
     /// The map of a handle.
     ///
     /// # Safety
     /// It is the handle of an open index map of these types, whose bytes are borrowed mutably for
-    /// `'a`.
-    pub(crate) unsafe fn of(raw: RawMap) -> Self {
+    /// `'a`. If `is_in_container`, it was opened in a container, which is borrowed mutably too.
+    pub(crate) unsafe fn of(raw: RawMap, is_in_container: bool) -> Self {
         IndexMapMut {
-            raw,
-            bytes: PhantomData,
+            // SAFETY: the caller ensures this.
+            map: unsafe { Writable::of(raw, is_in_container) },
             types: PhantomData,
         }
     }
@@ -430,7 +430,7 @@ impl<'a, K: Key + ?Sized, V: Number> IndexMapMut<'a, K, V> {
     pub fn as_map(&self) -> IndexMap<'_, K, V> {
         // SAFETY: the handle is of an open map of these types, whose bytes this map borrows. The
         // result borrows this map.
-        unsafe { IndexMap::of(self.raw) }
+        unsafe { IndexMap::of(self.map.raw()) }
     }
 
     /// Returns the width of the archive.
@@ -523,7 +523,21 @@ impl<'a, K: Key + ?Sized, V: Number> IndexMapMut<'a, K, V> {
     #[must_use = "the value is not written if the key is not found"]
     pub fn set(&mut self, key: &K, value: V) -> bool {
         // SAFETY: the map is open and borrows its bytes mutably.
-        found(unsafe { K::index_set(&mut self.raw, key, value.into()) })
+        let set = |raw: &mut RawMap| found(unsafe { K::index_set(raw, key, value.into()) });
+        self.map.write(set)
+    }
+
+    /// Writes the checksum of the container anew, if a value was written after it.
+    ///
+    /// Dropping the map does this too. If the map stays open for long, call this after writing: until
+    /// then the container doesn't open elsewhere, nor after the program is aborted. Nothing is read or
+    /// changed if no value was written, or if the map wasn't opened in a container with a checksum.
+    ///
+    /// # Panics
+    /// If another program has changed the header.
+    pub fn update_container(&mut self) {
+        let updated = self.map.update_container();
+        updated.expect("the header of an open container doesn't change");
     }
 }
 
@@ -537,11 +551,13 @@ impl<'m, K: Key + ?Sized, V: Number> IntoIterator for &'m IndexMapMut<'_, K, V> 
 }
 
 impl<'a, K: Key + ?Sized, V: Number> From<IndexMapMut<'a, K, V>> for IndexMap<'a, K, V> {
-    /// Ends writing: the map borrows the bytes for the same lifetime.
+    /// Ends writing, as dropping does: the map borrows the bytes for the same lifetime.
     fn from(map: IndexMapMut<'a, K, V>) -> Self {
+        let raw = map.map.raw();
+        drop(map);
         // SAFETY: the handle is of an open map of these types, whose bytes are borrowed mutably for
         // 'a, and the map that could write them is gone.
-        unsafe { IndexMap::of(map.raw) }
+        unsafe { IndexMap::of(raw) }
     }
 }
 

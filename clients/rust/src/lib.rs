@@ -43,8 +43,8 @@
 //! [`ErrorKind`] of its own if a type, the length or the checksum is wrong.
 //!
 //! A container detects a wrong type and an accident, not an attacker. So its archive is validated as
-//! any other. [`MapMut::open_container`] writes values in place, and [`update_container`] then
-//! writes the checksum anew.
+//! any other. A map of [`MapMut::open_container`] writes values in place, and the checksum when it is
+//! dropped.
 //!
 //! # Untrusted bytes
 //!

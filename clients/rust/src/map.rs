@@ -3,7 +3,7 @@ use std::marker::PhantomData;
 
 use crate::error::check;
 use crate::iter::{Iter, Keys, Values};
-use crate::open::{MAP, MAP_CONTAINER};
+use crate::open::{Writable, MAP, MAP_CONTAINER};
 use crate::raw::{self, RawMap};
 use crate::types::kind;
 #[cfg(doc)]
@@ -290,7 +290,8 @@ impl<'a, K: Key + ?Sized, V: Value + ?Sized> IntoIterator for &Map<'a, K, V> {
 
 /// A map whose values, which are numbers, can be written in place.
 ///
-/// Keys can't be inserted or removed: the bytes keep their length.
+/// Keys can't be inserted or removed: the bytes keep their length. The map borrows them until it is
+/// dropped.
 ///
 /// # Examples
 /// ```
@@ -306,8 +307,7 @@ impl<'a, K: Key + ?Sized, V: Value + ?Sized> IntoIterator for &Map<'a, K, V> {
 /// # }
 /// ```
 pub struct MapMut<'a, K: ?Sized, V> {
-    raw: RawMap,
-    bytes: PhantomData<&'a mut [u8]>,
+    map: Writable<'a>,
     types: PhantomData<fn(&K) -> V>,
 }
 
@@ -327,16 +327,31 @@ impl<'a, K: Key + ?Sized, V: Number> MapMut<'a, K, V> {
         let raw = MAP.open_writable(bytes, kind::<K, V>(), width as u32)?;
         // SAFETY: the call has opened the map of this kind in the bytes, which are borrowed mutably
         // for 'a.
-        Ok(unsafe { MapMut::of(raw) })
+        Ok(unsafe { MapMut::of(raw, false) })
     }
 
     /// Opens the map in a container, to read and to write.
     ///
-    /// A write doesn't change the checksum in the header. If there is one, call
-    /// [`update_container`](crate::update_container) before the container is opened again.
+    /// If there is a checksum and [`set`](MapMut::set) has written a value, dropping the map writes the
+    /// checksum anew, which reads all bytes of the archive. If no value was written, it costs nothing.
     ///
     /// # Errors
     /// As [`Map::open_container`].
+    ///
+    /// # Examples
+    /// ```
+    /// use rkyv_maps::{Builder, Checksum, Map, MapMut, Width};
+    ///
+    /// # fn main() -> Result<(), rkyv_maps::Error> {
+    /// let archive = Builder::<str, u64>::from([("visits", 10)]).build(Width::Narrow)?;
+    /// let mut container = archive.to_container(Checksum::Adler32);
+    /// let mut map = MapMut::<str, u64>::open_container(&mut container)?;
+    /// assert!(map.set("visits", 11));
+    /// drop(map);
+    /// assert_eq!(Map::<str, u64>::open_container(&container)?.at("visits"), 11);
+    /// # Ok(())
+    /// # }
+    /// ```
     pub fn open_container(container: &'a mut [u8]) -> Result<Self, Error> {
         MapMut::open_in(container, raw::ANY_WIDTH)
     }
@@ -353,18 +368,18 @@ impl<'a, K: Key + ?Sized, V: Number> MapMut<'a, K, V> {
         let raw = MAP_CONTAINER.open_writable(container, kind::<K, V>(), width)?;
         // SAFETY: the call has opened the map of this kind in the container, which is borrowed
         // mutably for 'a.
-        Ok(unsafe { MapMut::of(raw) })
+        Ok(unsafe { MapMut::of(raw, true) })
     }
 
     /// The map of a handle.
     ///
     /// # Safety
     /// It is the handle of an open hash map of these types, whose bytes are borrowed mutably for
-    /// `'a`.
-    pub(crate) unsafe fn of(raw: RawMap) -> Self {
+    /// `'a`. If `is_in_container`, it was opened in a container, which is borrowed mutably too.
+    pub(crate) unsafe fn of(raw: RawMap, is_in_container: bool) -> Self {
         MapMut {
-            raw,
-            bytes: PhantomData,
+            // SAFETY: the caller ensures this.
+            map: unsafe { Writable::of(raw, is_in_container) },
             types: PhantomData,
         }
     }
@@ -373,7 +388,7 @@ impl<'a, K: Key + ?Sized, V: Number> MapMut<'a, K, V> {
     pub fn as_map(&self) -> Map<'_, K, V> {
         // SAFETY: the handle is of an open map of these types, whose bytes this map borrows. The
         // result borrows this map.
-        unsafe { Map::of(self.raw) }
+        unsafe { Map::of(self.map.raw()) }
     }
 
     /// Returns the width of the archive.
@@ -436,7 +451,21 @@ impl<'a, K: Key + ?Sized, V: Number> MapMut<'a, K, V> {
     #[must_use = "the value is not written if the key is not found"]
     pub fn set(&mut self, key: &K, value: V) -> bool {
         // SAFETY: the map is open and borrows its bytes mutably.
-        found(unsafe { K::set(&mut self.raw, key, value.into()) })
+        let set = |raw: &mut RawMap| found(unsafe { K::set(raw, key, value.into()) });
+        self.map.write(set)
+    }
+
+    /// Writes the checksum of the container anew, if a value was written after it.
+    ///
+    /// Dropping the map does this too. If the map stays open for long, call this after writing: until
+    /// then the container doesn't open elsewhere, nor after the program is aborted. Nothing is read or
+    /// changed if no value was written, or if the map wasn't opened in a container with a checksum.
+    ///
+    /// # Panics
+    /// If another program has changed the header.
+    pub fn update_container(&mut self) {
+        let updated = self.map.update_container();
+        updated.expect("the header of an open container doesn't change");
     }
 }
 
@@ -450,11 +479,13 @@ impl<'m, K: Key + ?Sized, V: Number> IntoIterator for &'m MapMut<'_, K, V> {
 }
 
 impl<'a, K: Key + ?Sized, V: Number> From<MapMut<'a, K, V>> for Map<'a, K, V> {
-    /// Ends writing: the map borrows the bytes for the same lifetime.
+    /// Ends writing, as dropping does: the map borrows the bytes for the same lifetime.
     fn from(map: MapMut<'a, K, V>) -> Self {
+        let raw = map.map.raw();
+        drop(map);
         // SAFETY: the handle is of an open map of these types, whose bytes are borrowed mutably for
         // 'a, and the map that could write them is gone.
-        unsafe { Map::of(map.raw) }
+        unsafe { Map::of(raw) }
     }
 }
 

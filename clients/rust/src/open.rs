@@ -1,6 +1,7 @@
 use std::ffi::c_void;
+use std::marker::PhantomData;
 
-use crate::error::check_open;
+use crate::error::{check, check_open};
 use crate::raw::{self, RawError, RawMap};
 use crate::Error;
 
@@ -104,5 +105,92 @@ impl Opener {
         // SAFETY: pointer and length are those of one slice. `error` has room for the error.
         let explain = |error| unsafe { (self.explain)(pointer, length, kind, width, error) };
         check_open(status, explain)
+    }
+}
+
+/// An open map or index map that writes values in place. It borrows its bytes mutably.
+///
+/// If it was opened in a container and has written a value, dropping it writes the checksum.
+pub(crate) struct Writable<'a> {
+    raw: RawMap,
+    is_in_container: bool,
+    /// Whether a value was written after the checksum.
+    is_written: bool,
+    bytes: PhantomData<&'a mut [u8]>,
+}
+
+impl Writable<'_> {
+    /// The map of a handle.
+    ///
+    /// # Safety
+    /// It is the handle of an open map whose bytes are borrowed mutably for the lifetime. If
+    /// `is_in_container`, it was opened in a container, which is borrowed mutably too.
+    pub(crate) unsafe fn of(raw: RawMap, is_in_container: bool) -> Self {
+        Writable {
+            raw,
+            is_in_container,
+            is_written: false,
+            bytes: PhantomData,
+        }
+    }
+
+    /// Returns the handle.
+    pub(crate) fn raw(&self) -> RawMap {
+        self.raw
+    }
+
+    /// Writes a value by a call that returns whether the lookup finds the key.
+    pub(crate) fn write(&mut self, set: impl FnOnce(&mut RawMap) -> bool) -> bool {
+        let is_found = set(&mut self.raw);
+        self.is_written |= is_found;
+        is_found
+    }
+
+    /// Writes the checksum of the container, if there is one and a value was written after it.
+    pub(crate) fn update_container(&mut self) -> Result<(), Error> {
+        if !self.is_in_container || !self.is_written {
+            return Ok(());
+        }
+        self.is_written = false;
+        // SAFETY: the map was opened in a container, to write.
+        let (pointer, length) = unsafe { self.raw.container() };
+        // SAFETY: pointer and length are those of the container, which is borrowed mutably.
+        check(unsafe { raw::rkyv_container_update(pointer.cast(), length) })
+    }
+}
+
+impl Drop for Writable<'_> {
+    fn drop(&mut self) {
+        // The header was checked when the container was opened, and no call changes its other fields.
+        let _ = self.update_container();
+    }
+}
+
+#[cfg(test)]
+mod tests {
+    use super::{Writable, MAP_CONTAINER};
+    use crate::{Builder, Checksum, Width};
+
+    #[test]
+    fn the_checksum_is_written_if_and_only_if_a_value_was() {
+        let archive = Builder::<u32, u32>::from([(1, 2)]).build(Width::Narrow);
+        let mut container = archive.unwrap().to_container(Checksum::Adler32);
+        let (pointer, length) = (container.as_mut_ptr(), container.len());
+        // SAFETY: pointer and length are those of the container.
+        let raw = unsafe { MAP_CONTAINER.open_at(pointer, length, 1, 32) }.unwrap();
+        // SAFETY: the checksum begins at byte 24. All of this goes by the one pointer.
+        let checksum = || unsafe { *pointer.add(24) };
+        let right = checksum();
+        for (is_in_container, is_written) in [(true, false), (false, true), (true, true)] {
+            // SAFETY: as above.
+            unsafe { *pointer.add(24) = !right };
+            // SAFETY: the handle is of an open map, and its container is used by the pointer alone.
+            let mut map = unsafe { Writable::of(raw, is_in_container) };
+            assert_eq!(map.write(|_| is_written), is_written);
+            assert_eq!(checksum(), !right);
+            drop(map);
+            let is_updated = checksum() == right;
+            assert_eq!(is_updated, is_in_container && is_written);
+        }
     }
 }

@@ -47,6 +47,16 @@ impl RawMap {
         self.header.length
     }
 
+    /// Returns the pointer to the container of an open map, and its length.
+    ///
+    /// # Safety
+    /// The map was opened in a container, to write.
+    pub unsafe fn container(&self) -> (*mut u8, usize) {
+        // SAFETY: the caller ensures that the archive is behind the header of a container.
+        let container = unsafe { self.writable.sub(HEADER_LEN) };
+        (container, HEADER_LEN + self.length)
+    }
+
     /// Returns `true` if the archive of an open map is wide.
     pub fn is_wide(&self) -> bool {
         self.width == 64

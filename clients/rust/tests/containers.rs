@@ -344,6 +344,7 @@ fn updates_write_the_checksum() {
         let mut bytes = u32::sample::<u64>(9, width).to_container(Checksum::Adler32);
         let mut map = MapMut::<u32, u64>::open_container(&mut bytes).unwrap();
         assert!(map.set(&5, 500));
+        std::mem::forget(map);
         let error = error_as::<u32, u64>(&bytes);
         assert_eq!(error, Some(ErrorKind::WrongChecksum));
         assert_eq!(update_container(&mut bytes), Ok(()));
@@ -357,6 +358,56 @@ fn updates_write_the_checksum() {
         assert_eq!(update_container(&mut bytes), Ok(()));
         assert_eq!(bytes, kept);
     }
+}
+
+#[test]
+fn dropping_a_written_map_writes_the_checksum() {
+    for width in WIDTHS {
+        for checksum in CHECKSUMS {
+            let archive = u32::sample::<u64>(9, width);
+            let unwritten = archive.to_container(checksum);
+            let mut bytes = unwritten.clone();
+            let mut map = MapMut::<u32, u64>::open_container(&mut bytes).unwrap();
+            assert!(!map.set(&10, 1));
+            map.update_container();
+            drop(map);
+            assert_eq!(bytes, unwritten);
+
+            let mut written = Builder::<u32, u64>::new();
+            written.extend((1..10).map(|key| (key, u64::from(key) + u64::from(key == 5) * 495)));
+            let written = written.build(width).unwrap().to_container(checksum);
+            let mut map = MapMut::<u32, u64>::open_container(&mut bytes).unwrap();
+            assert!(map.set(&5, 500) && !map.set(&10, 1));
+            drop(map);
+            assert_eq!(bytes, written);
+
+            // The same by an update of a map that stays open, and by ending the writing.
+            let mut bytes = unwritten.clone();
+            let mut map = MapMut::<u32, u64>::open_container_with_width(&mut bytes, width).unwrap();
+            assert!(map.set(&5, 500));
+            map.update_container();
+            std::mem::forget(map);
+            assert_eq!(bytes, written);
+            let mut map = MapMut::<u32, u64>::open_container(&mut bytes).unwrap();
+            assert!(map.set(&5, 5));
+            let map = Map::from(map);
+            assert_eq!(map.at(&5), 5);
+            assert_eq!(bytes, unwritten);
+        }
+    }
+}
+
+#[test]
+fn maps_of_archives_write_no_header() {
+    let mut bytes = u32::sample::<u64>(9, Width::Narrow).to_container(Checksum::Adler32);
+    let header = bytes[..32].to_vec();
+    let mut map = MapMut::<u32, u64>::open(&mut bytes[32..], Width::Narrow).unwrap();
+    assert!(map.set(&5, 500));
+    map.update_container();
+    drop(map);
+    assert_eq!(bytes[..32], header);
+    let error = error_as::<u32, u64>(&bytes);
+    assert_eq!(error, Some(ErrorKind::WrongChecksum));
 }
 
 #[test]

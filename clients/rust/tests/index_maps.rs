@@ -287,6 +287,7 @@ fn values_are_written_in_place() {
     let mut map = IndexMapMut::<str, u64>::open(&mut bytes, Width::Wide).unwrap();
     assert_eq!((map.set("", u64::MAX), map.set("a", 1)), (true, false));
     assert_eq!(map.get(""), Some(u64::MAX));
+    drop(map);
     bytes[0] = 1;
     bytes[8] = 1;
     let error = IndexMapMut::<str, u64>::open(&mut bytes, Width::Wide).unwrap_err();
@@ -301,13 +302,33 @@ fn values_of_containers_are_written_in_place() -> Result<(), Error> {
     assert_eq!(archive.open().get_index(1), Some(("cake", 5)));
     let mut container = archive.to_container(Checksum::Adler32);
     assert!(IndexMapMut::<str, u32>::open_container(&mut container)?.set("tea", 7));
-    let error = IndexMap::<str, u32>::open_container(&container).unwrap_err();
-    assert_eq!(error.kind(), ErrorKind::WrongChecksum);
-    update_container(&mut container)?;
     assert_eq!(
         IndexMap::<str, u32>::open_container(&container)?.at("tea"),
         7
     );
+
+    // A map that isn't dropped leaves the checksum to `update_container`.
+    let mut map = IndexMapMut::<str, u32>::open_container(&mut container)?;
+    assert!(map.set("tea", 8));
+    std::mem::forget(map);
+    let error = IndexMap::<str, u32>::open_container(&container).unwrap_err();
+    assert_eq!(error.kind(), ErrorKind::WrongChecksum);
+    update_container(&mut container)?;
+    let mut map = IndexMapMut::<str, u32>::open_container(&mut container)?;
+    assert!(map.set("cake", 9));
+    map.update_container();
+    std::mem::forget(map);
+    let mut map = IndexMapMut::<str, u32>::open_container(&mut container)?;
+    assert_eq!((map.at("tea"), map.at("cake")), (8, 9));
+    assert!(map.set("cake", 10));
+    let map = IndexMap::from(map);
+    assert_eq!(map.at("cake"), 10);
+    assert!(IndexMap::<str, u32>::open_container(&container).is_ok());
+
+    let kept = container[..32].to_vec();
+    assert!(IndexMapMut::<str, u32>::open(&mut container[32..], Width::Wide)?.set("tea", 1));
+    assert_eq!(container[..32], kept);
+    update_container(&mut container)?;
     let narrow = IndexMapMut::<str, u32>::open_container_with_width(&mut container, Width::Narrow);
     assert_eq!(narrow.unwrap_err().kind(), ErrorKind::WrongWidth);
     Ok(())

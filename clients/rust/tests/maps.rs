@@ -124,6 +124,7 @@ fn values_of_an_archive_are_written_in_place() {
     let mut map = archive.open_mut();
     assert!(map.set(&1, u32::MAX));
     assert!(!map.set(&2, 3));
+    drop(map);
     assert_eq!(
         (archive.open().get(&1), archive.open().get(&4)),
         (Some(u32::MAX), Some(5))

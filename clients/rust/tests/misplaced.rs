@@ -113,6 +113,7 @@ fn each_type_of_handle_counts() {
             [2, 3].map(|limit| map.misplaced_up_to(limit)),
             [None, Some(1)]
         );
+        drop(map);
         let map = MapBuf::<str, u64>::open(bytes, width).unwrap();
         assert_eq!(
             [2, 3].map(|limit| map.misplaced_up_to(limit)),
@@ -124,6 +125,7 @@ fn each_type_of_handle_counts() {
             [2, 3].map(|limit| map.misplaced_up_to(limit)),
             [None, Some(1)]
         );
+        drop(map);
         let map = IndexMapBuf::<str, u64>::open(bytes, width).unwrap();
         assert_eq!(
             [2, 3].map(|limit| map.misplaced_up_to(limit)),
