@@ -3,6 +3,7 @@ pub mod Groups
 pub mod Hash
 pub mod Laws
 pub mod Lemmas
+pub mod Masks
 pub mod Paired
 unfoldable pub use Groups.{AllBelow, bytewise_kind, flag_indices, generic_kind, indices_where}
 unfoldable pub use Groups.{is_empty, is_equal_at, is_full, is_word_match_at, lanes_kind}
@@ -16,4 +17,6 @@ pub use Hash.{Bytes, Hasher, HasherCall, I128, I16, I32, I64, I8, Isize, SizeWor
 pub use Hash.{U64, U8, Usize}
 unfoldable pub use Laws.{CallsHashTheirWords, EightBytesAreOneWord, FixedCallsAgree}
 unfoldable pub use Laws.{FixedCallsHashAlike, IsFixed, WritesJoin}
+unfoldable pub use Masks.{group_bytes, group_lanes, group_word, mask_bits, mask_flags, mask_word}
+unfoldable pub use Masks.{paired_lanes}
 unfoldable pub use Paired.{MarksEqual, bits_after, chain, half_of, is_half_match_at, paired_kind}

@@ -1,8 +1,8 @@
-//! Laws of the hash and of the crate's public names.
+//! Laws of the hash, of the crate's public names, and of clones.
 //!
 //! The laws of the hash are about its definition alone, under any rule for `usize` and `isize`.
 //! The others say which definitions the public hashers, masks and groups have.
-ghost use Rattle.std.specs.Prelude.{◌≡◌, ◌+◌, ◌≤◌, List, [], drop, length, take};
+ghost use Rattle.std.specs.Prelude.{◌≡◌, ◌+◌, ◌≤◌, ◌↔◌, List, [], drop, length, take};
 ghost use Rattle.rkyv_scan.specs.{CallsHashTheirWords, EightBytesAreOneWord, FixedCallsAgree};
 ghost use Rattle.rkyv_scan.specs.{FixedCallsHashAlike, HasherCall, WritesJoin, all_bits, fx_hash};
 ghost use Rattle.rkyv_scan.specs.{bytewise_kind, generic_kind, lanes_kind, paired_kind};
@@ -92,4 +92,27 @@ pub fn kinds_mark_as_defined()
     ensures generic { ⟦<generic::Group as GroupKind>⟧.kind ≡ generic_kind }
     ensures lanes { ⟦<lanes::Group as GroupKind>⟧.kind ≡ lanes_kind }
     ensures paired { ⟦<paired::Group as GroupKind>⟧.kind ≡ paired_kind }
+{}
+
+/// States that a clone of a mask is the mask itself, and that cloning can't fail.
+pub fn masks_are_cloned()
+    ensures bytewise { (m clone : _)
+        → ⟦<bytewise::Bitmask as Clone>⟧.is_clone m clone ↔ (clone ≡ m) }
+    ensures generic { (m clone : _) → ⟦<generic::Bitmask as Clone>⟧.is_clone m clone ↔ (clone ≡ m) }
+    ensures lanes { (m clone : _) → ⟦<lanes::Bitmask as Clone>⟧.is_clone m clone ↔ (clone ≡ m) }
+    ensures infallible_bytewise { (m : _) → ⟦<bytewise::Bitmask as Clone>⟧.is_infallible m }
+    ensures infallible_generic { (m : _) → ⟦<generic::Bitmask as Clone>⟧.is_infallible m }
+    ensures infallible_lanes { (m : _) → ⟦<lanes::Bitmask as Clone>⟧.is_infallible m }
+{}
+
+/// States that a clone of a group is the group itself, and that cloning can't fail.
+pub fn groups_are_cloned()
+    ensures bytewise { (g clone : _) → ⟦<bytewise::Group as Clone>⟧.is_clone g clone ↔ (clone ≡ g) }
+    ensures generic { (g clone : _) → ⟦<generic::Group as Clone>⟧.is_clone g clone ↔ (clone ≡ g) }
+    ensures lanes { (g clone : _) → ⟦<lanes::Group as Clone>⟧.is_clone g clone ↔ (clone ≡ g) }
+    ensures paired { (g clone : _) → ⟦<paired::Group as Clone>⟧.is_clone g clone ↔ (clone ≡ g) }
+    ensures infallible_bytewise { (g : _) → ⟦<bytewise::Group as Clone>⟧.is_infallible g }
+    ensures infallible_generic { (g : _) → ⟦<generic::Group as Clone>⟧.is_infallible g }
+    ensures infallible_lanes { (g : _) → ⟦<lanes::Group as Clone>⟧.is_infallible g }
+    ensures infallible_paired { (g : _) → ⟦<paired::Group as Clone>⟧.is_infallible g }
 {}

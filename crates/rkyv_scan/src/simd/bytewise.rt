@@ -36,9 +36,11 @@ fn first(marks: &[bool; 8]) -> usize
 }
 
 impl Marks for Bitmask {
-    ghost indices = { λ m. flag_indices m.marks };
+    ghost use Rattle.rkyv_scan.specs.{mask_flags};
 
-    ghost ascend = { λ m. flags_ascend m.marks };
+    ghost indices = { λ m. flag_indices (mask_flags m) };
+
+    ghost ascend = { λ m. flags_ascend (mask_flags m) };
 
     ghost ready = { λ _. tt };
 
@@ -67,11 +69,13 @@ impl Marks for Bitmask {
 }
 
 impl Iterator for Bitmask {
+    ghost use Rattle.rkyv_scan.specs.{mask_flags};
+
     type Item = usize;
 
-    ghost next_gives = { YieldsFirst (λ m. flag_indices m.marks) };
+    ghost next_gives = { YieldsFirst (λ m. flag_indices (mask_flags m)) };
 
-    ghost remaining = { item_count (λ m. flag_indices m.marks) };
+    ghost remaining = { item_count (λ m. flag_indices (mask_flags m)) };
 
     #[inline]
     fn next(&mut self) -> Option<usize> {
@@ -88,13 +92,15 @@ pub struct Group {
 }
 
 impl GroupKind for Group {
+    ghost use Rattle.rkyv_scan.specs.{group_bytes};
+
     type Mask = Bitmask;
 
     const WIDTH: usize = 8;
 
     ghost WIDTH = { 8 };
 
-    ghost controls = { λ g. g.bytes };
+    ghost controls = { group_bytes };
 
     ghost kind = { bytewise_kind };
 

@@ -5,9 +5,6 @@
 ghost use Rattle.std.specs.Prelude.{◌≡◌, ℕ, ◌*◌, bit_and};
 ghost use Rattle.std.specs.Iterator.{YieldsFirst, item_count};
 ghost use Rattle.std.specs.Int.{to_le_bytes, w64};
-ghost use Rattle.rkyv_scan.specs.{generic_kind, mask_indices};
-ghost use Rattle.rkyv_scan.specs.Lemmas.Ascending.{mask_ascends};
-ghost use Rattle.rkyv_scan.specs.Lemmas.KindLaws.{word_lawful};
 ghost use Rattle.std.proofs.Common.{refl};
 
 use crate::simd::{GroupKind, Marks};
@@ -33,9 +30,12 @@ impl Bitmask {
 }
 
 impl Marks for Bitmask {
-    ghost indices = { λ m. mask_indices 8 7 8 m.bits };
+    ghost use Rattle.rkyv_scan.specs.{mask_indices, mask_word};
+    ghost use Rattle.rkyv_scan.specs.Lemmas.Ascending.{mask_ascends};
 
-    ghost ascend = { λ m. mask_ascends 8 7 8 m.bits };
+    ghost indices = { λ m. mask_indices 8 7 8 (mask_word m) };
+
+    ghost ascend = { λ m. mask_ascends 8 7 8 (mask_word m) };
 
     ghost ready = { λ _. tt };
 
@@ -62,11 +62,13 @@ impl Marks for Bitmask {
 }
 
 impl Iterator for Bitmask {
+    ghost use Rattle.rkyv_scan.specs.{mask_indices, mask_word};
+
     type Item = usize;
 
-    ghost next_gives = { YieldsFirst (λ m. mask_indices 8 7 8 m.bits) };
+    ghost next_gives = { YieldsFirst (λ m. mask_indices 8 7 8 (mask_word m)) };
 
-    ghost remaining = { item_count (λ m. mask_indices 8 7 8 m.bits) };
+    ghost remaining = { item_count (λ m. mask_indices 8 7 8 (mask_word m)) };
 
     #[inline]
     fn next(&mut self) -> Option<usize> {
@@ -93,13 +95,16 @@ fn repeat(byte: u8) -> Word
 }
 
 impl GroupKind for Group {
+    ghost use Rattle.rkyv_scan.specs.{generic_kind, group_word};
+    ghost use Rattle.rkyv_scan.specs.Lemmas.KindLaws.{word_lawful};
+
     type Mask = Bitmask;
 
     const WIDTH: usize = 8;
 
     ghost WIDTH = { 8 };
 
-    ghost controls = { λ g. to_le_bytes w64 g.word };
+    ghost controls = { λ g. to_le_bytes w64 (group_word g) };
 
     ghost kind = { generic_kind };
 

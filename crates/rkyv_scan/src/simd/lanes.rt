@@ -3,9 +3,6 @@
 //! A match marks the equal bytes and no others. The mask has one bit for each index.
 ghost use Rattle.std.specs.Prelude.{◌≡◌, ℕ, length};
 ghost use Rattle.std.specs.Iterator.{YieldsFirst, item_count};
-ghost use Rattle.rkyv_scan.specs.{MarksEqual, lanes_kind, mask_indices};
-ghost use Rattle.rkyv_scan.specs.Lemmas.Ascending.{mask_ascends};
-ghost use Rattle.rkyv_scan.specs.Lemmas.KindLaws.{equal_lawful};
 ghost use Rattle.std.proofs.Common.{arith, refl};
 
 use crate::simd::{GroupKind, Marks};
@@ -31,9 +28,12 @@ impl Bitmask {
 }
 
 impl Marks for Bitmask {
-    ghost indices = { λ m. mask_indices 1 0 16 m.bits };
+    ghost use Rattle.rkyv_scan.specs.{mask_bits, mask_indices};
+    ghost use Rattle.rkyv_scan.specs.Lemmas.Ascending.{mask_ascends};
 
-    ghost ascend = { λ m. mask_ascends 1 0 16 m.bits };
+    ghost indices = { λ m. mask_indices 1 0 16 (mask_bits m) };
+
+    ghost ascend = { λ m. mask_ascends 1 0 16 (mask_bits m) };
 
     ghost ready = { λ _. tt };
 
@@ -64,11 +64,13 @@ impl Marks for Bitmask {
 }
 
 impl Iterator for Bitmask {
+    ghost use Rattle.rkyv_scan.specs.{mask_bits, mask_indices};
+
     type Item = usize;
 
-    ghost next_gives = { YieldsFirst (λ m. mask_indices 1 0 16 m.bits) };
+    ghost next_gives = { YieldsFirst (λ m. mask_indices 1 0 16 (mask_bits m)) };
 
-    ghost remaining = { item_count (λ m. mask_indices 1 0 16 m.bits) };
+    ghost remaining = { item_count (λ m. mask_indices 1 0 16 (mask_bits m)) };
 
     #[inline]
     fn next(&mut self) -> Option<usize> {
@@ -86,6 +88,8 @@ pub struct Group {
 }
 
 impl Group {
+    ghost use Rattle.rkyv_scan.specs.{MarksEqual};
+
     /// Returns the bits of the indices whose control byte is `byte`.
     #[inline]
     pub(crate) fn equal_bits(self, byte: u8) -> u16
@@ -97,13 +101,16 @@ impl Group {
 }
 
 impl GroupKind for Group {
+    ghost use Rattle.rkyv_scan.specs.{group_lanes, lanes_kind};
+    ghost use Rattle.rkyv_scan.specs.Lemmas.KindLaws.{equal_lawful};
+
     type Mask = Bitmask;
 
     const WIDTH: usize = 16;
 
     ghost WIDTH = { 16 };
 
-    ghost controls = { λ g. g.lanes };
+    ghost controls = { group_lanes };
 
     ghost kind = { lanes_kind };
 

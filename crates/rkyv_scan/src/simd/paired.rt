@@ -42,13 +42,15 @@ fn chained(equal: u16, next: u16) -> u16
 }
 
 impl GroupKind for Group {
+    ghost use Rattle.rkyv_scan.specs.{paired_lanes};
+
     type Mask = Bitmask;
 
     const WIDTH: usize = 16;
 
     ghost WIDTH = { 16 };
 
-    ghost controls = { λ g. g.both.lanes };
+    ghost controls = { paired_lanes };
 
     ghost kind = { paired_kind };
 
