@@ -5,7 +5,7 @@ use Rattle.std.proofs.lemmas.Grind.{common_steps}
 use Rattle.rkyv_base.specs.declared.errors.WriteError.{WriteError}
 use Rattle.rkyv_base.specs.declared.pairs.EntryResolver.{EntryResolver}
 use Rattle.rkyv_base.specs.{Appends, ElementSpec, Format, IsSmall, Output, SerializeFails, Serialized, Within, end_of, pair_format}
-use Rattle.rkyv_base.proofs.WritingSteps.{appends_after, end-appends, fails_after, fails_under, grows, within_after}
+use Rattle.rkyv_base.specs.Lemmas.Writing.{appends_after, end-appends, fails_after, fails_under, grows, within_after}
 
 -- an error of the key
 pub key_fails : {F V W R Q : Type 0} (limit : ℕ) (k v : ElementSpec) (kf : Format V R) (vf : Format W Q) (pair : V × W) (o o' : Output) (e : WriteError F)

@@ -9,7 +9,7 @@ use Rattle.rkyv_base.specs.{Appends, ArchiveOf, ElementSpec, Format, IsElement, 
 use Rattle.rkyv_base.specs.Lemmas.Bytes.{occurs_back, occurs_front}
 use Rattle.rkyv_base.specs.Lemmas.ElementSpec.{valid_at}
 use Rattle.rkyv_base.specs.Lemmas.Entry.{round_up-multiple}
-use Rattle.rkyv_base.proofs.WritingSteps.{appends_after, end-appends, fails_after, grows}
+use Rattle.rkyv_base.specs.Lemmas.Writing.{appends_after, end-appends, fails_after, grows}
 
 module _ (F : Type 0) {V R : Type 0} (limit : ℕ) (s : ElementSpec) (f : Format V R) (v : V) (o o1 o2 o3 : Output)
     (part : List ℕ) (r : R) (a : Appends o o1 part) (made : f.parts v (end_of o) part r) (inside : Within limit o1 part) where

@@ -7,7 +7,7 @@ use Rattle.rkyv_base.specs.declared.errors.WriteError.{WriteError}
 use Rattle.rkyv_base.specs.{Appends, IsAlign, Only, Output, WriteFails, end_of, padding, piece, zeros}
 use Rattle.rkyv_base.specs.Lemmas.ElementSpec.{align_small}
 use Rattle.rkyv_base.specs.Lemmas.Entry.{round_up-multiple}
-use Rattle.rkyv_base.proofs.WritingSteps.{end-appends}
+use Rattle.rkyv_base.specs.Lemmas.Writing.{end-appends}
 
 -- the zeros up to an alignment are a front of eight
 zeros-cut : (a p n : ℕ) → IsAlign a → n ≡ padding a p → take n (replicate 8 0) ≡ zeros (padding a p)

@@ -4,6 +4,8 @@ pub mod Props
 pub mod Utf8
 pub mod Access
 pub mod Bytes
+pub mod ByteStrings
+pub mod ByteStringWriting
 pub mod ElementSpec
 pub mod Empty
 pub mod Entry
@@ -15,3 +17,4 @@ pub mod Scalar
 pub mod Text
 pub mod TextWriting
 pub mod Words
+pub mod Writing

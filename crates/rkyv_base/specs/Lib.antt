@@ -1,5 +1,7 @@
 -- All definitions of the crate, which contracts and proofs import from here.
 pub mod Bytes
+pub mod ByteStrings
+pub mod ByteStringWriting
 pub mod ElementSpecs
 pub mod Writing
 pub mod Checking
@@ -29,6 +31,12 @@ pub mod Seals
 pub mod SealedText
 unfoldable pub use Bytes.{AgreeOn, number_at, signed_at}
 pub use Bytes.{OccursAt}
+unfoldable pub use ByteStrings.{ByteStringFails, ByteStringReads, IsByteStringOf, IsValidByteString}
+unfoldable pub use ByteStrings.{byte_string_at, byte_string_begin, byte_string_length}
+unfoldable pub use ByteStrings.{byte_string_of, byte_string_spec}
+unfoldable pub use ByteStringWriting.{ByteStringImage, ByteStringNext, ByteStringOverflows}
+unfoldable pub use ByteStringWriting.{ByteStringParts, HasWordLength, byte_string_format}
+unfoldable pub use ByteStringWriting.{byte_string_words}
 unfoldable pub use ElementSpecs.{IsAlign, ValidAt, any_bytes}
 pub use ElementSpecs.{ElementSpec, IsElement, Viewable}
 unfoldable pub use Writing.{Aligned, Aligns, AppendFails, Appended, AppendsPiece, CauseApplies}
@@ -77,12 +85,13 @@ unfoldable pub use TextWriting.{IsLong, IsShort, IsTooLong, TextImage, TextNext,
 unfoldable pub use TextWriting.{TextParts, inline_bytes, length_word, out_of_line_bytes}
 unfoldable pub use TextWriting.{text_format, text_limit}
 unfoldable pub use Adapter.{pair_of}
-unfoldable pub use Limit.{Counts, InnerFaults, InnerTook, LimitWriteFails, limited}
+unfoldable pub use Limit.{Counts, InnerFaults, InnerTook, LimitWriteFails, bytes_left}
+unfoldable pub use Limit.{failure_count, inner_writer, limited}
 unfoldable pub use Sealing.{EntryStaysValid, IsCodeAt, Outside, StaysValid, value_at, value_pos}
 unfoldable pub use Sealing.{with_bytes, with_value}
 pub use Sealing.{ModifiesOnly}
 unfoldable pub use Seals.{ArchiveAt, ArchiveStays, LendsFrontAndBack, LiesIn, SealAt, SealStays}
-unfoldable pub use Seals.{archive_in, bytes_in, pos_in, seal_pos}
+unfoldable pub use Seals.{archive_in, archive_ref, bytes_in, bytes_ref, pos_in, seal_pos}
 pub use Seals.{BorrowsAt, IsSameBorrow}
 unfoldable pub use SealedText.{IsInline, IsOutOfLine, IsUtf8IfInline, LacksInlineText, ReadsInline}
 unfoldable pub use SealedText.{Uppercases, inline_at, with_uppercase}

@@ -5,6 +5,18 @@ use Rattle.rkyv_base.specs.declared.limit.LimitFault.TheVariants.{Full, Inner}
 use Rattle.rkyv_base.specs.declared.limit.LimitWriter.{LimitWriter}
 use Rattle.rkyv_base.specs.Writing.{Appends, Faults, Output}
 
+-- the inner writer of the writer `w`
+abbrev pub inner_writer : {W : Type 0} → LimitWriter W → W
+inner_writer w = w.inner
+
+-- the number of bytes that are left of the limit of the writer `w`
+abbrev pub bytes_left : {W : Type 0} → LimitWriter W → ℕ
+bytes_left w = w.left
+
+-- the count of failures of the writer `w`
+abbrev pub failure_count : {W : Type 0} → LimitWriter W → ℕ
+failure_count w = w.failures
+
 -- the output of a writer with a limit: the inner output, with a count of failures of its own
 abbrev pub limited : {W : Type 0} → (W → Output) → LimitWriter W → Output
 limited output w = record (output w.inner) { failures = w.failures }

@@ -17,6 +17,14 @@ pub record IsSameBorrow (lent lent' : MutBor (List ℕ)) (at at' : ℕ) : Type 0
   pub same_reference : lent'.ghost_name ≡ lent.ghost_name
   pub pos : at' ≡ at
 
+-- the reference by which the seal `s` borrows its bytes
+abbrev pub bytes_ref : {T : Type 0} → Seal T → MutBor (List ℕ)
+bytes_ref s = s.bytes
+
+-- the reference by which the archive seal `s` borrows the archive
+abbrev pub archive_ref : {T : Type 0} → ArchiveSeal T → MutBor (List ℕ)
+archive_ref s = s.archive
+
 -- the bytes that the seal `s` borrows
 abbrev pub bytes_in : {T : Type 0} → Seal T → List ℕ
 bytes_in s = s.bytes.now

@@ -81,7 +81,8 @@ pub record FaultsDuring (limit : ℕ) (next : List ℕ → Step → Type 0) (o o
   pub is : front ≡ before ++ take written_len bytes
   pub counted : FailedOnce o o'
 
--- the condition of an error after `front` was appended. `next front step`: `step` follows `front`
+-- the condition of an error after `front` was appended. `next front step`: `step` follows `front`.
+-- A distance fails behind a piece that was appended, so within the limit even if `front` is empty
 abbrev pub CauseApplies : {F : Type 0} → ℕ → (List ℕ → Step → Type 0) → Output → Output → List ℕ
     → WriteError F → Type 0
 CauseApplies limit next o o' front (InvalidLoadFactor n d) =
@@ -93,7 +94,7 @@ CauseApplies limit next o o' front (CapacityTooLarge n) =
 CauseApplies limit next o o' front PositionTooLarge = (bytes : List ℕ)
     × Reached limit next o o' front (piece bytes) × (limit < end_of o' + length bytes)
 CauseApplies limit next o o' front DistanceTooLarge =
-    Reached limit next o o' front (failure distance)
+    Reached limit next o o' front (failure distance) × (end_of o' ≤ limit)
 CauseApplies limit next o o' front TextTooLong = Reached limit next o o' front (failure long_text)
 CauseApplies limit next o o' front (Writer f) = FaultsDuring limit next o o' front
 CauseApplies limit next o o' front Memory = Reached limit next o o' front (failure no_memory)

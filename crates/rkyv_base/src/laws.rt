@@ -2,12 +2,13 @@
 //!
 //! An implementation names these in its own ghost members. The laws say them of each type,
 //! by the definitions in `specs/`. Other laws are about the words and limits of both widths,
-//! the greatest size of an element, the outputs of writers, conversions between errors, and
-//! clones of views.
+//! the greatest size of an element, the outputs of writers, conversions between errors, `==`,
+//! clones, and dropped seals.
 
 ghost use Rattle.std.specs.Int.{w16, w32, w64, w8};
-ghost use Rattle.std.specs.Prelude.{string_bytes, ◌↔◌, ◌≡◌};
-ghost use Rattle.rkyv_base.specs.{CountsReadBack, DistancesReadBack, IsScalar, IsTextOf};
+ghost use Rattle.std.specs.Prelude.{string_bytes, true, ◌↔◌, ◌≡◌};
+ghost use Rattle.rkyv_base.specs.{CountsReadBack, DistancesReadBack, IsByteStringOf, IsScalar};
+ghost use Rattle.rkyv_base.specs.{IsTextOf, byte_string_format, byte_string_spec};
 ghost use Rattle.rkyv_base.specs.{PairRepresents, RepresentsAs, SameEncoding, SameFormat, SameSpec};
 ghost use Rattle.rkyv_base.specs.{SameValues, ScalarRepresents, WideDistancesFit};
 ghost use Rattle.rkyv_base.specs.{bool_encoding, char_encoding, entry_spec, limited, narrow_limit};
@@ -20,14 +21,17 @@ ghost use Rattle.rkyv_base.specs.declared.errors.WriteError.TheVariants as write
 
 use crate::adapter::EntryAdapter;
 use crate::archive::Archive;
-use crate::element::{HasSpec, Represents};
+use crate::bytes::Bytes;
+use crate::element::{HasSpec, PartRange, Represents};
 use crate::entry::{Entry, MAX_ELEMENT_SIZE};
 use crate::errors::{
-    DistanceTooLarge, IteratorLengthMismatch, ReadError, RoundTripError, WriteError,
+    DistanceTooLarge, IteratorLengthMismatch, ReadError, RoundTripError, VerifyError, WriteError,
 };
 use crate::lend::Lend;
-use crate::limit::LimitWriter;
+use crate::limit::{LimitFault, LimitWriter};
 use crate::scalars::Scalar;
+use crate::seal::{ArchiveSeal, Seal};
+use crate::strings::TextResolver;
 use crate::text::Text;
 use crate::view::View;
 use crate::width::{Narrow, Wide, Width, Word};
@@ -77,6 +81,22 @@ pub fn texts_are_their_bytes<'t, W: Width>()
         (written_as (λ t. t.now) (text_format W.word)) }
     ensures string_bytes { SameFormat ⟦<String as Archive<W>>⟧.format
         (written_as string_bytes (text_format W.word)) }
+{}
+
+/// States the layout of byte strings, and that `&[u8]` and `Vec<u8>` are archived as their bytes.
+///
+/// Without a width, a byte string is that of a narrow archive.
+pub fn byte_strings_are_their_bytes<'t, W: Width>()
+    ensures spec { SameSpec ⟦<Bytes<W> as HasSpec>⟧.spec (byte_string_spec W.word) }
+    ensures default { SameSpec ⟦<Bytes as HasSpec>⟧.spec (byte_string_spec w32) }
+    ensures slices { SameValues ⟦<Bytes<W> as Represents<&'t [u8]>>⟧.represents
+        (IsByteStringOf W.word (λ t. t.now)) }
+    ensures vectors { SameValues ⟦<Bytes<W> as Represents<Vec<u8>>>⟧.represents
+        (IsByteStringOf W.word (λ v. v.items)) }
+    ensures slice_bytes { SameFormat ⟦<&'t [u8] as Archive<W>>⟧.format
+        (written_as (λ t. t.now) (byte_string_format W.word)) }
+    ensures vector_bytes { SameFormat ⟦<Vec<u8> as Archive<W>>⟧.format
+        (written_as (λ v. v.items) (byte_string_format W.word)) }
 {}
 
 /// States that the unit value has no bytes.
@@ -178,3 +198,84 @@ pub fn views_are_cloned<'a, T>()
         ↔ (clone ≡ view) }
     ensures infallible { (view : _) → ⟦<View<'a, T> as Clone>⟧.is_infallible view }
 {}
+
+/// States that two ranges or errors are equal by `==` if and only if they are the same.
+pub fn equal_are_the_same()
+    ensures range { (a b : PartRange) → (⟦<PartRange as PartialEq>⟧.eq a b ≡ true) ↔ (a ≡ b) }
+    ensures mismatch { (a b : IteratorLengthMismatch)
+        → (⟦<IteratorLengthMismatch as PartialEq>⟧.eq a b ≡ true) ↔ (a ≡ b) }
+    ensures distance { (a b : DistanceTooLarge) → ⟦<DistanceTooLarge as PartialEq>⟧.eq a b ≡ true }
+    ensures memory { (a b : NoMemory) → ⟦<NoMemory as PartialEq>⟧.eq a b ≡ true }
+    ensures verify { (a b : VerifyError) → (⟦<VerifyError as PartialEq>⟧.eq a b ≡ true)
+        ↔ (a ≡ b) }
+    ensures read { (a b : ReadError) → (⟦<ReadError as PartialEq>⟧.eq a b ≡ true) ↔ (a ≡ b) }
+    ensures round_trip { (a b : RoundTripError) → (⟦<RoundTripError as PartialEq>⟧.eq a b ≡ true)
+        ↔ (a ≡ b) }
+{}
+
+/// States that errors with a writer's fault are equal by `==` if and only if they are the same.
+///
+/// Equal faults of the type `F` must be the same.
+pub fn equal_with_faults_are_the_same<F: PartialEq>()
+    ensures write { ((f g : F) → (⟦<F as PartialEq>⟧.eq f g ≡ true) ↔ (f ≡ g))
+        → (a b : WriteError F) → (⟦<WriteError<F> as PartialEq>⟧.eq a b ≡ true) ↔ (a ≡ b) }
+    ensures limit { ((f g : F) → (⟦<F as PartialEq>⟧.eq f g ≡ true) ↔ (f ≡ g))
+        → (a b : LimitFault F) → (⟦<LimitFault<F> as PartialEq>⟧.eq a b ≡ true) ↔ (a ≡ b) }
+{}
+
+/// States that a clone of a range, an error or a resolver is the value itself, and can't fail.
+pub fn clones_are_the_same()
+    ensures range { (a clone : PartRange) → ⟦<PartRange as Clone>⟧.is_clone a clone ↔ (clone ≡ a) }
+    ensures mismatch { (a clone : IteratorLengthMismatch)
+        → ⟦<IteratorLengthMismatch as Clone>⟧.is_clone a clone ↔ (clone ≡ a) }
+    ensures verify { (a clone : VerifyError) → ⟦<VerifyError as Clone>⟧.is_clone a clone
+        ↔ (clone ≡ a) }
+    ensures read { (a clone : ReadError) → ⟦<ReadError as Clone>⟧.is_clone a clone ↔ (clone ≡ a) }
+    ensures round_trip { (a clone : RoundTripError) → ⟦<RoundTripError as Clone>⟧.is_clone a clone
+        ↔ (clone ≡ a) }
+    ensures text { (a clone : TextResolver) → ⟦<TextResolver as Clone>⟧.is_clone a clone
+        ↔ (clone ≡ a) }
+    ensures infallible_range { (a : PartRange) → ⟦<PartRange as Clone>⟧.is_infallible a }
+    ensures infallible_mismatch { (a : IteratorLengthMismatch)
+        → ⟦<IteratorLengthMismatch as Clone>⟧.is_infallible a }
+    ensures infallible_distance { (a : DistanceTooLarge)
+        → ⟦<DistanceTooLarge as Clone>⟧.is_infallible a }
+    ensures infallible_memory { (a : NoMemory) → ⟦<NoMemory as Clone>⟧.is_infallible a }
+    ensures infallible_verify { (a : VerifyError) → ⟦<VerifyError as Clone>⟧.is_infallible a }
+    ensures infallible_read { (a : ReadError) → ⟦<ReadError as Clone>⟧.is_infallible a }
+    ensures infallible_round_trip { (a : RoundTripError)
+        → ⟦<RoundTripError as Clone>⟧.is_infallible a }
+    ensures infallible_text { (a : TextResolver) → ⟦<TextResolver as Clone>⟧.is_infallible a }
+    ensures infallible_narrow { (a : Narrow) → ⟦<Narrow as Clone>⟧.is_infallible a }
+    ensures infallible_wide { (a : Wide) → ⟦<Wide as Clone>⟧.is_infallible a }
+{}
+
+/// States that a clone of an error with a writer's fault is the error itself, and can't fail.
+///
+/// A clone of a fault of the type `F` must be the fault itself, and must not fail.
+pub fn clones_with_faults_are_the_same<F: Clone>()
+    ensures write { ((f g : F) → ⟦<F as Clone>⟧.is_clone f g ↔ (g ≡ f))
+        → (a clone : WriteError F) → ⟦<WriteError<F> as Clone>⟧.is_clone a clone ↔ (clone ≡ a) }
+    ensures limit { ((f g : F) → ⟦<F as Clone>⟧.is_clone f g ↔ (g ≡ f))
+        → (a clone : LimitFault F) → ⟦<LimitFault<F> as Clone>⟧.is_clone a clone ↔ (clone ≡ a) }
+    ensures infallible_write { ((f : F) → ⟦<F as Clone>⟧.is_infallible f)
+        → (a : WriteError F) → ⟦<WriteError<F> as Clone>⟧.is_infallible a }
+    ensures infallible_limit { ((f : F) → ⟦<F as Clone>⟧.is_infallible f)
+        → (a : LimitFault F) → ⟦<LimitFault<F> as Clone>⟧.is_infallible a }
+{}
+
+/// States that a seal changes no byte when it is dropped.
+pub fn dropped_seals_keep_bytes<T>(bytes: &mut [u8], pos: usize)
+    ensures { bytes.new ≡ bytes.old }
+{
+    let seal = Seal::<T>::over(bytes, pos);
+    drop(seal);
+}
+
+/// States that the seal of an archive changes no byte when it is dropped.
+pub fn dropped_archive_seals_keep_bytes<T>(archive: &mut [u8], pos: u64)
+    ensures { archive.new ≡ archive.old }
+{
+    let seal = ArchiveSeal::<T>::new(archive, pos);
+    drop(seal);
+}

@@ -18,6 +18,7 @@ pub mod access;
 pub mod adapter;
 pub mod archive;
 mod byte_search;
+pub mod bytes;
 pub mod element;
 pub mod entry;
 pub mod errors;
@@ -43,6 +44,7 @@ pub use access::{
 };
 pub use adapter::EntryAdapter;
 pub use archive::{Archive, ResolveResult, Serialize, WriteResult};
+pub use bytes::{Bytes, BytesResolver};
 pub use element::{Element, HasSpec, PartRange, Represents};
 pub use entry::{Entry, MAX_ELEMENT_SIZE, value_offset, whole_size};
 pub use errors::{DistanceTooLarge, IteratorLengthMismatch, ReadError, VerifyError, WriteError};

@@ -6,7 +6,7 @@
 ghost use Rattle.std.specs.Prelude.{IfErr, MatchResult, OnErr, OnOk, length, min, ◌+◌, ◌-◌, ◌<◌};
 ghost use Rattle.std.specs.Prelude.{◌^◌, ◌≡◌, ◌≤◌};
 ghost use Rattle.rkyv_base.specs.{Appends, Counts, Faults, InnerFaults, InnerTook, LimitWriteFails};
-ghost use Rattle.rkyv_base.specs.{end_of, limited};
+ghost use Rattle.rkyv_base.specs.{bytes_left, end_of, failure_count, inner_writer, limited};
 
 use crate::writer::Writer;
 use thiserror::Error;
@@ -48,9 +48,9 @@ pub struct LimitWriter<W> {
 impl<W: Writer> LimitWriter<W> {
     /// Returns a writer that passes at most `limit` bytes to the inner writer.
     pub fn new(inner: W, limit: u64) -> LimitWriter<W>
-        ensures inner { result.inner ≡ inner }
-        ensures limit { result.left ≡ limit }
-        ensures failures { result.failures ≡ 0 }
+        ensures inner { inner_writer result ≡ inner }
+        ensures limit { bytes_left result ≡ limit }
+        ensures failures { failure_count result ≡ 0 }
     {
         LimitWriter {
             inner,
@@ -61,7 +61,7 @@ impl<W: Writer> LimitWriter<W> {
 
     /// Returns the inner writer.
     pub fn into_inner(self) -> W
-        ensures { result ≡ self.inner }
+        ensures { result ≡ inner_writer self }
     {
         self.inner
     }
@@ -138,8 +138,8 @@ impl<W: Writer> Writer for LimitWriter<W> {
         ensures limit { Counts W.output self.old self.new }
         ensures inner { OnOk result (InnerTook W.output self.old self.new bytes.now) }
         ensures fault { IfErr result (LimitWriteFails W.output self.old self.new bytes.now) }
-        ensures inner_unchanged { self.old.left ≡ 0 → 0 < length bytes.now
-            → self.new.inner ≡ self.old.inner }
+        ensures inner_unchanged { bytes_left self.old ≡ 0 → 0 < length bytes.now
+            → inner_writer self.new ≡ inner_writer self.old }
     {
         let left = self.left as usize;
         if bytes.len() <= left {

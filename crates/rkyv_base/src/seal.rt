@@ -19,9 +19,9 @@ ghost use Rattle.std.specs.Prelude.{◌≡◌, ◌+◌, ◌≤◌, length, take,
 ghost use Rattle.std.specs.Borrow.{sem};
 ghost use Rattle.rkyv_base.specs.{ArchiveAt, ArchiveStays, EntryStaysValid, IsCodeAt, IsValidView};
 ghost use Rattle.rkyv_base.specs.{LendsFrontAndBack, LiesIn, MayWrite, ModifiesOnly, SealAt};
-ghost use Rattle.rkyv_base.specs.{SealStays, StaysValid, Viewable, Wrote, archive_in, bytes_in};
-ghost use Rattle.rkyv_base.specs.{bytes_of, entry_spec, pos_in, pos_of, seal_pos, value_at};
-ghost use Rattle.rkyv_base.specs.{value_pos, with_value};
+ghost use Rattle.rkyv_base.specs.{SealStays, StaysValid, Viewable, Wrote, archive_in, archive_ref};
+ghost use Rattle.rkyv_base.specs.{bytes_in, bytes_of, bytes_ref, entry_spec, pos_in, pos_of};
+ghost use Rattle.rkyv_base.specs.{seal_pos, value_at, value_pos, with_value};
 
 use crate::element::Element;
 use crate::entry::value_offset;
@@ -49,7 +49,7 @@ pub struct Seal<'a, T> {
 
 impl<'a, T> Drop for Seal<'a, T> {
     fn drop(self)
-        ensures { self.exit.0.now ≡ self.entry.bytes.now }
+        ensures { self.exit.0.now ≡ bytes_in self.entry }
     {
         let Seal {
             bytes: _,
@@ -77,7 +77,7 @@ impl<'a, T> Seal<'a, T> {
     /// Use it to look up a key in a map that is the value of another map.
     #[inline]
     pub fn into_archive(self) -> ArchiveSeal<'a, T>
-        ensures { ArchiveAt result self.entry.bytes (seal_pos self.entry) }
+        ensures { ArchiveAt result (bytes_ref self.entry) (seal_pos self.entry) }
     {
         let Seal {
             bytes,
@@ -162,7 +162,7 @@ pub struct ArchiveSeal<'a, T> {
 
 impl<'a, T> Drop for ArchiveSeal<'a, T> {
     fn drop(self)
-        ensures { self.exit.0.now ≡ self.entry.archive.now }
+        ensures { self.exit.0.now ≡ archive_in self.entry }
     {
         let ArchiveSeal {
             archive: _,
@@ -196,7 +196,7 @@ impl<'a, T> ArchiveSeal<'a, T> {
     /// Returns the archive and the position.
     #[inline]
     pub fn into_parts(self) -> (&'a mut [u8], u64)
-        ensures same_reference { result.0.ghost_name ≡ self.entry.archive.ghost_name }
+        ensures same_reference { result.0.ghost_name ≡ (archive_ref self.entry).ghost_name }
         ensures bytes { result.0.now ≡ archive_in self.entry }
         ensures pos { result.1 ≡ pos_in self.entry }
     {
@@ -264,7 +264,7 @@ impl<'a, T> ArchiveSeal<'a, T> {
     #[inline]
     pub fn seal_at<U: Element>(self, pos: u64) -> Seal<'a, U>
         requires { Viewable U.spec (archive_in self) pos }
-        ensures at { SealAt result self.entry.archive pos }
+        ensures at { SealAt result (archive_ref self.entry) pos }
     {
         let (archive, _) = self.into_parts();
         Seal::over(archive, pos as usize)
@@ -278,7 +278,8 @@ impl<'a, T> ArchiveSeal<'a, T> {
     #[inline]
     pub fn value_seal<K: Element, V: Element>(self, entry_pos: u64) -> Seal<'a, V>
         requires { value_pos K.spec V.spec entry_pos + V.spec.size ≤ length (archive_in self) }
-        ensures at { SealAt result self.entry.archive (value_pos K.spec V.spec entry_pos) }
+        ensures at { SealAt result (archive_ref self.entry)
+            (value_pos K.spec V.spec entry_pos) }
         ensures inside { LiesIn V.spec result }
     {
         let (archive, _) = self.into_parts();

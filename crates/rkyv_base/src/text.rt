@@ -208,7 +208,7 @@ impl<W: Width> Element for Text<W> {
 
 /// Returns the position at which a part begins.
 #[inline]
-fn pos_of_begin(begin: i128) -> usize
+pub(crate) fn pos_of_begin(begin: i128) -> usize
     requires { (at : ℕ) × (int at ≡ begin) × (at < 2 ^ 64) }
     ensures { int result ≡ begin }
 {
