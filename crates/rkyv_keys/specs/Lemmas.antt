@@ -4,6 +4,7 @@ pub mod Fixed
 pub mod OfEntries
 pub mod OfScalars
 pub mod OfTexts
+pub mod OfByteStrings
 pub mod OfUnits
 pub mod OfValues
 pub mod OfViews

@@ -2,6 +2,7 @@
 use Rattle.std.specs.Prelude.{ℕ, Bool, List}
 use Rattle.rkyv_scan.specs.{Hasher, HasherCall, fx_hasher, hash_of_calls, low_halves}
 use Rattle.rkyv_base.specs.{ElementSpec, Format}
+use Rattle.rkyv_keys.specs.Members.{HasherMembers, QueryMembers}
 
 -- how native keys are written. `spec`: spec of their elements, `format`: their format,
 -- `hash`: hash of a native key
@@ -61,3 +62,7 @@ abbrev pub queried : {State Q : Type 0} → Hasher State → (Q → List HasherC
     → (Q → List ℕ → ℕ → Bool) → Queried Q
 queried hasher calls fits =
     record { hash = λ query. hash_of_calls hasher (calls query); fits = fits }
+
+-- the queries of a type, by a hasher
+abbrev pub queries_of : {State Q : Type 0} → HasherMembers State → QueryMembers Q → Queried Q
+queries_of hasher query = queried hasher.hasher query.calls query.fits

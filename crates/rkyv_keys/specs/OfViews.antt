@@ -1,4 +1,4 @@
--- A key in an archive, as a query for keys of other archives.
+-- A key in an archive, as a query for keys of other archives, and the view of a shown value.
 use Rattle.std.specs.Prelude.{◌≡◌, ℕ, Bool, List}
 use Rattle.rkyv_scan.specs.{HasherCall}
 use Rattle.rkyv_base.specs.{bytes_of, pos_of}
@@ -6,7 +6,12 @@ use Rattle.rkyv_base.specs.declared.element.HasSpec.{Ghosts as Specs}
 use Rattle.rkyv_base.specs.declared.view.View.{View}
 use Rattle.rkyv_keys.specs.AtViews.{at_view}
 use Rattle.rkyv_keys.specs.Equality.{Comparison}
+use Rattle.rkyv_keys.specs.declared.debug.Shown.{Shown}
 use Rattle.rkyv_keys.specs.declared.views.KeyView.{KeyView}
+
+-- the view of the value that is shown
+abbrev pub shown_view : {T : Type 0} → Shown T → View T
+shown_view shown = shown.view
 
 module _ {K : Type 0} {ks : Specs K} where
   -- the view of the key

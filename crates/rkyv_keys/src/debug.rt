@@ -5,6 +5,7 @@
 
 ghost use Rattle.std.specs.Prelude.{◌≡◌, MatchOption};
 ghost use Rattle.rkyv_base.specs.{IsAt, IsValidView, Viewable, entry_spec, unit_spec};
+ghost use Rattle.rkyv_keys.specs.{shown_view};
 
 use crate::scalars::ScalarKey;
 use rkyv_base::{Element, Entry, PartRange, View};
@@ -59,7 +60,7 @@ impl<'a, T: ElementDebug> Shown<'a, T> {
     /// Returns the value of the view, for formatting.
     #[inline]
     pub fn new(view: View<'a, T>) -> Shown<'a, T>
-        ensures { result.view ≡ view.entry }
+        ensures { shown_view result ≡ view.entry }
     {
         Shown { view }
     }

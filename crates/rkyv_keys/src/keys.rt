@@ -115,8 +115,8 @@ impl<A: NativeKey<K>, K: KeyElement + Represents<A>> NativeQuery<A, K> for A {
 
 /// A key whose hash makes no call for a `usize` or an `isize`.
 ///
-/// `FxHasher64` and `FxHasher64Wide` hash it alike. All keys of this crate implement it, an entry
-/// if both of its parts do.
+/// `FxHasher64` and `FxHasher64Wide` hash it alike. All keys of this crate but byte strings
+/// implement it, an entry if both of its parts do.
 pub trait FixedKey: KeyElement {
     ghost fixed: { MakesFixedCalls Self.spec Self.key_calls };
 }

@@ -7,9 +7,11 @@
 
 ghost use Rattle.std.specs.Prelude.{[], string_bytes, ◌++◌, ◌∷◌, ◌≡◌, ◌↔◌};
 ghost use Rattle.rkyv_scan.specs.{I16, I32, I64, I8, Isize, U16, U32, U64, U8, Usize};
-ghost use Rattle.rkyv_base.specs.{IsTextOf, SameValues, ScalarRepresents, unit_represents};
+ghost use Rattle.rkyv_base.specs.{IsByteStringOf, IsTextOf, SameValues, ScalarRepresents};
+ghost use Rattle.rkyv_base.specs.{unit_represents};
 ghost use Rattle.rkyv_keys.specs.{FitsByValue, FitsSameKeys, HashesAsWritten, HashesBy};
 ghost use Rattle.rkyv_keys.specs.{RestsOnKeys, SameComparison, SameErrors, bool_call};
+ghost use Rattle.rkyv_keys.specs.{byte_string_calls, byte_string_fails, byte_string_same};
 ghost use Rattle.rkyv_keys.specs.{entry_deserialize_fails, entry_equals, entry_same};
 ghost use Rattle.rkyv_keys.specs.{nothing_fails, scalar_same, text_calls, text_fails, text_same};
 ghost use Rattle.rkyv_keys.specs.{unit_same, view_calls};
@@ -21,7 +23,7 @@ use crate::hash::KeyHash;
 use crate::keys::{KeyElement, NativeKey, Query};
 use crate::scalars::ScalarKey;
 use crate::views::KeyView;
-use rkyv_base::{Entry, HasSpec, Represents, Text, Width};
+use rkyv_base::{Bytes, Entry, HasSpec, Represents, Text, Width};
 
 /// States that a native key makes the calls of each archived key that represents it.
 pub fn native_keys_hash_as_written<K: KeyElement + Represents<V>, V: NativeKey<K>>()
@@ -74,6 +76,12 @@ pub fn texts_hash_by_their_bytes<'a>()
     ensures string { HashesBy ⟦<String as KeyHash>⟧ (λ s. text_calls (string_bytes s)) }
 {}
 
+/// States that a byte string is hashed by the number of its bytes, and then the bytes.
+pub fn byte_strings_hash_by_their_bytes<'a>()
+    ensures slice { HashesBy ⟦<&'a [u8] as KeyHash>⟧ (λ s. byte_string_calls s.now) }
+    ensures vector { HashesBy ⟦<Vec<u8> as KeyHash>⟧ (λ v. byte_string_calls v.items) }
+{}
+
 /// States that a pair is hashed by the calls of its first value, and then those of its second.
 pub fn pairs_hash_in_order<A: KeyHash, B: KeyHash>()
     ensures { (pair : _) →
@@ -124,6 +132,20 @@ where
         (text_fails W.word) }
     ensures pair { SameErrors ⟦<Entry<K, V> as Deserialize<(A, B)>>⟧.deserialize_fails
         (entry_deserialize_fails K.Deserialize V.Deserialize) }
+{}
+
+/// States when archived byte strings are the same, and which native values they equal.
+///
+/// They are the same if their bytes are, and equal the values that they represent. Deserializing
+/// one fails only to allocate, and never if it is empty.
+pub fn byte_strings_are_compared<'t, W: Width>()
+    ensures same { SameComparison ⟦<Bytes<W> as ElementEq>⟧.same (byte_string_same W.word) }
+    ensures slice { SameValues ⟦<Bytes<W> as MatchesNative<&'t [u8]>>⟧.equals
+        (IsByteStringOf W.word (λ t. t.now)) }
+    ensures vector { SameValues ⟦<Bytes<W> as MatchesNative<Vec<u8>>>⟧.equals
+        (IsByteStringOf W.word (λ v. v.items)) }
+    ensures errors { SameErrors ⟦<Bytes<W> as Deserialize<Vec<u8>>>⟧.deserialize_fails
+        (byte_string_fails W.word) }
 {}
 
 /// States that the clone of a value to be formatted is that value, and that cloning can't fail.

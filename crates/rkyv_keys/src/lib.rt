@@ -6,10 +6,11 @@
 //! - `Deserialize` reads an archived value back.
 //! - `Shown` formats an archived value by `Debug`.
 //!
-//! These are implemented for scalar keys, text, entries and the unit value.
+//! These are implemented for scalar keys, text, byte strings, entries and the unit value.
 //! The root re-exports the traits.
 #![tactic(auto)]
 
+mod bytes;
 pub mod debug;
 pub mod deserialize;
 mod entries;

@@ -4,7 +4,7 @@
 
 ghost use Rattle.std.specs.Prelude.{MatchResult, Ok, ◌≡◌, ⊤};
 ghost use Rattle.rkyv_base.specs.Lemmas.ElementSpec.{viewable_prop};
-ghost use Rattle.rkyv_base.specs.{IsValidView};
+ghost use Rattle.rkyv_base.specs.{IsValidView, bytes_of, pos_of};
 
 mod query;
 
@@ -14,8 +14,8 @@ use std::alloc::AllocError;
 /// A valid archived key, as a query for the keys that are the same.
 pub struct KeyView<'a, K: HasSpec> {
     view: View<'a, K>,
-    ghost valid: { IsValidView K.spec view } by { viewable_prop K.spec K.laws view.archive.now
-        view.pos },
+    ghost valid: { IsValidView K.spec view } by { viewable_prop K.spec K.laws (bytes_of view)
+        (pos_of view) },
 }
 
 impl<'a, K: HasSpec> Clone for KeyView<'a, K> {
