@@ -1,13 +1,14 @@
 -- Lookups in a table that is read are lookups in its bytes.
 use Rattle.rkyv_base.specs.declared.element.HasSpec.{Ghosts as Specs}
 use Rattle.rkyv_base.specs.declared.width.Word.{Ghosts as Words}
-use Rattle.std.proofs.Common.{arith, ◌≡◌, ℕ, ◌+◌, zero-add, sym, ap, subst, ◌∙◌, Bool, List, Option, None, Some}
+use Rattle.std.proofs.Common.{arith, ◌≡◌, ℕ, sym, subst, Bool, List, Option, None, Some}
 use Rattle.std.proofs.lemmas.Grind.{common_steps}
 use Rattle.std.specs.List.{find}
 use Rattle.rkyv_base.specs.{IsElement, Viewable}
 use Rattle.rkyv_base.specs.declared.view.View.{View}
 use Rattle.rkyv_scan.specs.{Kind}
-use Rattle.rkyv_table.specs.{AcceptedOf, ComparesBy, ComparesByOf, CountsEnd, FindsFirst, FindsFound, IsAcceptedAt, IsItem, IsItemAt, IsItemOf, IsItemPos, IsUnderHash, IsWalked, LooksUp, ReadsExactly, WrittenAt, home_positions, item_at, pos_found, probe_length_at, table_spec}
+use Rattle.rkyv_table.specs.{AcceptedOf, ComparesBy, ComparesByOf, CountsStrides, FindsFirst, FindsFound, IsAcceptedAt, IsItem, IsItemAt, IsItemOf, IsItemPos, IsUnderHash, IsWalked, LooksUp, ReadsExactly, WrittenAt, home_positions, item_at, pos_found, probe_length_at, table_spec}
+use Rattle.rkyv_table.proofs.Counts.{cap_small, counted_lookup}
 use Rattle.rkyv_table.proofs.ValidTable.{item_viewable}
 use Rattle.rkyv_table.proofs.SealedTable.{table_kept}
 use Rattle.rkyv_table.specs.declared.table.ArchivedHashTable.{ArchivedHashTable}
@@ -44,11 +45,12 @@ module _ {T W : Type 0} {ts : Specs T} {wt : Words W} (b : List ℕ) (p : ℕ) (
     looks_up_some kind hash q finds first accepted =
         record { accepted = accepted_of q accepted; finds = found_of kind hash (Some q) finds; first = first_of kind hash (Some q) finds first }
 
-    pub reads_exactly : (kind : Kind) (hash before after : ℕ) → before ≡ 0 → CountsEnd post kind t hash before after → ReadsExactly post kind wt.word ts.spec b p hash after
+    pub reads_exactly : (kind : Kind) (hash before after : ℕ) → before ≡ 0 → CountsStrides post kind t hash before after → ReadsExactly post kind wt.word ts.spec b p hash after
     reads_exactly kind hash before after none counts accept compares =
+        let here = subst (λ n. CountsStrides post kind t hash n after) none counts in
         let P = λ (c : List ℕ) (q : ℕ). after ≡ probe_length_at kind wt.word ts.spec.size c q hash accept in
         subst (P b) pos (subst (λ (c : List ℕ). P c t.view.pos) bytes
-        (counts accept (compares_by_of accept compares) ∙ ap (λ n. n + probe_length_at kind wt.word ts.spec.size t.view.archive.now t.view.pos hash accept) none ∙ zero-add _))
+        (counted_lookup _ _ _ after (cap_small t) here.bounded (here.counted accept (compares_by_of accept compares))))
 
   -- each write of an item of the table alone that keeps it valid keeps the table
   pub item_at_found : IsElement ts.spec → Viewable (table_spec wt.word ts.spec) b p → (q : ℕ) → IsItemPos t q → (i : ℕ) × IsItemAt wt.word ts.spec b p i q

@@ -7,7 +7,7 @@ use Rattle.std.proofs.lemmas.Option.{slice_get-get_or}
 use Rattle.rkyv_base.specs.declared.errors.WriteError.{WriteError}
 use Rattle.rkyv_base.specs.declared.errors.WriteError.TheVariants.{DistanceTooLarge}
 use Rattle.rkyv_base.specs.{Appends, Format, Only, Output, WriteFails, end_of, piece, zeros}
-use Rattle.rkyv_base.proofs.WritingSteps.{appends_after, end-appends, fails_after, grows, none_appended}
+use Rattle.rkyv_base.specs.Lemmas.Writing.{appends_after, end-appends, fails_after, grows, none_appended}
 use Rattle.rkyv_table.specs.{BucketNext, BucketOverflows, Filled, SlotImages, WroteBuckets, filled}
 use Rattle.rkyv_table.proofs.PartSteps.{filled-append}
 
@@ -92,7 +92,7 @@ module _ {X R : Type 0} (size limit : ℕ) (f : Format X R) (slots : List (Optio
       overflow_fails h = record {
         front = d.out;
         kept = grows o o1 d.out d.appended;
-        cause = (inr d.within, d.appended.failures, (i, left, (d.done, d.all, shown_here), s, read_at s e, inr (subst (λ n. BucketOverflows size f s left n) here h, refl)));
+        cause = ((inr d.within, d.appended.failures, (i, left, (d.done, d.all, shown_here), s, read_at s e, inr (subst (λ n. BucketOverflows size f s left n) here h, refl))), d.within);
       }
 
   pub down_init : length rs ≡ filled slots → end_of o ≤ limit → BucketsWritten (length slots) rs o

@@ -10,7 +10,7 @@ use Rattle.std.proofs.lemmas.Option.{slice_get-map, slice_get_cases}
 use Rattle.rkyv_base.specs.{ElementSpec}
 use Rattle.rkyv_table.specs.{AgreesAt, AreUnder, IsFirstOf, IsUnderHash, IsWrittenOf, LookupFindsFirst, first_pos, hashes_of, home_positions, items_of}
 use Rattle.rkyv_table.proofs.FirstFound.{first_found}
-use Rattle.rkyv_table.proofs.WrittenTables.{home_count}
+use Rattle.rkyv_table.specs.Lemmas.Homes.{home_count}
 
 -- the first accepted position is that of the first accepted item
 first_along : {X : Type 0} (represents : List ℕ → ℕ → X → Type 0) (c : List ℕ) (accept : X → Bool) (accept_at : ℕ → Bool) (items : List X) (qs : List ℕ)

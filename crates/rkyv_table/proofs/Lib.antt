@@ -2,6 +2,7 @@ pub mod Moved
 pub mod Triangle
 pub mod Lists
 pub mod Modulus
+pub mod Counts
 pub mod Coverage
 pub mod Search
 pub mod ValidTable
@@ -23,6 +24,7 @@ pub mod NestedItems
 pub mod NestedTables
 pub mod NestedEntries
 pub mod Misplaced
+pub mod ItemLookups
 pub mod FirstFound
 pub mod PlacingSteps
 pub mod PartSteps
@@ -53,3 +55,6 @@ pub mod Through
 pub mod UnitItems
 pub mod NewItems
 pub mod FoundWrites
+pub mod InBytes
+pub mod EachItem
+pub mod EachInTurn

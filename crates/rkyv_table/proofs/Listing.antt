@@ -4,7 +4,7 @@ use Rattle.std.proofs.lemmas.Grind.{common_steps}
 use Rattle.std.specs.Iterator.{Drains, Yields, YieldsFirstBy}
 use Rattle.std.proofs.lemmas.List.{append-nil, length-map}
 use Rattle.rkyv_base.specs.{CauseApplies, Format, Output, SerializeFails, Serialized, end_of, written_as}
-use Rattle.rkyv_base.proofs.WritingSteps.{fails_under, grows, none_appended}
+use Rattle.rkyv_base.specs.Lemmas.Writing.{fails_under, grows, none_appended}
 use Rattle.rkyv_base.specs.declared.errors.WriteError.{WriteError}
 use Rattle.rkyv_table.specs.{HasCapacity, OwnCause, WriteItemsFails, WroteItems, YieldsOtherCount, listed}
 

@@ -1,6 +1,6 @@
 -- The steps of a lookup over the strides, which ends in valid control bytes.
 use Rattle.std.proofs.Common.{rules}
-use Rattle.std.proofs.Common.{◌≡◌, ℕ, suc, ◌+◌, ◌*◌, ◌/◌, ◌%◌, ◌^◌, ◌<◌, ◌≤◌, inl, inr, refl, sym, ap, ◌∙◌, arith, List, [], ◌∷◌, Bool, true, false, not, eqb, ltb, length, get_or, filter, take, drop, get_or-take, get_or-drop, Some, None}
+use Rattle.std.proofs.Common.{◌≡◌, ℕ, suc, ◌+◌, ◌*◌, ◌/◌, ◌%◌, ◌<◌, ◌≤◌, inl, inr, refl, sym, ap, ◌∙◌, arith, List, [], ◌∷◌, Bool, true, false, not, eqb, ltb, length, get_or, filter, take, drop, get_or-take, get_or-drop, Some, None}
 use Rattle.std.proofs.lemmas.Grind.{common_steps}
 use Rattle.std.specs.List.{Contains, find, list_any, position_or_len, range_with_len}
 use Rattle.std.proofs.lemmas.List.FromFn.{get_or-range_with_len, length-range_with_len}
@@ -82,10 +82,6 @@ found_is kind controls cap len h accept n = rw (ne_eqb len 0 n) refl
 
 pub end_is : (kind : Kind) (controls : List ℕ) (cap len h : ℕ) (accept : ℕ → Bool) → (len ≡ 0 → ⊥) → probe_length kind controls cap len h accept ≡ suc (end_index kind controls cap (tag h) accept (strides h cap))
 end_is kind controls cap len h accept n = rw (ne_eqb len 0 n) refl
-
--- the number of strides is below 2^60
-pub few_strides : (h cap : ℕ) → 0 < cap → control_count cap < 2 ^ 64 → length (strides h cap) < 2 ^ 60
-few_strides h cap pos c = let n = count_strides h cap pos in omega arith
 
 -- the bound: at most one stride for sixteen indices
 pub end_within : (kind : Kind) (controls : List ℕ) (cap len h : ℕ) (accept : ℕ → Bool) → (0 < len → AreValidControls cap len controls) → probe_length kind controls cap len h accept ≤ probe_capacity cap / 16

@@ -1,15 +1,16 @@
 -- The steps of counting misplaced items.
 use Rattle.rkyv_base.specs.declared.element.HasSpec.{Ghosts as Specs}
 use Rattle.rkyv_base.specs.declared.width.Word.{Ghosts as Words}
-use Rattle.std.proofs.Common.{◌≡◌, ℕ, suc, ◌+◌, ◌<◌, ◌≤◌, ◌^◌, ◌⊎◌, refl, ap, subst, ◌∙◌, arith, List, ◌∷◌, Bool, true, false, None, length, filter}
+use Rattle.std.proofs.Common.{◌≡◌, ℕ, suc, ◌+◌, refl, ap, subst, ◌∙◌, arith, List, ◌∷◌, Bool, true, false, length, filter}
 use Rattle.std.proofs.lemmas.Grind.{common_steps}
 use Rattle.std.specs.List.{All, sum_by}
 use Rattle.std.proofs.lemmas.List.Elements.{All-head, All-rest}
 use Rattle.std.proofs.lemmas.List.Sums.{sum_by-cons}
 use Rattle.rkyv_base.specs.declared.view.View.{View}
 use Rattle.rkyv_scan.specs.{generic_kind}
-use Rattle.rkyv_table.specs.{ComparesAs, ComparesItems, CountsOwn, HashesAs, IsCutAt, IsItemIn, IsWalked, ReadsWithin, ReturnsMisplaced, bucket_misplaced, bucket_strides, item_pos, table_bytes, table_misplaced, table_pos, table_strides}
+use Rattle.rkyv_table.specs.{ComparesAs, ComparesItems, CountsOwn, HashesAs, IsItemIn, IsWalked, ReturnsMisplaced, bucket_misplaced, bucket_strides, item_pos, table_bytes, table_misplaced, table_pos, table_strides}
 use Rattle.rkyv_table.specs.declared.table.ArchivedHashTable.{ArchivedHashTable}
+use Rattle.rkyv_table.proofs.Counts.{cap_small, counted_lookup}
 
 pub count_taken : (P : ℕ → Bool) (x : ℕ) (xs rest : List ℕ) → xs ≡ x ∷ rest → P x ≡ true → length (filter P xs) ≡ suc (length (filter P rest))
 count_taken P x xs rest e t = ap (λ ys. length (filter P ys)) e ∙ rw t refl
@@ -50,26 +51,15 @@ module _ {T W : Type 0} {ts : Specs T} {wt : Words W} (t : ArchivedHashTable T W
 
 -- the strides that were read and those of the remaining buckets are the strides of all items
 module _ {T W : Type 0} {ts : Specs T} {wt : Words W} (t : ArchivedHashTable T W ts wt) (hashes : View T → ℕ → Type 0) (compares : View T → View T → Bool → Type 0) where
-  abbrev pub Spending : ℕ → ℕ → List ℕ → Type 0
-  Spending before now left = (hash_of : ℕ → ℕ) (same : ℕ → ℕ → Bool) → HashesAs hashes t hash_of → ComparesAs compares t same
-      → before + table_strides generic_kind t hash_of same ≡ now + sum_by (bucket_strides generic_kind t hash_of same) left
+  abbrev pub Spending : ℕ → List ℕ → Type 0
+  Spending read left = (hash_of : ℕ → ℕ) (same : ℕ → ℕ → Bool) → HashesAs hashes t hash_of → ComparesAs compares t same
+      → table_strides generic_kind t hash_of same ≡ read + sum_by (bucket_strides generic_kind t hash_of same) left
 
-  pub spent_one : (before old new bucket : ℕ) (buckets left : List ℕ) → buckets ≡ bucket ∷ left → CountsOwn hashes compares t bucket old new → Spending before old buckets → Spending before new left
-  spent_one before old new bucket buckets left steps counts spent = λ hash_of same hash_as same_as.
+  pub spent_one : (read start own bucket : ℕ) (buckets left : List ℕ) → buckets ≡ bucket ∷ left → start ≡ 0 → CountsOwn hashes compares t bucket start own → Spending read buckets → Spending (read + own) left
+  spent_one read start own bucket buckets left steps none counts spent = λ hash_of same hash_as same_as.
       let f : ℕ → ℕ = bucket_strides generic_kind t hash_of same in
-      let now = counts.counted hash_of same hash_as same_as in
+      let here = subst (λ n. CountsOwn hashes compares t bucket n own) none counts in
+      let now = counted_lookup _ _ (f bucket) own (cap_small t) here.bounded (here.counted hash_of same hash_as same_as) in
       let all = spent hash_of same hash_as same_as in
       let first : sum_by f buckets ≡ f bucket + sum_by f left = ap (sum_by f) steps ∙ sum_by-cons f bucket left in
       omega (arith, now, all, first)
-
--- a lookup reads none or more strides
-pub reads_on : (len bound before after : ℕ) → ReadsWithin len bound before after → before ≤ after
-reads_on len bound before after reads = grind (arith, common_steps)
-
--- where the strides that were read are past a limit, those of all items are
-pub past_all : (before now limit all rest : ℕ) → before + all ≡ now + rest → (before + limit < now) ⊎ (2 ^ 63 < now) → (limit < all) ⊎ (2 ^ 63 < before + all)
-past_all before now limit all rest e h = grind (arith, common_steps)
-
-pub past_cut : {len limit bound start old before now : ℕ} → start ≡ old → ReadsWithin len bound before now → (start ≤ before) × (before ≤ start + limit) × (before ≤ 2 ^ 63) → (start + limit < now) ⊎ (2 ^ 63 < now)
-    → IsCutAt limit bound old now None
-past_cut {limit = limit} {now = now} e reads within past = grind (arith, common_steps, reads_on)

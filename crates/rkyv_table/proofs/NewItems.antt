@@ -9,7 +9,8 @@ use Rattle.rkyv_table.specs.{IsWalked, IsWrittenOf, KeepsTable, hashes_of, home_
 use Rattle.rkyv_table.proofs.Lists.{set_each}
 use Rattle.rkyv_table.proofs.ValidTable.{item_viewable}
 use Rattle.rkyv_table.proofs.SealedTable.{item_stays, table_kept, written_kept}
-use Rattle.rkyv_table.proofs.WrittenTables.{home_count, home_pos, home_walked, homes_differ}
+use Rattle.rkyv_table.specs.Lemmas.Homes.{home_count, home_pos}
+use Rattle.rkyv_table.proofs.WrittenTables.{home_walked, homes_differ}
 
 -- the hashes are those of the list before, and the items are those with the new one
 pub same_hashes : {X : Type 0} (pairs : List (ℕ × X)) (n hash : ℕ) (old new : X) → slice_get pairs n ≡ Some (hash, old) → hashes_of (slice_set pairs n (hash, new)) ≡ hashes_of pairs

@@ -6,7 +6,7 @@ use Rattle.std.proofs.lemmas.List.{take-append-drop, take_more}
 use Rattle.std.proofs.lemmas.Option.{slice_get-get_or}
 use Rattle.rkyv_base.specs.declared.errors.WriteError.{WriteError}
 use Rattle.rkyv_base.specs.{Appends, Format, Output, Within, WriteFails, end_of}
-use Rattle.rkyv_base.proofs.WritingSteps.{end-appends, fails_after}
+use Rattle.rkyv_base.specs.Lemmas.Writing.{end-appends, fails_after}
 use Rattle.rkyv_table.specs.{PartsNext, SlotParts, filled}
 
 zero_plus : (n : ℕ) → 0 + n ≡ n

@@ -5,7 +5,7 @@ use Rattle.std.specs.Prelude.{◌≡◌, ℕ, ◌^◌, ◌<◌, List, length}
 use Rattle.std.specs.Int.{Width}
 use mir.Val.{bits}
 use Rattle.rkyv_base.specs.declared.errors.WriteError.{WriteError}
-use Rattle.rkyv_base.proofs.WritingSteps.{fails_under}
+use Rattle.rkyv_base.specs.Lemmas.Writing.{fails_under}
 use Rattle.rkyv_base.specs.{ElementSpec, Format, IsLayout, Output, end_of}
 use Rattle.rkyv_table.specs.{ArePlaced, HasCapacity, InBuckets, OwnCause, PairsNext, PlacingFails, TableNext, WriteItemsFails, WriteNonemptyFails, WroteItems, WroteNonempty, capacity, table_format}
 

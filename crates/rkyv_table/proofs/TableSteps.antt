@@ -4,7 +4,7 @@ use Rattle.std.proofs.lemmas.Grind.{common_steps}
 use Rattle.std.proofs.lemmas.List.{length-replicate}
 use Rattle.rkyv_base.specs.declared.errors.WriteError.{WriteError}
 use Rattle.rkyv_base.specs.{Appended, Appends, ElementSpec, Format, Only, Output, Step, Within, WriteFails, end_of, padding, piece, zeros}
-use Rattle.rkyv_base.proofs.WritingSteps.{appends_after, end-appends, fails_after, fails_under}
+use Rattle.rkyv_base.specs.Lemmas.Writing.{appends_after, end-appends, fails_after, fails_under}
 use Rattle.rkyv_table.specs.Lemmas.Buckets.{images_length}
 use Rattle.rkyv_table.specs.{BucketNext, PartsNext, SlotParts, TableBytes, TableNext, WroteBuckets}
 

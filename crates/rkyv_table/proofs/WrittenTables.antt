@@ -1,27 +1,18 @@
 -- A table that represents items was written from them.
 use Rattle.std.proofs.Common.{◌≡◌, ◌≢◌, ℕ, ◌^◌, ◌<◌, ap, refl, sym, subst, ◌∙◌, arith, inl, inr, List, [], ◌∷◌, length, slice_get, slice_index, Some, pos}
-use Rattle.std.proofs.lemmas.Grind.{common_steps}
 use Rattle.std.specs.Int.{Width}
 use Rattle.std.proofs.lemmas.Bool.{cases_lt}
-use Rattle.std.proofs.lemmas.List.{get_or-map, length-map}
+use Rattle.std.proofs.lemmas.List.{length-map}
 use Rattle.std.proofs.lemmas.Option.{slice_get_within}
 use Rattle.rkyv_base.specs.{ElementSpec}
-use Rattle.rkyv_table.specs.{BucketsRepresent, IsWalked, IsWrittenOf, RepresentedWereWritten, TableRepresents, WrittenAt, bucket_at, cap_at, capacity, decode_begin, hashes_of, home_positions, item_at, items_of, table_controls}
+use Rattle.rkyv_table.specs.{BucketsRepresent, IsWalked, IsWrittenOf, RepresentedWereWritten, TableRepresents, WrittenAt, bucket_at, cap_at, capacity, decode_begin, hashes_of, home_positions, items_of, table_controls}
+pub use Rattle.rkyv_table.specs.Lemmas.Homes.{home_count, home_pos}
 use Rattle.rkyv_table.specs.Lemmas.ItemPositions.{decoded_controls, decoded_item}
 use Rattle.rkyv_table.specs.Lemmas.TableSound.{capacity_above}
 use Rattle.rkyv_table.proofs.WrittenAccepted.{homes_apart}
 use Rattle.rkyv_table.proofs.WrittenStep.{home_below}
 
--- the position of the item with the number `i`
-pub home_pos : (w : Width) (size : ℕ) (b : List ℕ) (p : ℕ) (homes : List ℕ) (i : ℕ) → i < length homes
-    → slice_index (home_positions w size b p homes) i ≡ item_at w size b p (slice_index homes i)
-home_pos w size b p homes i h = get_or-map (item_at w size b p) homes i 0 0 h
-
 module _ (w : Width) (b : List ℕ) (p : ℕ) (hashes homes : List ℕ) (written : WrittenAt w b p hashes homes) where
-  -- there are as many home buckets as hashes
-  pub home_count : length homes ≡ length hashes
-  home_count = grind (arith, common_steps)
-
   -- no two items have one home bucket
   pub homes_differ : (i j : ℕ) → i < length homes → j < length homes → i ≢ j → slice_index homes i ≢ slice_index homes j
   homes_differ i j inside below ne e = elim written.placed [
@@ -37,7 +28,7 @@ module _ (w : Width) (b : List ℕ) (p : ℕ) (hashes homes : List ℕ) (written
   home_walked i below = elim written.placed [
     | inl none ↦ absurd (omega (arith, below, ap length none.1))
     | inr some ↦
-        let n : i < length hashes = omega (arith, below, home_count) in
+        let n : i < length hashes = omega (arith, below, home_count w b p hashes homes written) in
         let tag = some.1.tags i n in
         let small : slice_index hashes i < 2 ^ 64 = written.fit i 0 n in
         (home_below (cap_at w b p) hashes homes (table_controls w b p) i (omega (arith, some.0)) some.1 n, omega (arith, tag, small))

@@ -2,6 +2,7 @@
 pub mod Numbers
 pub mod Capacity
 pub mod Probe
+pub mod Reciprocals
 pub mod ControlBytes
 pub mod Placing
 pub mod Finding

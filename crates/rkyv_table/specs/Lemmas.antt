@@ -10,3 +10,4 @@ pub mod HeaderReads
 pub mod TableSound
 pub mod Buckets
 pub mod Listed
+pub mod Homes

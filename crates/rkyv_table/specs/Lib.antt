@@ -7,13 +7,14 @@ unfoldable pub use Controls.Numbers.{start, tag}
 unfoldable pub use Controls.Capacity.{IsCapacity, capacity_write_error}
 unfoldable pub use Controls.Probe.{buckets_at, probe_index, probed, strides, strides_from}
 pub use Controls.Probe.{IsProbe}
+unfoldable pub use Controls.Reciprocals.{divisor_of}
 unfoldable pub use Controls.ControlBytes.{HasRoom, IsFullBucket, empty_index, fresh_controls}
 unfoldable pub use Controls.ControlBytes.{is_empty_at, with_control}
 unfoldable pub use Controls.Placing.{bucket_control, homes, is_free, walk, with_home}
 unfoldable pub use Controls.Placing.{written_controls}
 pub use Controls.Placing.{AreHomes, AreValidControls, AreWrittenControls, IsWrapped}
-unfoldable pub use Controls.Finding.{ComparesByBucket, candidates, ends_at, found, lookup, marked}
-unfoldable pub use Controls.Finding.{probe_length, stride_has_empty}
+unfoldable pub use Controls.Finding.{ComparesByBucket, candidates, count_after, ends_at, found}
+unfoldable pub use Controls.Finding.{lookup, marked, probe_length, stride_has_empty}
 pub use Controls.Finding.{FindsBucket, Lookup, ReadsWithin}
 unfoldable pub use Controls.StrideOutcome.{IsAcceptedBy, IsFullIfAccepted, IsFullInStride, IsMarked}
 unfoldable pub use Controls.StrideOutcome.{IsStrideOutcome, SeesFirst}
@@ -40,8 +41,9 @@ unfoldable pub use Table.Positions.{pos_found, probe_length_at, table_controls}
 pub use Table.Positions.{WrittenAt}
 unfoldable pub use Table.Reading.{CanCompare, ComparesBy, CountsEnd, CountsWithin, FindsFirst}
 unfoldable pub use Table.Reading.{FindsFound, IsAcceptedAt, IsFullIn, IsItem, IsItemPos, item_pos}
-unfoldable pub use Table.Reading.{table_bytes, table_pos}
+unfoldable pub use Table.Reading.{table_archive, table_bytes, table_header, table_pos, table_view}
 pub use Table.Reading.{CountsStrides, FindsItem, FindsItemPos, IsItemIn}
+unfoldable pub use Table.Decoded.{decoded_cap, decoded_controls_pos, decoded_divisor, decoded_len}
 pub use Table.Decoded.{IsDecoded}
 unfoldable pub use Table.Slots.{Above, BeforeBuckets, BucketNext, BucketOverflows, BucketStep}
 unfoldable pub use Table.Slots.{Filled, FillsBucket, PartsNext, SlotImages, SlotParts, TableNext}
@@ -63,6 +65,7 @@ unfoldable pub use Table.Serializing.{WroteItems, WroteNonempty, YieldsExactly, 
 unfoldable pub use Table.Serializing.{table_input}
 pub use Table.Serializing.{BucketInput, InputPlaced, TableInput}
 unfoldable pub use Table.Listed.{ListFails, listed, written_as_each}
+unfoldable pub use Table.ListInputs.{items_left, pairs_left}
 unfoldable pub use Table.ItemValues.{UnitStep, key_values, pair_values, with_units}
 unfoldable pub use Table.IterWriting.{WritesInFormat, keys_in, pairs_in}
 pub use Table.IterWriting.{ItemsToWrite}
@@ -76,6 +79,9 @@ unfoldable pub use Table.WalkLaws.{WalkVisitsHomes}
 pub use Table.WalkLaws.{VisitsHomes}
 unfoldable pub use Table.SealedTable.{KeptByValueWrites, KeptByWrites, RestsOnKey}
 pub use Table.SealedTable.{KeepsTable, SameLookups, SameValue, WritesValue}
+unfoldable pub use Table.EachItem.{Computes, KeepsSeals, MaySealAny, OnceComputes, WritesEachOnce}
+unfoldable pub use Table.EachItem.{WritesInTurn}
+pub use Table.EachItem.{KeepsItems, KeepsSeal, WritesOnce, WritesValues}
 unfoldable pub use Table.NestedWrites.{RestsOnParts}
 pub use Table.NestedWrites.{IsValidBefore, KeepsArchive, StaysAt, WritesAmongParts}
 unfoldable pub use Table.SealedLookup.{AcceptedAt, CanCompareAt, ComparesByAt, IsReadAt}
@@ -86,6 +92,9 @@ unfoldable pub use Table.Misplaced.{NoneAccepted, NoneMisplacedIsComplete, Repea
 unfoldable pub use Table.Misplaced.{all_strides, is_found_at, is_misplaced, misplaced, own_strides}
 unfoldable pub use Table.Misplaced.{repeated, repeats_earlier}
 pub use Table.Misplaced.{AcceptsSame, AloneAccepted, IsSameness}
+unfoldable pub use Table.ItemLookups.{FindsOnlyItem, HasItemAt, HasSameControls, IsOnlyAccepted}
+unfoldable pub use Table.ItemLookups.{WalkVisits, full_buckets, item_found, item_strides}
+unfoldable pub use Table.ItemLookups.{misplaced_items}
 unfoldable pub use Table.WrittenTables.{ItemsWrittenRepresent, RepresentedWereWritten}
 pub use Table.WrittenTables.{IsWrittenOf}
 unfoldable pub use Table.FirstItem.{AgreesAt, AreUnder, IsFirstOf, LookupFindsFirst, first_of}
@@ -97,8 +106,8 @@ unfoldable pub use Table.Bare.{table_in}
 pub use Table.Bare.{IsItemOf, LendsFound, LooksUp, TableIn}
 unfoldable pub use Table.SealedItems.{CountsDown, FindsFirstLeft, IsItemOfTable, KeepsCursor}
 unfoldable pub use Table.SealedItems.{LendsFirst, MaySeal, MaySealIn, MaySealNext, MayWriteAt}
-unfoldable pub use Table.SealedItems.{MayWriteNext, WrittenBy, YieldsPosition, cursor_buckets_left}
-unfoldable pub use Table.SealedItems.{cursor_bytes, cursor_len}
+unfoldable pub use Table.SealedItems.{MayWriteNext, WrittenBy, YieldsPosition, cursor_archive}
+unfoldable pub use Table.SealedItems.{cursor_buckets_left, cursor_bytes, cursor_len}
 pub use Table.SealedItems.{IsItemAt, IsSealIter, LendsArchive, SameArchive, SealedBy, StaysThere}
 pub use Table.SealedItems.{StepsAndWrites, YieldsBucket}
 unfoldable pub use Table.FoundWrites.{MayWriteIn, WritesIn}
@@ -107,3 +116,4 @@ unfoldable pub use Table.MisplacedIn.{CountsUpTo, HashesAs, MayCompare, ReadsUpT
 unfoldable pub use Table.MisplacedIn.{apply_to_table, bucket_misplaced, bucket_strides, table_len}
 unfoldable pub use Table.MisplacedIn.{table_misplaced, table_strides}
 pub use Table.MisplacedIn.{CountsOwn, IsCutAt}
+pub use Table.InBytes.{LooksUpInBytes}

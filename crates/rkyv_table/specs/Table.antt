@@ -12,6 +12,7 @@ pub mod Input
 pub mod TableFormat
 pub mod Serializing
 pub mod Listed
+pub mod ListInputs
 pub mod ItemValues
 pub mod IterWriting
 pub mod RawItems
@@ -19,10 +20,12 @@ pub mod Hints
 pub mod PairWalks
 pub mod WalkLaws
 pub mod SealedTable
+pub mod EachItem
 pub mod NestedWrites
 pub mod SealedLookup
 pub mod PairSeals
 pub mod Misplaced
+pub mod ItemLookups
 pub mod WrittenTables
 pub mod FirstItem
 pub mod Passing
@@ -31,3 +34,4 @@ pub mod Bare
 pub mod SealedItems
 pub mod FoundWrites
 pub mod MisplacedIn
+pub mod InBytes

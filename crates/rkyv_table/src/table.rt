@@ -10,7 +10,7 @@
 //! `docs/FORMAT.md` has the layout of a table.
 ghost use Rattle.std.specs.Prelude.{◌≡◌, ⊤};
 ghost use Rattle.rkyv_base.specs.Lemmas.ElementSpec.{viewable_prop};
-ghost use Rattle.rkyv_base.specs.{IsValidView};
+ghost use Rattle.rkyv_base.specs.{IsValidView, bytes_of, pos_of};
 ghost use Rattle.rkyv_table.specs.Table.Decoded.{IsDecoded};
 ghost use Rattle.rkyv_table.specs.Table.Layout.{table_spec};
 ghost use Rattle.rkyv_table.specs.Lemmas.TableLaws.{table_element};
@@ -57,8 +57,8 @@ pub struct ArchivedHashTable<'a, T: HasSpec, W: Word = Narrow> {
     header: Decoded,
     ghost valid: { IsValidView (table_spec W.word T.spec) view } by { viewable_prop (table_spec
         W.word T.spec)
-        (table_element W.word W.kind T.spec T.laws) view.archive.now view.pos },
-    ghost decoded: { IsDecoded W.word view.archive.now view.pos header },
+        (table_element W.word W.kind T.spec T.laws) (bytes_of view) (pos_of view) },
+    ghost decoded: { IsDecoded W.word (bytes_of view) (pos_of view) header },
 }
 
 impl<'a, T: HasSpec, W: Word> Clone for ArchivedHashTable<'a, T, W> {

@@ -1,6 +1,6 @@
 -- The result of a lookup.
-use Rattle.std.specs.Prelude.{◌≡◌, ℕ, suc, ◌+◌, ◌*◌, ◌-◌, ◌/◌, ◌%◌, ◌<◌, ◌≤◌, List, Bool, ◌||◌}
-use Rattle.std.specs.Prelude.{take, drop, Option, None, map, filter, cond, ◌==◌, IfSome, true}
+use Rattle.std.specs.Prelude.{◌≡◌, ℕ, suc, ◌+◌, ◌*◌, ◌-◌, ◌/◌, ◌%◌, ◌^◌, ◌<◌, ◌≤◌, List, Bool, ◌||◌}
+use Rattle.std.specs.Prelude.{take, drop, Option, None, map, min, filter, cond, ◌==◌, IfSome, true}
 use Rattle.std.specs.List.{find, list_any, position_or_len, range_with_len}
 use Rattle.std.specs.Option.{option_and_then}
 use Rattle.rkyv_scan.specs.{Kind}
@@ -46,11 +46,15 @@ found kind controls cap len hash accept =
 abbrev pub ComparesByBucket : (ℕ → Bool → Type 0) → (ℕ → Type 0) → (ℕ → Bool) → Type 0
 ComparesByBucket post callable accept = (b : ℕ) (r : Bool) → callable b → post b r → r ≡ accept b
 
+-- the count after `n` strides are added to `before`: their sum, and at most 2^64 - 1
+abbrev pub count_after : ℕ → ℕ → ℕ
+count_after before n = before + min n (2 ^ 64 - 1 - before)
+
 -- the number of strides that a lookup reads: none if `len` is 0, else at least one and at most
 -- `bound`
 pub record ReadsWithin (len bound before after : ℕ) : Type 0 where
   pub none : len ≡ 0 → after ≡ before
-  pub some : 0 < len → before < after
+  pub some : 0 < len → count_after before 1 ≤ after
   pub most : after ≤ before + bound
 
 -- a lookup in control bytes. `kind`: kind of group, `controls`: control bytes of `len` items
@@ -83,4 +87,4 @@ pub record FindsBucket (l : Lookup) (post : ℕ → Bool → Type 0) (before aft
   pub finds : (accept : ℕ → Bool) → ComparesByBucket post (IsFullBucket l.cap l.controls) accept
       → result ≡ found l.kind l.controls l.cap l.len l.hash accept
   pub counted : (accept : ℕ → Bool) → ComparesByBucket post (IsFullBucket l.cap l.controls) accept
-      → after ≡ before + probe_length l.kind l.controls l.cap l.len l.hash accept
+      → after ≡ count_after before (probe_length l.kind l.controls l.cap l.len l.hash accept)

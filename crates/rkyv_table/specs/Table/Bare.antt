@@ -2,7 +2,7 @@
 use Rattle.std.specs.Prelude.{◌≡◌, ℕ, Bool, true, List, Option, None, Some, IfSome, MatchOption}
 use Rattle.std.specs.Int.{Width}
 use Rattle.std.specs.List.{find}
-use Rattle.rkyv_base.specs.{ElementSpec, Viewable}
+use Rattle.rkyv_base.specs.{ElementSpec, Viewable, bytes_of, pos_of}
 use Rattle.rkyv_base.specs.declared.element.HasSpec.{Ghosts as Specs}
 use Rattle.rkyv_base.specs.declared.view.View.{View}
 use Rattle.rkyv_base.specs.declared.width.Word.{Ghosts as Words}
@@ -28,11 +28,11 @@ table_in w t bytes pos = record { word = w.word; spec = t.spec; bytes = bytes; p
 -- `v`: view of an item of the table whose header is at `p` in `b`
 pub record IsItemOf {T : Type 0} (w : Width) (s : ElementSpec) (b : List ℕ) (p : ℕ)
     (v : View T) : Type 0 where
-  pub archive : v.archive.now ≡ b
+  pub archive : bytes_of v ≡ b
   pub bucket : ℕ
   pub walked : IsWalked w b p bucket
-  pub pos : v.pos ≡ item_at w s.size b p bucket
-  pub viewable : Viewable s b v.pos
+  pub pos : pos_of v ≡ item_at w s.size b p bucket
+  pub viewable : Viewable s b (pos_of v)
 
 -- the comparison can be called with each item
 abbrev pub CanCompareOf : {T : Type 0} → (View T → Type 0) → Width → ElementSpec → List ℕ → ℕ
@@ -43,12 +43,12 @@ CanCompareOf {T} pre w s b p = (v : View T) → IsItemOf w s b p v → pre v
 abbrev pub ComparesByOf : {T : Type 0} → (View T → Bool → Type 0) → Width → ElementSpec → List ℕ → ℕ
     → (ℕ → Bool) → Type 0
 ComparesByOf {T} post w s b p accept =
-    (v : View T) (r : Bool) → IsItemOf w s b p v → post v r → r ≡ accept v.pos
+    (v : View T) (r : Bool) → IsItemOf w s b p v → post v r → r ≡ accept (pos_of v)
 
 -- `q`: position of an item for which the comparison returned `true`
 abbrev pub AcceptedOf : {T : Type 0} → (View T → Bool → Type 0) → Width → ElementSpec → List ℕ → ℕ
     → ℕ → Type 0
-AcceptedOf {T} post w s b p q = (v : View T) × IsItemOf w s b p v × (v.pos ≡ q) × post v true
+AcceptedOf {T} post w s b p q = (v : View T) × IsItemOf w s b p v × (pos_of v ≡ q) × post v true
 
 -- `found`: position of the item that a lookup under `hash` finds. The comparison returned `true`
 -- for it. If the comparison depends only on positions, the control bytes decide which one it is.

@@ -1,9 +1,11 @@
 -- The number of items of a table that a lookup of their own doesn't find.
 use Rattle.rkyv_base.specs.declared.element.HasSpec.{Ghosts as Specs}
 use Rattle.rkyv_base.specs.declared.width.Word.{Ghosts as Words}
-use Rattle.std.specs.Prelude.{◌≡◌, ℕ, ◌+◌, ◌/◌, ◌<◌, ◌≤◌, ◌^◌, ◌⊎◌, Bool, List, MatchOption, Option}
+use Rattle.std.specs.Prelude.{◌≡◌, ℕ, ◌+◌, ◌/◌, ◌<◌, ◌≤◌, Bool, List, MatchOption, Option}
 use Rattle.rkyv_base.specs.declared.view.View.{View}
+use Rattle.rkyv_base.specs.{pos_of}
 use Rattle.rkyv_scan.specs.{Kind, generic_kind}
+use Rattle.rkyv_table.specs.Controls.Finding.{count_after}
 use Rattle.rkyv_table.specs.Controls.Numbers.{probe_capacity}
 use Rattle.rkyv_table.specs.Table.Header.{cap_at, len_at}
 use Rattle.rkyv_table.specs.Table.Misplaced.{all_strides, is_misplaced, misplaced, own_strides}
@@ -12,12 +14,13 @@ use Rattle.rkyv_table.specs.Table.Positions.{table_controls}
 use Rattle.rkyv_table.specs.Table.Reading.{table_pos}
 use Rattle.rkyv_table.specs.declared.table.ArchivedHashTable.{ArchivedHashTable}
 
--- A count of strides that is cut at `limit`. `bound`: most strides of one lookup
+-- `read`: number of strides that lookups read until their number is above `limit`. `bound`: most
+-- strides of one lookup
 pub record IsCutAt (limit bound before after : ℕ) (result : Option ℕ) : Type 0 where
-  pub grows : before ≤ after
-  pub bounded : after ≤ before + limit + bound
-  pub cut : MatchOption result ((before + limit < after) ⊎ (2 ^ 63 < after))
-      (λ n. (after ≤ before + limit) × (after ≤ 2 ^ 63))
+  pub read : ℕ
+  pub counted : after ≡ count_after before read
+  pub bounded : read ≤ limit + bound
+  pub cut : MatchOption result (limit < read) (λ n. read ≤ limit)
 
 module _ {T W : Type 0} {ts : Specs T} {wt : Words W} where
   -- the number of items
@@ -30,13 +33,13 @@ module _ {T W : Type 0} {ts : Specs T} {wt : Words W} where
 
   -- the hash of each item is `hash_of` of its position
   abbrev pub HashesAs : (View T → ℕ → Type 0) → ArchivedHashTable T W ts wt → (ℕ → ℕ) → Type 0
-  HashesAs post t hash_of = (x : View T) (h : ℕ) → IsItem t x → post x h → h ≡ hash_of x.pos
+  HashesAs post t hash_of = (x : View T) (h : ℕ) → IsItem t x → post x h → h ≡ hash_of (pos_of x)
 
   -- the comparison of any two items is `same` of their positions
   abbrev pub ComparesAs : (View T → View T → Bool → Type 0) → ArchivedHashTable T W ts wt
       → (ℕ → ℕ → Bool) → Type 0
   ComparesAs post t same = (x y : View T) (r : Bool) → IsItem t x → IsItem t y → post x y r
-      → r ≡ same x.pos y.pos
+      → r ≡ same (pos_of x) (pos_of y)
 
   -- a function of the control bytes, the capacity and the length of a table, and of the hashes
   -- and the relation of items by bucket. `hash_of` and `same` are by positions of items
@@ -84,7 +87,7 @@ module _ {T W : Type 0} {ts : Specs T} {wt : Words W} where
     pub bounded : CountsWithin t before after
     pub counted : (hash_of : ℕ → ℕ) (same : ℕ → ℕ → Bool) → HashesAs hashes t hash_of
         → ComparesAs compares t same
-        → after ≡ before + bucket_strides generic_kind t hash_of same bucket
+        → after ≡ count_after before (bucket_strides generic_kind t hash_of same bucket)
 
   -- `result`: number of misplaced items, if both functions depend only on positions of items
   abbrev pub CountsMisplaced : (View T → ℕ → Type 0) → (View T → View T → Bool → Type 0) → Kind
@@ -94,16 +97,14 @@ module _ {T W : Type 0} {ts : Specs T} {wt : Words W} where
       → ComparesAs compares t same → result ≡ table_misplaced kind t hash_of same
 
   -- `result`: number of misplaced items, or `None` if the lookups of all items read more
-  -- than `limit` strides, or more than 2^63 with those that were counted before
+  -- than `limit` strides
   abbrev pub CountsUpTo : (View T → ℕ → Type 0) → (View T → View T → Bool → Type 0)
-      → ArchivedHashTable T W ts wt → ℕ → ℕ → Option ℕ → Type 0
-  CountsUpTo hashes compares t limit before result =
+      → ArchivedHashTable T W ts wt → ℕ → Option ℕ → Type 0
+  CountsUpTo hashes compares t limit result =
       (hash_of : ℕ → ℕ) (same : ℕ → ℕ → Bool) → HashesAs hashes t hash_of
       → ComparesAs compares t same
-      → MatchOption result ((limit < table_strides generic_kind t hash_of same)
-      ⊎ (2 ^ 63 < before + table_strides generic_kind t hash_of same))
+      → MatchOption result (limit < table_strides generic_kind t hash_of same)
       (λ n. (table_strides generic_kind t hash_of same ≤ limit)
-      × (before + table_strides generic_kind t hash_of same ≤ 2 ^ 63)
       × (n ≡ table_misplaced generic_kind t hash_of same))
 
   -- the strides of the lookups of all items are counted, or a part of them if `result` is `None`
@@ -112,12 +113,12 @@ module _ {T W : Type 0} {ts : Specs T} {wt : Words W} where
   CountsAllStrides hashes compares t before after result =
       (hash_of : ℕ → ℕ) (same : ℕ → ℕ → Bool) → HashesAs hashes t hash_of
       → ComparesAs compares t same
-      → MatchOption result (after ≤ before + table_strides generic_kind t hash_of same)
-      (λ n. after ≡ before + table_strides generic_kind t hash_of same)
+      → MatchOption result
+      (after ≤ count_after before (table_strides generic_kind t hash_of same))
+      (λ n. after ≡ count_after before (table_strides generic_kind t hash_of same))
 
-  -- For any two functions: no count is lost, at most `limit` strides are counted and those of one
-  -- more lookup, and `result` is `None` if and only if more than `limit` are, or 2^63 in all.
-  -- `before`, `after`: counts of strides
+  -- For any two functions: at most `limit` strides are counted and those of one more lookup, and
+  -- `result` is `None` if and only if more than `limit` are. `before`, `after`: counts of strides
   abbrev pub ReadsUpTo : ArchivedHashTable T W ts wt → ℕ → ℕ → ℕ → Option ℕ → Type 0
   ReadsUpTo t limit before after result =
       IsCutAt limit (probe_capacity (cap_at wt.word (table_bytes t) (table_pos t)) / 16) before

@@ -1,7 +1,7 @@
 -- The steps of a walk over the pairs of a map or an index map, by the positions
 -- of the remaining keys.
 use Rattle.std.specs.Prelude.{◌≡◌, ℕ, ◌+◌, [], ◌∷◌, Option, MatchOption}
-use Rattle.rkyv_base.specs.{ElementSpec, IsAt, IsValidView, value_offset}
+use Rattle.rkyv_base.specs.{ElementSpec, IsAt, IsValidView, pos_of, value_offset}
 use Rattle.rkyv_base.specs.declared.view.View.{View}
 use Rattle.rkyv_table.specs.Table.RawItems.{ItemsLeft}
 
@@ -26,14 +26,14 @@ abbrev pub YieldsPair : {K V : Type 0} → ElementSpec → ElementSpec → Items
     → Option (View K × View V)
     → ItemsLeft → Type 0
 YieldsPair {K} {V} k v before result after = MatchOption result (IsAtEnd before after)
-    (λ (pair : View K × View V). YieldsFirstPos before pair.0.pos after
-    × ViewsAt k before pair.0.pos pair.0
-    × ViewsAt v before (pair.0.pos + value_offset k v) pair.1)
+    (λ (pair : View K × View V). YieldsFirstPos before (pos_of pair.0) after
+    × ViewsAt k before (pos_of pair.0) pair.0
+    × ViewsAt v before (pos_of pair.0 + value_offset k v) pair.1)
 
 -- the step returns the first remaining key
 abbrev pub YieldsKey : {K : Type 0} → ElementSpec → ItemsLeft → Option (View K) → ItemsLeft → Type 0
 YieldsKey {K} k before result after = MatchOption result (IsAtEnd before after)
-    (λ (key : View K). YieldsFirstPos before key.pos after × ViewsAt k before key.pos key)
+    (λ (key : View K). YieldsFirstPos before (pos_of key) after × ViewsAt k before (pos_of key) key)
 
 -- the step returns the value of the first remaining key
 abbrev pub YieldsValue : {V : Type 0} → ElementSpec → ElementSpec → ItemsLeft → Option (View V)

@@ -2,7 +2,8 @@
 use Rattle.std.specs.Prelude.{◌≡◌, ℕ, ◌+◌, ◌<◌, [], ◌∷◌, ◌≤◌, List, Option, length, MatchOption}
 use Rattle.std.specs.Borrow.{MutBor}
 use Rattle.std.specs.Int.{Width}
-use Rattle.rkyv_base.specs.{ElementSpec, LiesIn, Viewable, bytes_in, seal_pos}
+use Rattle.rkyv_base.specs.{ElementSpec, LiesIn, Viewable, archive_in, archive_ref, bytes_in}
+use Rattle.rkyv_base.specs.{bytes_ref, seal_pos}
 use Rattle.rkyv_base.specs.declared.seal.Seal.{Seal}
 use Rattle.rkyv_table.specs.Table.Header.{cap_at, controls_pos}
 use Rattle.rkyv_table.specs.Table.Positions.{IsWalked, item_at, table_controls}
@@ -12,6 +13,10 @@ use Rattle.rkyv_table.specs.Table.Layout.{table_spec}
 use Rattle.rkyv_table.specs.Controls.Walking.{full_from}
 use Rattle.rkyv_table.specs.declared.table.raw_iter_seal.NextItem.{NextItem}
 use Rattle.rkyv_table.specs.declared.table.raw_iter_seal.RawIterSeal.{RawIterSeal}
+
+-- the borrowed archive of a cursor
+abbrev pub cursor_archive : {T : Type 0} → RawIterSeal T → MutBor (List ℕ)
+cursor_archive r = r.archive
 
 -- the bytes of the archive of a cursor
 abbrev pub cursor_bytes : {T : Type 0} → RawIterSeal T → List ℕ
@@ -88,8 +93,8 @@ FindsFirstLeft s r result =
 
 -- the cursor has the reference and the bytes of the seal `a`
 pub record LendsArchive {T U : Type 0} (a : ArchiveSeal U) (r : RawIterSeal T) : Type 0 where
-  pub reference : r.archive.ghost_name ≡ a.archive.ghost_name
-  pub bytes : r.archive.now ≡ a.archive.now
+  pub reference : r.archive.ghost_name ≡ (archive_ref a).ghost_name
+  pub bytes : r.archive.now ≡ archive_in a
 
 -- the cursor is at the same bucket, over the same reference, with any bytes
 pub record StaysThere {T : Type 0} (before after : RawIterSeal T) : Type 0 where
@@ -153,7 +158,8 @@ pub record SealedBy {F R T : Type 0} (post : F → MutBor (Seal T) → R → Mut
   pub bytes : bytes_in given.now ≡ b
   pub pos : seal_pos given.now ≡ q
   pub met : post write given r left
-  pub leaves : left.now.bytes.ghost_name ≡ given.now.bytes.ghost_name → bytes_in left.now ≡ c
+  pub leaves : (bytes_ref left.now).ghost_name ≡ (bytes_ref given.now).ghost_name
+      → bytes_in left.now ≡ c
 
 -- `write` can be called with a seal of each item that fits in the archive. It may rely on
 -- a valid item there, if the cursor is over a valid table

@@ -5,7 +5,8 @@ use Rattle.std.specs.Prelude.{◌≡◌, ℕ, Bool, List, Option}
 use Rattle.std.specs.Int.{Width}
 use Rattle.std.specs.List.{find}
 use Rattle.std.specs.Option.{option_map}
-use Rattle.rkyv_base.specs.{ElementSpec, SealAt, Viewable, archive_in, pos_in, seal_pos}
+use Rattle.rkyv_base.specs.{ElementSpec, SealAt, Viewable, archive_in, archive_ref, pos_in}
+use Rattle.rkyv_base.specs.{seal_pos}
 use Rattle.rkyv_base.specs.declared.seal.ArchiveSeal.{ArchiveSeal}
 use Rattle.rkyv_base.specs.declared.seal.Seal.{Seal}
 use Rattle.rkyv_base.specs.declared.view.View.{View}
@@ -46,7 +47,7 @@ pub record IsItemSeal {T W : Type 0} (w : Width) (s : ElementSpec) (a : ArchiveS
     (x : Seal T) : Type 0 where
   pub bucket : ℕ
   pub walked : IsWalked w (archive_in a) (pos_in a) bucket
-  pub at : SealAt x a.archive (item_at w s.size (archive_in a) (pos_in a) bucket)
+  pub at : SealAt x (archive_ref a) (item_at w s.size (archive_in a) (pos_in a) bucket)
   pub viewable : Viewable s (archive_in a) (seal_pos x)
   pub kept : KeptByWrites w s (archive_in a) (pos_in a) bucket
 

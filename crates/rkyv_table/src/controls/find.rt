@@ -7,14 +7,14 @@ ghost use Rattle.std.specs.Prelude.{ℕ, ◌%◌, ◌*◌, ◌+◌, ◌<◌, ◌
 ghost use Rattle.std.specs.List.{find};
 ghost use Rattle.rkyv_table.specs.{AreValidControls, ComparesByBucket, FindsBucket, IsAcceptedBy};
 ghost use Rattle.rkyv_table.specs.{IsFullBucket, IsFullIfAccepted, IsFullInStride, IsMarked};
-ghost use Rattle.rkyv_table.specs.{SeesFirst, candidates, lookup, stride_has_empty};
+ghost use Rattle.rkyv_table.specs.{SeesFirst, candidates, count_after, lookup, stride_has_empty};
 
 use crate::controls::numbers::{bucket_of, start, tag};
 use crate::controls::probe::Probe;
 use rkyv_scan::{GroupKind, Marks};
 use std::marker::Model;
 
-/// A counter of the strides of sixteen control bytes that lookups read.
+/// A counter of the strides of sixteen control bytes that lookups read. It ends at 2^64 - 1.
 #[derive(Debug, Drop)]
 pub struct Strides {
     count: u64,
@@ -43,7 +43,7 @@ impl Strides {
         Strides { count: 0 }
     }
 
-    /// Returns the number of strides that were counted.
+    /// Returns the number of strides that were counted, and at most 2^64 - 1.
     #[inline]
     pub fn count(&self) -> u64
         ensures { result ≡ self.now }
@@ -51,15 +51,22 @@ impl Strides {
         self.count
     }
 
+    /// Adds a number of strides. The count is at most 2^64 - 1.
+    #[inline]
+    pub fn add(&mut self, read: u64)
+        ensures { self.new ≡ count_after self.old read }
+    {
+        self.count = self.count.saturating_add(read);
+    }
+
     // Counts one stride, and returns the sixteen control bytes from index `pos` on.
     #[inline]
     fn stride<'a>(&mut self, controls: &'a [u8], pos: usize) -> &'a [u8]
-        requires inside { pos + 16 ≤ length controls.now }
-        requires room { self.old + 1 < 2 ^ 64 }
+        requires { pos + 16 ≤ length controls.now }
         ensures value { result.now ≡ take 16 (drop pos controls.now) }
-        ensures counted { self.new ≡ self.old + 1 }
+        ensures counted { self.new ≡ count_after self.old 1 }
     {
-        self.count += 1;
+        self.add(1);
         &controls[pos..pos + 16]
     }
 }
@@ -161,7 +168,6 @@ fn scan<G: GroupKind, F: Fn(usize) -> bool>(
 ///
 /// - The control bytes are valid for `len` items in `cap` buckets, if `len` is above 0.
 /// - `start` is `hash % cap`, if there are buckets.
-/// - `strides` has at most 2^63 strides.
 /// - The comparison can be called with each full bucket.
 #[inline]
 pub fn find_from<G: GroupKind, F: Fn(usize) -> bool>(
@@ -175,7 +181,6 @@ pub fn find_from<G: GroupKind, F: Fn(usize) -> bool>(
 ) -> Option<usize>
     requires accepted { 0 < len → AreValidControls cap len controls.now }
     requires start { 0 < cap → start ≡ hash % cap }
-    requires room { strides.old ≤ 2 ^ 63 }
     requires callable { (b : ℕ) → IsFullBucket cap controls.now b → F.pre cmp b }
     ensures { FindsBucket (lookup G.kind controls.now cap len hash) (F.post cmp) strides.old
         strides.new result }
@@ -200,12 +205,11 @@ pub fn find_from<G: GroupKind, F: Fn(usize) -> bool>(
 /// The comparison is called with full buckets alone.
 ///
 /// Each stride that is read is counted: none if `len` is 0, else at least one and at most
-/// ceil(cap / 16).
+/// ceil(cap / 16). The count ends at 2^64 - 1.
 ///
 /// # Requires
 ///
 /// - The control bytes are valid for `len` items in `cap` buckets, if `len` is above 0.
-/// - `strides` has at most 2^63 strides.
 /// - The comparison can be called with each full bucket.
 #[inline]
 pub fn find<G: GroupKind, F: Fn(usize) -> bool>(
@@ -217,7 +221,6 @@ pub fn find<G: GroupKind, F: Fn(usize) -> bool>(
     strides: &mut Strides,
 ) -> Option<usize>
     requires accepted { 0 < len → AreValidControls cap len controls.now }
-    requires room { strides.old ≤ 2 ^ 63 }
     requires callable { (b : ℕ) → IsFullBucket cap controls.now b → F.pre cmp b }
     ensures { FindsBucket (lookup G.kind controls.now cap len hash) (F.post cmp) strides.old
         strides.new result }

@@ -1,15 +1,16 @@
 //! Laws of capacity errors, probe sequences, walks and searches, and of written control bytes.
 ghost use Rattle.std.specs.Iterator.{YieldsFirst, item_count};
-ghost use Rattle.std.specs.Prelude.{List, ℕ, ◌≡◌, ◌↔◌};
+ghost use Rattle.std.specs.Prelude.{List, true, ℕ, ◌+◌, ◌-◌, ◌<◌, ◌^◌, ◌≡◌, ◌↔◌};
 ghost use Rattle.rkyv_table.specs.{BucketsAreProbed, FirstEmptyIsNextHome, FoundOnWritten};
 ghost use Rattle.rkyv_table.specs.{HomesAreFirstEmpty, HomesAreOneList, HomesExist};
 ghost use Rattle.rkyv_table.specs.{MarkedAreWalked, SearchIsBounded, StridesCover, StridesReadARow};
 ghost use Rattle.rkyv_table.specs.{SameSteps, WalkedAreFull, WrittenAreOneList, WrittenAreValid};
-ghost use Rattle.rkyv_table.specs.{capacity_write_error};
+ghost use Rattle.rkyv_table.specs.{capacity_write_error, count_after};
 
 use crate::controls::find::Strides;
 use crate::controls::numbers::CapacityError;
 use crate::controls::probe::Probe;
+use crate::controls::reciprocal::Reciprocal;
 use crate::controls::walk::Walk;
 use rkyv_base::WriteError;
 use rkyv_scan::GroupKind;
@@ -18,6 +19,29 @@ use rkyv_scan::GroupKind;
 pub fn capacity_errors_are_converted<F>()
     ensures { (a : _) (e : _) → ⟦<WriteError<F> as From<CapacityError>>⟧.from_gives a e
         ↔ (e ≡ capacity_write_error a) }
+{}
+
+/// States that two capacity errors are equal by `==` if and only if they are the same.
+pub fn equal_errors_are_the_same()
+    ensures { (a b : CapacityError) → (⟦<CapacityError as PartialEq>⟧.eq a b ≡ true) ↔ (a ≡ b) }
+{}
+
+/// States that a clone of a capacity error or of a reciprocal is the value, and never fails.
+pub fn clones_are_the_same()
+    ensures error { (a clone : CapacityError) → ⟦<CapacityError as Clone>⟧.is_clone a clone
+        ↔ (clone ≡ a) }
+    ensures reciprocal { (a clone : Reciprocal) → ⟦<Reciprocal as Clone>⟧.is_clone a clone
+        ↔ (clone ≡ a) }
+    ensures infallible_error { (a : CapacityError) → ⟦<CapacityError as Clone>⟧.is_infallible a }
+    ensures infallible_reciprocal { (a : Reciprocal) → ⟦<Reciprocal as Clone>⟧.is_infallible a }
+{}
+
+/// States that counts of strides add up, and that a count below 2^64 - 1 is exact.
+pub fn counts_add_up()
+    ensures exact { (before n : ℕ) → count_after before n < 2 ^ 64 - 1
+        → count_after before n ≡ before + n }
+    ensures sums { (before m n : ℕ) → count_after (count_after before m) n
+        ≡ count_after before (m + n) }
 {}
 
 /// States that the strides of a hash begin at all indices of one residue class modulo 16.

@@ -22,6 +22,8 @@ fn high_half(left: u64, right: u64) -> u64
 }
 
 impl Reciprocal {
+    ghost use Rattle.rkyv_table.specs.{divisor_of};
+
     /// Returns the reciprocal of a divisor, with one division.
     ///
     /// # Requires
@@ -30,7 +32,7 @@ impl Reciprocal {
     #[inline]
     pub fn new(divisor: u64) -> Reciprocal
         requires { 0 < divisor }
-        ensures { result.divisor ≡ divisor }
+        ensures { divisor_of result ≡ divisor }
     {
         Reciprocal {
             divisor,
@@ -41,7 +43,7 @@ impl Reciprocal {
     /// Returns the number modulo the divisor.
     #[inline]
     pub fn remainder(self, number: u64) -> u64
-        ensures { result ≡ number % self.divisor }
+        ensures { result ≡ number % divisor_of self }
     {
         // The quotient, or one less.
         let quotient = high_half(number, self.inverse);

@@ -6,7 +6,8 @@
 ghost use Rattle.std.specs.Prelude.{IsTrue, MatchResult, length, ◌%◌, ◌*◌, ◌+◌, ◌<◌, ◌↔◌, ◌≡◌, ◌≤◌};
 ghost use Rattle.std.specs.Int.{byte_len};
 ghost use Rattle.rkyv_base.specs.{Fails, IsValidView, Passes, bytes_of, pos_of};
-ghost use Rattle.rkyv_table.specs.{IsDecoded, cap_at, len_at, table_bytes, table_pos, table_spec};
+ghost use Rattle.rkyv_table.specs.{IsDecoded, cap_at, len_at, table_bytes, table_header, table_pos};
+ghost use Rattle.rkyv_table.specs.{table_spec, table_view};
 
 use crate::controls::reciprocal::Reciprocal;
 use crate::table::decoded::Decoded;
@@ -69,7 +70,7 @@ impl<'a, T: Element, W: Width> ArchivedHashTable<'a, T, W> {
     #[inline]
     pub fn of(view: View<'a, TableOf<T, W>>) -> ArchivedHashTable<'a, T, W>
         requires { IsValidView (table_spec W.word T.spec) view }
-        ensures view { result.view ≡ view.entry }
+        ensures view { table_view result ≡ view.entry }
     {
         ArchivedHashTable {
             view,
@@ -90,8 +91,8 @@ impl<'a, T: Element, W: Width> ArchivedHashTable<'a, T, W> {
     ) -> ArchivedHashTable<'a, T, W>
         requires view { IsValidView (table_spec W.word T.spec) view }
         requires header { IsDecoded W.word (bytes_of view) (pos_of view) header }
-        ensures view { result.view ≡ view.entry }
-        ensures header { result.header ≡ header }
+        ensures view { table_view result ≡ view.entry }
+        ensures header { table_header result ≡ header }
     {
         ArchivedHashTable { view, header }
     }

@@ -3,6 +3,7 @@
 //! A table, map or set decodes its header once. The reciprocal of the capacity then replaces
 //! a division in each lookup.
 ghost use Rattle.std.specs.Prelude.{◌≡◌};
+ghost use Rattle.rkyv_table.specs.{decoded_cap, decoded_controls_pos, decoded_len};
 
 use crate::controls::reciprocal::Reciprocal;
 
@@ -27,7 +28,7 @@ impl Decoded {
     /// Returns the number of items.
     #[inline]
     pub fn len(self) -> usize
-        ensures { result ≡ self.len }
+        ensures { result ≡ decoded_len self }
     {
         self.len
     }
@@ -35,7 +36,7 @@ impl Decoded {
     /// Returns the number of buckets.
     #[inline]
     pub fn capacity(self) -> usize
-        ensures { result ≡ self.cap }
+        ensures { result ≡ decoded_cap self }
     {
         self.cap
     }
@@ -43,7 +44,7 @@ impl Decoded {
     /// Returns the position of the first control byte. It has no meaning if there are no buckets.
     #[inline]
     pub fn controls_pos(self) -> usize
-        ensures { result ≡ self.controls_pos }
+        ensures { result ≡ decoded_controls_pos self }
     {
         self.controls_pos
     }

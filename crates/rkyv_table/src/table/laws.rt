@@ -1,23 +1,28 @@
 //! Laws of tables, over their definitions alone.
 //!
 //! - `written` is about the bytes of written tables, `misplaced` about misplaced items.
-//! - `in_place` is about writes of one item in place.
+//! - `in_place` is about writes of one item in place, `each` about those of each item.
+//! - `in_bytes` is about lookups in a table's bytes.
 ghost use Rattle.std.specs.Int.{w32};
 ghost use Rattle.std.specs.Iterator.{YieldsFirstBy, at_most};
-ghost use Rattle.std.specs.Prelude.{List, [], length, ℕ, ◌↔◌, ◌≡◌};
-ghost use Rattle.std.specs.Slice.Iter.{iter_rest};
-ghost use Rattle.rkyv_base.specs.{RepresentsAs, SameSpec, pair_format, scalar_format, text_format};
-ghost use Rattle.rkyv_base.specs.{unit_format, written_as};
+ghost use Rattle.std.specs.Prelude.{List, [], length, ℕ, ◌<◌, ◌^◌, ◌↔◌, ◌≡◌};
+ghost use Rattle.rkyv_base.specs.{IsValidView, RepresentsAs, SameSpec, pair_format, scalar_format};
+ghost use Rattle.rkyv_base.specs.{text_format, unit_format, written_as};
 ghost use Rattle.rkyv_table.specs.{CountsPositions, ItemsLeft, LookupFindsFirst, SameSteps};
 ghost use Rattle.rkyv_table.specs.{UnitStep, VisitsHomes, WalkVisitsHomes, WritesOneWay, YieldsPos};
-ghost use Rattle.rkyv_table.specs.{table_format, table_spec};
+ghost use Rattle.rkyv_table.specs.{items_left, pairs_left, resolved_capacity, table_format};
+ghost use Rattle.rkyv_table.specs.{table_spec, table_view};
 
+pub mod each;
+pub mod in_bytes;
 pub mod in_place;
 pub mod misplaced;
 pub mod written;
 
+use crate::table::decoded::Decoded;
 use crate::table::list_inputs::{PairRefs, Refs, WithUnits};
 use crate::table::raw_iter::RawIter;
+use crate::table::resolve::{HashTableResolver, resolved_capacity};
 use crate::table::{ArchivedHashTable, TableOf};
 use rkyv_base::width::Word;
 use rkyv_base::{Archive, Element, HasSpec, Lend, Scalar, Width};
@@ -45,15 +50,15 @@ pub fn positions_are_yielded<'a, T: 'a>()
 /// items remain as are left in the list, and `next` has no condition of its own.
 pub fn lists_are_yielded<'a, A: 'a, B: 'a, BK, I: Iterator<Item = BK>>()
     ensures pairs { SameSteps ⟦<PairRefs<'a, A, B> as Iterator>⟧.next_gives
-        (YieldsFirstBy (λ pair. (pair.0.now, pair.1.now)) (λ s. iter_rest s.pairs)) }
+        (YieldsFirstBy (λ pair. (pair.0.now, pair.1.now)) pairs_left) }
     ensures items { SameSteps ⟦<Refs<'a, A> as Iterator>⟧.next_gives
-        (YieldsFirstBy (λ item. item.now) (λ s. iter_rest s.items)) }
+        (YieldsFirstBy (λ item. item.now) items_left) }
     ensures units { SameSteps ⟦<WithUnits<I> as Iterator>⟧.next_gives
         (λ s r t. UnitStep I.next_gives s.keys r t.keys) }
     ensures pairs_remain { (s : _) → ⟦<PairRefs<'a, A, B> as Iterator>⟧.remaining s
-        ≡ at_most (length (iter_rest s.pairs)) }
+        ≡ at_most (length (pairs_left s)) }
     ensures items_remain { (s : _) → ⟦<Refs<'a, A> as Iterator>⟧.remaining s
-        ≡ at_most (length (iter_rest s.items)) }
+        ≡ at_most (length (items_left s)) }
     ensures units_remain { (s : _) → ⟦<WithUnits<I> as Iterator>⟧.remaining s
         ≡ I.remaining s.keys }
     ensures pairs_ready { (s : _) → ⟦<PairRefs<'a, A, B> as Iterator>⟧.can_next s }
@@ -96,6 +101,23 @@ pub fn ready_elements_are_written_one_way<W: Width, N: Scalar, A: Archive<W>, B:
 pub fn tables_are_laid_out<W: Width, T: Element>()
     ensures spec { SameSpec ⟦<TableOf<T, W> as HasSpec>⟧.spec (table_spec W.word T.spec) }
     ensures default { SameSpec ⟦<TableOf<T> as HasSpec>⟧.spec (table_spec w32 T.spec) }
+{}
+
+/// States that without a width, a table and a resolver are those of a narrow archive.
+///
+/// The table is valid in the narrow width, and its capacity is below 2^32.
+pub fn tables_are_narrow<'a, T: Element>(table: ArchivedHashTable<'a, T>, r: &HashTableResolver)
+    ensures table { IsValidView (table_spec w32 T.spec) (table_view table.entry) }
+    ensures resolver { resolved_capacity r.now < 2 ^ 32 }
+{
+    let _ = table.len();
+    let _ = resolved_capacity(r);
+}
+
+/// States that a clone of a decoded header is the header, and that cloning never fails.
+pub fn decoded_headers_are_cloned()
+    ensures same { (a clone : Decoded) → ⟦<Decoded as Clone>⟧.is_clone a clone ↔ (clone ≡ a) }
+    ensures infallible { (a : Decoded) → ⟦<Decoded as Clone>⟧.is_infallible a }
 {}
 
 /// States that a clone of an archived table is the same table, and that cloning never fails.

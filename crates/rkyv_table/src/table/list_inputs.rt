@@ -4,8 +4,7 @@
 
 ghost use Rattle.std.specs.Iterator.{YieldsFirstBy, at_most};
 ghost use Rattle.std.specs.Prelude.{length, ◌≡◌};
-ghost use Rattle.std.specs.Slice.Iter.{iter_rest};
-ghost use Rattle.rkyv_table.specs.{UnitStep};
+ghost use Rattle.rkyv_table.specs.{UnitStep, items_left, pairs_left};
 
 /// The pairs of a list, each as a pair of references.
 #[derive(Drop)]
@@ -17,7 +16,7 @@ impl<'a, A, B> PairRefs<'a, A, B> {
     /// Returns an iterator over the pairs of a list, in order.
     #[inline]
     pub fn of(pairs: &'a [(A, B)]) -> PairRefs<'a, A, B>
-        ensures { iter_rest result.pairs ≡ pairs.now }
+        ensures { pairs_left result ≡ pairs.now }
     {
         PairRefs {
             pairs: pairs.iter(),
@@ -29,9 +28,9 @@ impl<'a, A, B> Iterator for PairRefs<'a, A, B> {
     type Item = (&'a A, &'a B);
 
     ghost next_gives = { YieldsFirstBy (λ halves. (halves.0.now, halves.1.now))
-        (λ s. iter_rest s.pairs) };
+        pairs_left };
 
-    ghost remaining = { λ s. at_most (length (iter_rest s.pairs)) };
+    ghost remaining = { λ s. at_most (length (pairs_left s)) };
 
     #[inline]
     fn next(&mut self) -> Option<(&'a A, &'a B)> {
@@ -50,7 +49,7 @@ impl<'a, A> Refs<'a, A> {
     /// Returns an iterator over the items of a list, in order.
     #[inline]
     pub fn of(items: &'a [A]) -> Refs<'a, A>
-        ensures { iter_rest result.items ≡ items.now }
+        ensures { items_left result ≡ items.now }
     {
         Refs {
             items: items.iter(),
@@ -61,9 +60,9 @@ impl<'a, A> Refs<'a, A> {
 impl<'a, A> Iterator for Refs<'a, A> {
     type Item = &'a A;
 
-    ghost next_gives = { YieldsFirstBy (λ item. item.now) (λ s. iter_rest s.items) };
+    ghost next_gives = { YieldsFirstBy (λ item. item.now) items_left };
 
-    ghost remaining = { λ s. at_most (length (iter_rest s.items)) };
+    ghost remaining = { λ s. at_most (length (items_left s)) };
 
     #[inline]
     fn next(&mut self) -> Option<&'a A> {

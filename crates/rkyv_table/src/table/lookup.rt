@@ -6,7 +6,6 @@
 //!
 //! A lookup in an untrusted table may read all of its control bytes. In any table it reads
 //! at most ceil(capacity / 16) strides, each of sixteen control bytes.
-ghost use Rattle.std.specs.Prelude.{◌^◌, ◌≤◌};
 ghost use Rattle.rkyv_base.specs.declared.view.View.{View};
 ghost use Rattle.rkyv_scan.specs.{generic_kind};
 ghost use Rattle.rkyv_table.specs.{CanCompare, CountsStrides, FindsItem, FindsItemPos, IsFullIn};
@@ -29,7 +28,6 @@ impl<'a, T: Element, W: Width> ArchivedHashTable<'a, T, W> {
         cmp: F,
         strides: &mut Strides,
     ) -> Option<View<'a, T>>
-        requires room { strides.old ≤ 2 ^ 63 }
         requires callable { CanCompare (F.pre cmp) self }
         ensures found { FindsItem (F.post cmp) G.kind self.entry hash result }
         ensures counts { CountsStrides (F.post cmp) G.kind self.entry hash
@@ -148,10 +146,10 @@ impl<'a, T: Element, W: Width> ArchivedHashTable<'a, T, W> {
     /// It looks up as `get_with` does. A stride has sixteen control bytes.
     ///
     /// It reads no stride of an empty table, else at least one and at most ceil(capacity / 16).
+    /// The count ends at 2^64 - 1.
     ///
     /// # Requires
     ///
-    /// - `strides` has at most 2^63 strides.
     /// - The comparison can be called with each item of the table.
     ///
     /// # Examples
@@ -164,7 +162,6 @@ impl<'a, T: Element, W: Width> ArchivedHashTable<'a, T, W> {
     pub fn get_counted<F>(self, hash: u64, cmp: F, strides: &mut Strides) -> Option<View<'a, T>>
     where
         F: Fn(View<'a, T>) -> bool,
-        requires room { strides.old ≤ 2 ^ 63 }
         requires callable { CanCompare (F.pre cmp) self }
         ensures found { FindsItem (F.post cmp) generic_kind self.entry hash result }
         ensures counts { CountsStrides (F.post cmp) generic_kind self.entry hash

@@ -2,7 +2,7 @@
 //!
 //! - `misplaced_by` looks up each item. Its cost on untrusted bytes may be quadratic.
 //! - `misplaced_up_to_by` ends at a limit on the strides that are read.
-ghost use Rattle.std.specs.Prelude.{IfSome, false, not, true, ◌+◌, ◌<◌, ◌^◌, ◌≡◌, ◌≤◌, ◌⊎◌};
+ghost use Rattle.std.specs.Prelude.{IfSome, not, ◌≡◌, ◌≤◌};
 ghost use Rattle.rkyv_scan.specs.{generic_kind};
 ghost use Rattle.rkyv_table.specs.{CanCompare, ComparesItems, CountsAllStrides, CountsMisplaced};
 ghost use Rattle.rkyv_table.specs.{CountsOwn, CountsUpTo, IsFullIn, IsItemIn, MayCompare};
@@ -21,20 +21,6 @@ pub fn finds_another_or_none(bucket: usize, found: Option<usize>) -> bool
     found != Some(bucket)
 }
 
-/// Returns `true` if more than `limit` strides are counted after `before`, or more than 2^63.
-///
-/// # Requires
-///
-/// - `count` is at least `before`.
-#[inline]
-pub fn is_past(before: u64, count: u64, limit: u64) -> bool
-    requires { before ≤ count }
-    ensures past { result ≡ true → (before + limit < count) ⊎ (2 ^ 63 < count) }
-    ensures within { result ≡ false → (count ≤ before + limit) × (count ≤ 2 ^ 63) }
-{
-    count - before > limit || count > 1 << 63
-}
-
 impl<'a, T: Element, W: Width> ArchivedHashTable<'a, T, W> {
     // Returns `true` if a lookup of the item in `bucket` finds another bucket or returns `None`.
     // Counts its strides.
@@ -48,7 +34,6 @@ impl<'a, T: Element, W: Width> ArchivedHashTable<'a, T, W> {
         strides: &mut Strides,
     ) -> bool
         requires item { IsItemIn self bucket item }
-        requires room { strides.old ≤ 2 ^ 63 }
         requires hashable { CanCompare (H.pre hash_of.now) self }
         requires comparable { MayCompare (S.pre same.now) self }
         ensures exact { ReturnsMisplaced (H.post hash_of.now) (S.post same.now) self.entry bucket
@@ -130,7 +115,8 @@ impl<'a, T: Element, W: Width> ArchivedHashTable<'a, T, W> {
     ///
     /// The number is the result of `misplaced_by`. If both functions depend only on the positions
     /// of their arguments, the result is `None` if and only if the lookups of all items read more
-    /// than `limit` strides of sixteen control bytes, or `strides` counts more than 2^63 then.
+    /// than `limit` strides of sixteen control bytes. They are added to `strides`, whose count ends
+    /// at 2^64 - 1.
     ///
     /// For any `hash_of` and `same`, it counts at most `limit` strides and those of one more
     /// lookup, which are at most ceil(capacity / 16). So its cost on untrusted bytes is bounded.
@@ -138,7 +124,6 @@ impl<'a, T: Element, W: Width> ArchivedHashTable<'a, T, W> {
     /// # Requires
     ///
     /// - `hash_of` can be called with each item, and `same` with any two items.
-    /// - `strides` has at most 2^63 strides.
     ///
     /// # Examples
     ///
@@ -167,22 +152,24 @@ impl<'a, T: Element, W: Width> ArchivedHashTable<'a, T, W> {
         S: Fn(View<'a, T>, View<'a, T>) -> bool,
         requires hashable { CanCompare (H.pre hash_of) self }
         requires comparable { MayCompare (S.pre same) self }
-        requires room { strides.old ≤ 2 ^ 63 }
-        ensures counts { CountsUpTo (H.post hash_of) (S.post same) self.entry limit strides.old
-            result }
+        ensures counts { CountsUpTo (H.post hash_of) (S.post same) self.entry limit result }
         ensures within { IfSome result (λ count. count ≤ table_len self.entry) }
         ensures counted { CountsAllStrides (H.post hash_of) (S.post same) self.entry strides.old
             strides.new result }
         ensures bounded { ReadsUpTo self.entry limit strides.old strides.new result }
     {
-        let before = strides.count();
+        let mut left = limit;
         let mut misplaced = 0;
         for bucket in self.walk::<rkyv_scan::Group>() {
             let item = self.item(bucket);
-            let is_misplaced = self.is_misplaced(bucket, item, &hash_of, &same, strides);
-            if is_past(before, strides.count(), limit) {
+            let mut own = Strides::new();
+            let is_misplaced = self.is_misplaced(bucket, item, &hash_of, &same, &mut own);
+            let read = own.count();
+            strides.add(read);
+            if read > left {
                 return None;
             }
+            left -= read;
             if is_misplaced {
                 misplaced += 1;
             }

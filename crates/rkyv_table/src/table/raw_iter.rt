@@ -3,11 +3,11 @@
 //! The iterator returns the positions of the items, and `next_view` returns views.
 ghost use Rattle.std.specs.Prelude.{[], IfSome, MatchOption, length, slice_index, take, ◌<◌};
 ghost use Rattle.std.specs.Prelude.{◌≤◌, ◌∷◌, ◌≡◌};
-ghost use Rattle.rkyv_scan.specs.{indices_where, is_full, mask_indices};
+ghost use Rattle.rkyv_scan.specs.{indices_where, is_full};
 ghost use Rattle.std.specs.Iterator.{at_most};
 ghost use Rattle.rkyv_base.specs.{IsValidView, archive_of, pos_of};
 ghost use Rattle.rkyv_table.specs.{AllValid, HintsExactly, YieldsPos, item_positions, len_at};
-ghost use Rattle.rkyv_table.specs.{table_bytes, table_pos};
+ghost use Rattle.rkyv_table.specs.{table_archive, table_bytes, table_pos};
 
 use crate::table::ArchivedHashTable;
 use rkyv_base::{Element, View, Width};
@@ -34,7 +34,6 @@ pub struct RawIter<'a, T> {
 }
 
 impl<'a, T> Model for RawIter<'a, T> {
-    ghost use Rattle.rkyv_scan.specs.Groups.{mask_indices};
     ghost use Rattle.rkyv_table.specs.Table.RawItems.{IsRawIter, ItemsLeft, positions_left};
 
     ghost Value = { ItemsLeft };
@@ -43,11 +42,11 @@ impl<'a, T> Model for RawIter<'a, T> {
       archive = r.archive;
       positions =
           positions_left r.buckets_end r.size r.count r.controls.now r.base
-          (mask_indices 8 7 8 r.marks.bits);
+          (⟦<Bitmask as Marks>⟧.indices r.marks);
     } };
 
     ghost invariant = { λ r. IsRawIter r.buckets_end r.size r.count r.controls.now r.base
-        (mask_indices 8 7 8 r.marks.bits) };
+        (⟦<Bitmask as Marks>⟧.indices r.marks) };
 }
 
 /// Returns the full indices of the first group of control bytes, if there are items.
@@ -55,7 +54,7 @@ impl<'a, T> Model for RawIter<'a, T> {
 fn first_marks(controls: &[u8], len: usize) -> Bitmask
     requires { 0 < len → 8 ≤ length controls.now }
     ensures { 0 < len
-        → mask_indices 8 7 8 result.bits
+        → ⟦<Bitmask as Marks>⟧.indices result
         ≡ indices_where (λ j. is_full (slice_index (take 8 controls.now) j)) 8 }
 {
     if len == 0 {
@@ -162,7 +161,7 @@ impl<'a, T: Element, W: Width> ArchivedHashTable<'a, T, W> {
     /// ```
     #[inline]
     pub fn raw_iter(self) -> RawIter<'a, T>
-        ensures archive { result.archive ≡ archive_of self.entry.view }
+        ensures archive { result.archive ≡ table_archive self.entry }
         ensures positions { result.positions
             ≡ item_positions W.word T.spec.size (table_bytes self.entry) (table_pos self.entry) }
         ensures count { length result.positions

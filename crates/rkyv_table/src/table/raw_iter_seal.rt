@@ -5,6 +5,7 @@
 //! - `next_pos` returns the position of the next item. `set_at`, `write_at` and `write_with` then
 //!   write at a position.
 //! - `next_seal` returns a seal of the next item, and leaves the cursor afterwards unspecified.
+//! - `for_each_seal` of a table passes a seal of each item to a closure.
 ghost use Rattle.std.specs.Prelude.{IfSome, MatchOption, length, slice_range, ◌*◌, ◌+◌, ◌-◌, ◌<◌};
 ghost use Rattle.std.specs.Prelude.{◌≡◌, ◌≤◌};
 ghost use Rattle.rkyv_base.specs.{LiesIn, ModifiesOnly, StaysValid, Viewable, archive_in, bytes_in};
@@ -13,9 +14,11 @@ ghost use Rattle.rkyv_table.specs.{CanCompareOf, CountsDown, FindsFirstLeft, IsS
 ghost use Rattle.rkyv_table.specs.{IsTableSeal, KeepsCursor, LendsArchive, LendsFirst, LendsFound};
 ghost use Rattle.rkyv_table.specs.{MaySeal, MaySealIn, MaySealNext, MayWriteAt, MayWriteNext};
 ghost use Rattle.rkyv_table.specs.{SameArchive, SealedBy, StaysThere, StepsAndWrites, WrittenBy};
-ghost use Rattle.rkyv_table.specs.{YieldsPosition, cap_at, cursor_buckets_left, cursor_bytes};
-ghost use Rattle.rkyv_table.specs.{cursor_len, len_at, pos_before, table_controls, table_in};
-ghost use Rattle.rkyv_table.specs.{table_spec, walk};
+ghost use Rattle.rkyv_table.specs.{YieldsPosition, cap_at, cursor_archive, cursor_buckets_left};
+ghost use Rattle.rkyv_table.specs.{cursor_bytes, cursor_len, len_at, pos_before, table_controls};
+ghost use Rattle.rkyv_table.specs.{table_in, table_spec, walk};
+
+mod for_each;
 
 use crate::controls::walk::next_full;
 use crate::table::{ArchivedHashTable, TableOf};
@@ -144,7 +147,8 @@ impl<'a, T: Element> RawIterSeal<'a, T> {
     #[inline]
     pub fn next_with<F: FnOnce(&mut [u8], u64)>(&mut self, write: F) -> Option<u64>
         requires { MayWriteNext F.pre T.spec self.old write }
-        ensures reference { self.new.archive.ghost_name ≡ self.old.archive.ghost_name }
+        ensures reference { (cursor_archive self.new).ghost_name
+            ≡ (cursor_archive self.old).ghost_name }
         ensures steps { StepsAndWrites T.spec (WrittenBy F.post write tt) self.old result
             self.new }
     {
@@ -178,7 +182,8 @@ impl<'a, T: Element> RawIterSeal<'a, T> {
     #[inline]
     pub fn next_seal_with<F: FnOnce(&mut Seal<'_, T>)>(&mut self, write: F) -> Option<u64>
         requires { MaySealNext F.pre T.spec self.old write }
-        ensures reference { self.new.archive.ghost_name ≡ self.old.archive.ghost_name }
+        ensures reference { (cursor_archive self.new).ghost_name
+            ≡ (cursor_archive self.old).ghost_name }
         ensures steps { StepsAndWrites T.spec (SealedBy F.post write tt) self.old result self.new }
     {
         let next = self.next_pos();
@@ -332,7 +337,7 @@ impl<'a, T: Element, W: Width> ArchivedHashTable<'a, T, W> {
     #[inline]
     pub fn raw_iter_over(archive: &'a mut [u8], pos: u64) -> RawIterSeal<'a, T>
         requires table { Viewable (table_spec W.word T.spec) archive.old pos }
-        ensures reference { result.archive.ghost_name ≡ archive.entry.ghost_name }
+        ensures reference { (cursor_archive result).ghost_name ≡ archive.entry.ghost_name }
         ensures bytes { cursor_bytes result ≡ archive.old }
         ensures iter { IsSealIter W.word T.spec pos result }
         ensures buckets { cursor_buckets_left W.word pos result

@@ -3,7 +3,7 @@
 //! `HashTableResolver::resolve` writes the header. `resolve_from_len` does so too, and takes
 //! the length and the load factor again, as in rkyv.
 
-ghost use Rattle.std.specs.Prelude.{◌≡◌, ◌+◌, ◌<◌, ◌≤◌, ◌^◌, FitsSigned, length};
+ghost use Rattle.std.specs.Prelude.{◌≡◌, ◌<◌, ◌≤◌, ◌^◌, FitsSigned, length};
 ghost use mir.Val.{bits};
 ghost use Rattle.rkyv_table.specs.{IsLoadFactor, TableResolver, WritesHeader, capacity};
 ghost use Rattle.rkyv_table.specs.{header_bytes, resolved_capacity, resolver_of};
@@ -64,7 +64,6 @@ impl<W: Width> HashTableResolver<W> {
     /// # Requires
     ///
     /// - `out` has the size of a header.
-    /// - The header ends below 2^64.
     ///
     /// # Errors
     ///
@@ -72,7 +71,6 @@ impl<W: Width> HashTableResolver<W> {
     ///   `out` is unchanged.
     pub fn resolve(self, pos: u64, out: &mut [u8]) -> ResolveResult
         requires room { length out.old ≡ W.TABLE_SIZE }
-        requires fits { pos + W.TABLE_SIZE < 2 ^ 64 }
         ensures { WritesHeader W.word self pos out.old out.new result }
     {
         let (len, load_factor) = (self.len, self.load_factor);
@@ -98,7 +96,7 @@ fn write_header<W: Width>(out: &mut [u8], distance: i64, len: u64, cap: u64)
 
 // Returns the capacity of a written table.
 #[inline]
-fn resolved_capacity<W: Width>(resolver: &HashTableResolver<W>) -> usize
+pub(crate) fn resolved_capacity<W: Width>(resolver: &HashTableResolver<W>) -> usize
     ensures value { result ≡ resolved_capacity resolver.now }
     ensures fits { result < 2 ^ bits W.word }
 {
@@ -115,7 +113,6 @@ impl<'a, T: HasSpec, W: Width> ArchivedHashTable<'a, T, W> {
     ///
     /// - `len` and `load_factor` are those of the resolver.
     /// - `out` has the size of a header.
-    /// - The header ends below 2^64.
     ///
     /// # Errors
     ///
@@ -130,7 +127,6 @@ impl<'a, T: HasSpec, W: Width> ArchivedHashTable<'a, T, W> {
     ) -> ResolveResult
         requires same { (len ≡ resolver.len) × (load_factor ≡ resolver.load_factor) }
         requires room { length out.old ≡ W.TABLE_SIZE }
-        requires fits { pos + W.TABLE_SIZE < 2 ^ 64 }
         ensures { WritesHeader W.word (resolver_of len load_factor resolver.pos) pos
             out.old out.new result }
     {

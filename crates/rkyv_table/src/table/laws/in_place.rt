@@ -1,13 +1,13 @@
 //! Laws of writes in place.
 
 ghost use Rattle.std.specs.Prelude.{List, length, ℕ, ◌-◌, ◌≡◌};
-ghost use Rattle.rkyv_base.specs.{IsValidArchive, Viewable, entry_spec};
+ghost use Rattle.rkyv_base.specs.{IsValidArchive, RepresentsAs, Viewable, entry_spec};
 ghost use Rattle.rkyv_table.specs.{IsWalked, ItemsWrittenRepresent, KeepsArchive, KeepsTable};
 ghost use Rattle.rkyv_table.specs.{KeptByValueWrites, KeptByWrites, SameLookups, WritesAmongParts};
 ghost use Rattle.rkyv_table.specs.{table_spec};
 
 use crate::table::ArchivedHashTable;
-use rkyv_base::{Element, Represents, Width};
+use rkyv_base::{Archive, Element, Lend, Represents, Width};
 
 /// States that if a write changes one item alone and keeps it valid, the table stays valid.
 ///
@@ -68,3 +68,12 @@ pub fn cursors_keep_bytes<T: Element, W: Width>(archive: &mut [u8], pos: u64, st
         rest.next_pos();
     }
 }
+
+/// States that a write of one item in place replaces it in a list of items that lend values.
+///
+/// The conditions are those of `items_written_represent`. The written bytes must represent the
+/// value that the new item lends.
+pub fn lent_items_written_represent<W: Width, U: Archive<W>, X: Lend<U>>()
+    ensures { ItemsWrittenRepresent W.word U.Archived.spec
+        (RepresentsAs X.lent U.Archived.represents) }
+{}

@@ -1,10 +1,11 @@
-use Rattle.std.proofs.Common.{arith, ◌≡◌, ℕ, ◌+◌, ◌/◌, ◌<◌, sym, ap, ◌∙◌, Bool, Option, length, drop, length-take, length-drop}
+use Rattle.std.proofs.Common.{arith, ◌≡◌, ℕ, ◌-◌, ◌/◌, ◌<◌, sym, ap, ◌∙◌, Bool, Option, length, drop, length-take, length-drop}
 use Rattle.std.proofs.lemmas.Grind.{common_steps}
-use Rattle.rkyv_table.specs.{AreValidControls, ComparesByBucket, IsFullBucket, IsFullInStride, ReadsWithin, found, probe_capacity, probe_length, tag}
+use Rattle.rkyv_table.specs.{AreValidControls, ComparesByBucket, IsFullBucket, IsFullInStride, ReadsWithin, count_after, found, probe_capacity, probe_length, strides, tag}
+use Rattle.rkyv_table.proofs.Counts.{counted_on}
 use Rattle.rkyv_table.proofs.Coverage.{count_strides, stride_below}
 use Rattle.rkyv_table.proofs.FirstFree.{member_front, member_rest}
 use Rattle.rkyv_table.proofs.Search.{found_along}
-use Rattle.rkyv_table.proofs.Lookup.{end_index, end_is, ends_by_empty, ends_by_item, ends_somewhere, few_strides, found_is, goes_on, shown_full, stride_full}
+use Rattle.rkyv_table.proofs.Lookup.{end_index, end_is, ends_by_empty, ends_by_item, ends_somewhere, found_is, goes_on, shown_full, stride_full}
 use Rattle.rkyv_table.proofs.controls.find.find_from.Goals as goal
 use Rattle.rkyv_table.proofs.controls.find.find_from.Goals.{After-cmp-1}
 
@@ -26,19 +27,21 @@ module _ (g : _) (c : After-cmp-1 g) where
     found_as : (r : Option ℕ) → found_along g.G.GroupKind.kind c.args.controls.now c.args.cap (tag c.args.hash) accept c.loop-pos.pos-iterator ≡ r → r ≡ found g.G.GroupKind.kind c.args.controls.now c.args.cap c.args.len c.args.hash accept
     found_as r e = sym (found_is g.G.GroupKind.kind c.args.controls.now c.args.cap c.args.len c.args.hash accept c.if-len-eq0.false ∙ c.loop-pos.invariant.same accept compares ∙ e)
 
-    counted : end_index g.G.GroupKind.kind c.args.controls.now c.args.cap (tag c.args.hash) accept c.loop-pos.pos-iterator ≡ 0 → c.stride.new.self ≡ c.args.strides.now + probe_length g.G.GroupKind.kind c.args.controls.now c.args.cap c.args.len c.args.hash accept
-    counted z = grind (arith, common_steps, end_is)
+    counted : end_index g.G.GroupKind.kind c.args.controls.now c.args.cap (tag c.args.hash) accept c.loop-pos.pos-iterator ≡ 0
+        → c.stride.new.self ≡ count_after c.args.strides.now (probe_length g.G.GroupKind.kind c.args.controls.now c.args.cap c.args.len c.args.hash accept)
+    counted z =
+        let k = c.loop-pos.invariant.counted accept compares in
+        let e = end_is g.G.GroupKind.kind c.args.controls.now c.args.cap c.args.len c.args.hash accept c.if-len-eq0.false in
+        let n = length (strides c.args.hash c.args.cap) - length c.loop-pos.pos-iterator in
+        c.stride.ensures.counted ∙ ap (λ before. count_after before 1) c.loop-pos.invariant.read ∙ counted_on c.args.strides.now n 1 ∙ ap (count_after c.args.strides.now) (omega (arith, k, e, z))
 
-pub stride-requires-clause-inside : goal.stride-requires-clause-inside
-stride-requires-clause-inside g c =
+pub stride-requires : goal.stride-requires
+stride-requires g c =
     let a : AreValidControls c.args.cap c.args.len c.args.controls.now = c.requires.accepted (omega (arith, c.if-len-eq0.false)) in
     let room = a.room in
     let lp = stride_below c.args.hash c.args.cap c.in-Some.pos (omega arith) (c.loop-pos.invariant.members c.in-Some.pos (member_front c.in-Some.pos c.next.new.self c.loop-pos.pos-iterator c.in-Some.ensures.steps)) in
     let count = a.wrapped.count in
     omega arith
-
-pub stride-requires-clause-room : goal.stride-requires-clause-room
-stride-requires-clause-room g c = grind (arith, common_steps, few_strides)
 
 pub scan-requires-clause-whole : goal.scan-requires-clause-whole
 scan-requires-clause-whole g c =
@@ -66,7 +69,14 @@ scan-requires-clause-callable g c = λ b shown.
 -- one stride more was read, and there are no more than the bound
 module _ (g : _) (c : After-cmp-1 g) where
   within : ReadsWithin c.args.len (probe_capacity c.args.cap / 16) c.args.strides.now c.stride.new.self
-  within = grind (arith, common_steps, accepted, count_strides)
+  within =
+      let room = (accepted g c).room in
+      let all = count_strides c.args.hash c.args.cap (omega arith) in
+      let more = ap length c.in-Some.ensures.steps in
+      let fewer = c.loop-pos.invariant.fewer in
+      let n = length (strides c.args.hash c.args.cap) - length c.loop-pos.pos-iterator in
+      let e = c.stride.ensures.counted ∙ ap (λ before. count_after before 1) c.loop-pos.invariant.read ∙ counted_on c.args.strides.now n 1 in
+      grind (arith, common_steps, e, all, more, fewer)
 
 -- the search ends at the stride, by an item or by an empty control byte
 pub returns-in-Accepted : goal.returns-in-Accepted
@@ -107,10 +117,13 @@ loop-pos-preserved g c =
     goes_on g.G.GroupKind.kind c.args.controls.now c.args.cap (tag c.args.hash) accept c.in-Some.pos c.next.new.self c.loop-pos.pos-iterator more s.0 s.1) in
     record {
       members = λ p m. c.loop-pos.invariant.members p (member_rest c.in-Some.pos p c.next.new.self c.loop-pos.pos-iterator more m);
-      room = (let r = c.loop-pos.invariant.room in let l = ap length more in omega arith);
-      up = (let u = c.loop-pos.invariant.up in omega arith);
+      fewer = (let f = c.loop-pos.invariant.fewer in let l = ap length more in omega arith);
+      read = (let l = ap length more in
+          let n = length (strides c.args.hash c.args.cap) - length c.loop-pos.pos-iterator in
+          let f = c.loop-pos.invariant.fewer in
+          d ∙ ap (λ before. count_after before 1) c.loop-pos.invariant.read ∙ counted_on c.args.strides.now n 1 ∙ ap (count_after c.args.strides.now) (omega (arith, l, f)));
       same = λ accept compares. c.loop-pos.invariant.same accept compares ∙ (on accept compares).0;
-      counted = λ accept compares. (let k = c.loop-pos.invariant.counted accept compares in let o = (on accept compares).1 in omega arith);
+      counted = λ accept compares. (let k = c.loop-pos.invariant.counted accept compares in let o = (on accept compares).1 in let l = ap length more in let f = c.loop-pos.invariant.fewer in omega arith);
     }
 
 -- the probe sequence doesn't end before the search does

@@ -9,7 +9,6 @@ find_from-bucket-requires g c κs =
     record {
       accepted = read_accepted g.T.HasSpec.laws c.args.self read c.controls.ensures;
       start = c.start.ensures;
-      room = c.requires.room;
       callable = λ b full. ((refl, tt), (read_walked g.T.HasSpec.laws c.args.self read c.controls.ensures b full, c.requires.callable));
     }
 

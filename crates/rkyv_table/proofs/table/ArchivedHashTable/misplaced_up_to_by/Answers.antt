@@ -1,9 +1,10 @@
 use Rattle.std.proofs.lemmas.Grind.{common_steps}
-use Rattle.std.proofs.Common.{◌≡◌, ◌∙◌, ◌+◌, ◌<◌, ◌^◌, ◌⊎◌, arith, sym, ap, subst, zero-add, length, filter, rules}
+use Rattle.std.proofs.Common.{◌≡◌, ◌∙◌, ◌+◌, ◌-◌, arith, sym, ap, subst, zero-add, length, filter}
 use Rattle.std.specs.List.{All, sum_by}
 use Rattle.rkyv_scan.specs.{generic_kind}
-use Rattle.rkyv_table.specs.{IsWalked, bucket_misplaced, bucket_strides, cap_at, table_bytes, table_controls, table_pos, table_strides, walk}
-use Rattle.rkyv_table.proofs.MisplacedIn.{Spending, counted_none, counted_one, left_walked, next_walked, past_all, past_cut, reads_on, spent_one}
+use Rattle.rkyv_table.specs.{IsWalked, bucket_misplaced, bucket_strides, cap_at, count_after, table_bytes, table_controls, table_pos, walk}
+use Rattle.rkyv_table.proofs.Counts.{counted_part, counted_rest, cut_at, not_cut, one_within, passed_limit, spent_on}
+use Rattle.rkyv_table.proofs.MisplacedIn.{Spending, counted_none, counted_one, left_walked, next_walked, spent_one}
 use Rattle.rkyv_table.proofs.RawWalks.{walk_count, walked_all}
 use Rattle.rkyv_table.proofs.Walks.{walk_small}
 use Rattle.rkyv_table.proofs.table.ArchivedHashTable.misplaced_up_to_by.Goals as goal
@@ -27,31 +28,33 @@ loop-bucket-init g c =
       counting = λ hash_of same hash_as same_as.
           zero-add _ ∙ ap (λ xs. length (filter (bucket_misplaced generic_kind c.args.self hash_of same) xs)) e;
       spent = grind (arith, common_steps);
-      within = omega (arith, c.count-before.ensures, c.requires.room);
+      within = omega arith;
+      read = grind (arith, common_steps);
     }
 
 -- the strides of the lookup are counted
 module _ (g : _) (c : After-is_misplaced-is_misplaced g) where
-  spent : Spending c.args.self (goal.H-post g c.args.hash_of) (goal.S-post g c.args.same) c.count-before.result c.is_misplaced-is_misplaced.new.strides c.next.new.self
-  spent = spent_one c.args.self _ _ c.count-before.result c.loop-bucket.strides c.is_misplaced-is_misplaced.new.strides c.in-Some.bucket c.loop-bucket.bucket-iterator c.next.new.self c.in-Some.ensures.steps
-      c.is_misplaced-is_misplaced.ensures.counts c.loop-bucket.invariant.spent
+  spent : Spending c.args.self (goal.H-post g c.args.hash_of) (goal.S-post g c.args.same) (c.args.limit - c.loop-bucket.left + c.is_misplaced-is_misplaced.new.strides) c.next.new.self
+  spent = spent_one c.args.self _ _ (c.args.limit - c.loop-bucket.left) c.new-own.result c.is_misplaced-is_misplaced.new.strides c.in-Some.bucket c.loop-bucket.bucket-iterator c.next.new.self
+      c.in-Some.ensures.steps c.new-own.ensures c.is_misplaced-is_misplaced.ensures.counts c.loop-bucket.invariant.spent
 
 pub item-item-requires : goal.item-item-requires
 item-item-requires g c = next_walked c.args.self c.in-Some.bucket c.loop-bucket.bucket-iterator c.next.new.self c.in-Some.ensures.steps c.loop-bucket.invariant.walked
 
-pub returns-then-is_past-clause-counts : goal.returns-then-is_past-clause-counts
-returns-then-is_past-clause-counts g c = λ hash_of same hash_as same_as.
-    let all = spent g (goal.at.returns-then-is_past-clause-counts g c).After-is_misplaced-is_misplaced hash_of same hash_as same_as in
-    let strides = table_strides generic_kind c.args.self hash_of same in
-    subst (λ n. (c.args.limit < strides) ⊎ (2 ^ 63 < n + strides)) c.count-before.ensures
-    (past_all c.count-before.result _ _ strides (sum_by (bucket_strides generic_kind c.args.self hash_of same) c.next.new.self) all (rw c.count.ensures at c.is_past.ensures.past c.if-is_past.true))
+pub returns-then-read-left-clause-counts : goal.returns-then-read-left-clause-counts
+returns-then-read-left-clause-counts g c = λ hash_of same hash_as same_as.
+    let at = (goal.at.returns-then-read-left-clause-counts g c).After-is_misplaced-is_misplaced in
+    passed_limit c.loop-bucket.invariant.within c.count-read.ensures _ _ (spent g at hash_of same hash_as same_as) c.if-read-left.true
 
-pub returns-then-is_past-clause-counted : goal.returns-then-is_past-clause-counted
-returns-then-is_past-clause-counted g c = search (rules, spent)
+pub returns-then-read-left-clause-counted : goal.returns-then-read-left-clause-counted
+returns-then-read-left-clause-counted g c = λ hash_of same hash_as same_as.
+    let at = (goal.at.returns-then-read-left-clause-counted g c).After-is_misplaced-is_misplaced in
+    counted_part c.args.limit c.loop-bucket.left c.count-read.result c.args.strides.now c.loop-bucket.invariant.within c.loop-bucket.invariant.read c.add.ensures _ _ _ c.count-read.ensures (spent g at hash_of same hash_as same_as)
 
-pub returns-then-is_past-clause-bounded : goal.returns-then-is_past-clause-bounded
-returns-then-is_past-clause-bounded g c =
-    past_cut c.count-before.ensures c.is_misplaced-is_misplaced.ensures.counts.bounded c.loop-bucket.invariant.within (rw c.count.ensures at c.is_past.ensures.past c.if-is_past.true)
+pub returns-then-read-left-clause-bounded : goal.returns-then-read-left-clause-bounded
+returns-then-read-left-clause-bounded g c =
+    cut_at c.args.limit c.loop-bucket.left c.count-read.result c.args.strides.now c.loop-bucket.invariant.within c.loop-bucket.invariant.read c.add.ensures _ c.if-read-left.true
+    (one_within _ _ _ _ _ c.new-own.ensures c.is_misplaced-is_misplaced.ensures.counts.bounded c.count-read.ensures)
 
 pub loop-bucket-preserved-then-is_misplaced : goal.loop-bucket-preserved-then-is_misplaced
 loop-bucket-preserved-then-is_misplaced g c =
@@ -64,8 +67,9 @@ loop-bucket-preserved-then-is_misplaced g c =
       few = omega (arith, l, c.loop-bucket.invariant.few);
       counting = counted_one c.args.self _ _ c.loop-bucket.misplaced c.in-Some.bucket c.loop-bucket.bucket-iterator c.next.new.self c.in-Some.ensures.steps c.is_misplaced-is_misplaced.result
           c.is_misplaced-is_misplaced.ensures.exact c.loop-bucket.invariant.counting c.if-is_misplaced.true;
-      spent = spent g at.After-is_misplaced-is_misplaced;
-      within = omega (arith, reads_on _ _ _ _ c.is_misplaced-is_misplaced.ensures.counts.bounded, c.loop-bucket.invariant.within, c.count.ensures, c.is_past.ensures.within c.if-is_past.false);
+      spent = λ hash_of same hash_as same_as. spent_on c.loop-bucket.invariant.within c.count-read.ensures _ _ (spent g at.After-is_misplaced-is_misplaced hash_of same hash_as same_as) c.if-read-left.false;
+      within = omega (arith, c.loop-bucket.invariant.within);
+      read = counted_rest c.args.limit c.loop-bucket.left c.count-read.result c.args.strides.now c.loop-bucket.invariant.within c.loop-bucket.invariant.read c.add.ensures c.if-read-left.false;
     }
 
 pub loop-bucket-preserved : goal.loop-bucket-preserved
@@ -79,8 +83,9 @@ loop-bucket-preserved g c =
       few = omega (arith, l, c.loop-bucket.invariant.few);
       counting = counted_none c.args.self _ _ c.loop-bucket.misplaced c.in-Some.bucket c.loop-bucket.bucket-iterator c.next.new.self c.in-Some.ensures.steps c.is_misplaced-is_misplaced.result
           c.is_misplaced-is_misplaced.ensures.exact c.loop-bucket.invariant.counting c.if-is_misplaced.false;
-      spent = spent g at.After-is_misplaced-is_misplaced;
-      within = omega (arith, reads_on _ _ _ _ c.is_misplaced-is_misplaced.ensures.counts.bounded, c.loop-bucket.invariant.within, c.count.ensures, c.is_past.ensures.within c.if-is_past.false);
+      spent = λ hash_of same hash_as same_as. spent_on c.loop-bucket.invariant.within c.count-read.ensures _ _ (spent g at.After-is_misplaced-is_misplaced hash_of same hash_as same_as) c.if-read-left.false;
+      within = omega (arith, c.loop-bucket.invariant.within);
+      read = counted_rest c.args.limit c.loop-bucket.left c.count-read.result c.args.strides.now c.loop-bucket.invariant.within c.loop-bucket.invariant.read c.add.ensures c.if-read-left.false;
     }
 
 pub returns-clause-counts : goal.returns-clause-counts
@@ -90,12 +95,15 @@ returns-clause-counts g c = λ hash_of same hash_as same_as.
     let counting = c.loop-bucket.invariant.counting hash_of same hash_as same_as in
     let rest = ap (sum_by (bucket_strides generic_kind c.args.self hash_of same)) none in
     let spent = c.loop-bucket.invariant.spent hash_of same hash_as same_as in
-    let most = c.loop-bucket.invariant.within.1 in
-    let small = c.loop-bucket.invariant.within.2 in
-    (omega (arith, rest, spent, most), omega (arith, rest, spent, small, c.count-before.ensures), omega (arith, n, counting))
+    let within = c.loop-bucket.invariant.within in
+    (omega (arith, rest, spent, within), omega (arith, n, counting))
 
 pub returns-clause-counted : goal.returns-clause-counted
 returns-clause-counted g c = λ hash_of same hash_as same_as.
     let none = c.in-None.ensures.steps.0 in
     let rest = ap (sum_by (bucket_strides generic_kind c.args.self hash_of same)) none in
-    omega (arith, rest, c.loop-bucket.invariant.spent hash_of same hash_as same_as, c.count-before.ensures)
+    let spent = c.loop-bucket.invariant.spent hash_of same hash_as same_as in
+    c.loop-bucket.invariant.read ∙ ap (count_after c.args.strides.now) (omega (arith, rest, spent))
+
+pub returns-clause-bounded : goal.returns-clause-bounded
+returns-clause-bounded g c = not_cut c.args.limit c.loop-bucket.left _ _ _ _ c.loop-bucket.invariant.within c.loop-bucket.invariant.read

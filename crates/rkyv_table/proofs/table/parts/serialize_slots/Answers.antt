@@ -3,7 +3,7 @@ use Rattle.std.proofs.lemmas.Grind.{common_steps}
 use Rattle.std.proofs.lemmas.Result.{err_from_is_err_and}
 use Rattle.std.proofs.lemmas.List.{take_all, get_or_default}
 use Rattle.rkyv_base.specs.{written_as}
-use Rattle.rkyv_base.proofs.WritingSteps.{appends_after, grows, within_after}
+use Rattle.rkyv_base.specs.Lemmas.Writing.{appends_after, grows, within_after}
 use Rattle.rkyv_table.proofs.PartSteps.{step_fails, step_none, step_room, step_some}
 use Rattle.rkyv_table.proofs.table.parts.serialize_slots.Goals as goal
 use Rattle.rkyv_table.proofs.table.parts.serialize_slots.Goals.{in-Some+in_ok-resolver, in_default}
