@@ -11,12 +11,12 @@ use Rattle.rkyv_base.specs.{IsAt, IsElement, IsValidView, archive_of, entry_spec
 use Rattle.rkyv_base.specs.declared.entry.Entry.{Entry}
 use Rattle.rkyv_base.specs.declared.view.View.{View}
 use Rattle.rkyv_keys.specs.{Comparison, IsQuery, hash_at}
-use Rattle.rkyv_table.specs.{ComparesBy, FindsFirst, FindsFound, FindsItem, IsItem, IsUnderHash, WrittenAt, home_positions, pos_found, table_bytes, table_pos}
+use Rattle.rkyv_table.specs.{ComparesBy, FindsFirst, FindsFound, FindsItem, IsItem, IsUnderHash, WrittenAt, home_positions, item_found, pos_found, table_bytes, table_pos}
 use Rattle.rkyv_table.specs.declared.table.ArchivedHashTable.{ArchivedHashTable}
 use Rattle.rkyv_collections.specs.{AreUnderHash, ComparesKeysBy, FindsBy, FindsFirstBy, FindsKey, FindsOneKey, IsAcceptedKey, IsEntryIn, IsMap, IsViewAt, MapWrittenAt, map_archive, map_bytes, map_pos}
 use Rattle.rkyv_collections.specs.declared.map.ArchivedHashMap.{ArchivedHashMap}
 use Rattle.rkyv_collections.proofs.Lookups.{entry_of_item, key_of_entry, under_hash}
-use Rattle.rkyv_collections.proofs.MisplacedKeys.{finds_the_one}
+use Rattle.rkyv_collections.proofs.MisplacedKeys.{finds_only_key}
 
 module _ {K V H W : Type 0} {ks : Specs K} {vs : Specs V} {wt : Words W} (m : ArchivedHashMap K V H W ks vs wt) (t : ArchivedHashTable (Entry K V) W (entry_specs ks vs) wt) (at : IsAt t.view (map_archive m) (map_pos m)) where
   same : table_bytes t ≡ map_bytes m
@@ -85,10 +85,14 @@ module _ {K V H W : Type 0} {ks : Specs K} {vs : Specs V} {wt : Words W} (m : Ar
         found hashes homes accept (written_there hashes homes written) (entry_compared by_key accept compares) (under_there hash query_hash key_hash accept homes same_hash under written)
         ∙ ap (find accept) (positions_there homes)
 
--- if no key is misplaced, a lookup under the hash of a query finds the one key that fits
+-- if no key is misplaced, a lookup under the hash of a query finds the only key that fits
 pub one_found : {K V H W Q State : Type 0} {ks : Specs K} {vs : Specs V} {wt : Words W} (m : ArchivedHashMap K V H W ks vs wt) (kl : IsElement ks.spec) (vl : IsElement vs.spec) (hasher : Hasher State)
     (same_key : Comparison) (key_calls : List ℕ → ℕ → List HasherCall) (calls : Q → List HasherCall) (fits : Q → List ℕ → ℕ → Bool)
     → IsQuery ks.spec same_key key_calls calls fits → IsMap m → (q : Q) → hash_of_calls hasher (calls q) < 2 ^ 64 → (P : Option ℕ → Type 0)
     → FindsKey m (hash_of_calls hasher (calls q)) (fits q (map_bytes m)) P
     → FindsOneKey m (hash_at hasher key_calls) same_key (fits q (map_bytes m)) P
-one_found {ks = ks} {vs = vs} {wt = wt} m kl vl hasher same_key key_calls calls fits query is q small P found = grind (arith, common_steps, finds_the_one)
+one_found {ks = ks} {vs = vs} {wt = wt} m kl vl hasher same_key key_calls calls fits query is q small P found = λ none. (
+  item_found wt.word (entry_spec ks.spec vs.spec).size (map_bytes m) (map_pos m) (hash_of_calls hasher (calls q)) (fits q (map_bytes m)),
+  finds_only_key wt.word ks.spec vs.spec kl vl hasher same_key key_calls calls fits query (map_bytes m) (map_pos m) is q small none,
+  found,
+)

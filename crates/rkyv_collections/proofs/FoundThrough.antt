@@ -9,7 +9,7 @@ use Rattle.rkyv_scan.specs.{Hasher, HasherCall, hash_of_calls}
 use Rattle.rkyv_base.specs.{ElementSpec, IsElement}
 use Rattle.rkyv_base.specs.declared.entry.Entry.{Entry}
 use Rattle.rkyv_base.specs.declared.view.View.{View}
-use Rattle.rkyv_keys.specs.{Comparison, IsQuery, KeyLookup, hash_at, query_of}
+use Rattle.rkyv_keys.specs.{Comparison, IsQuery, KeyLookup, LookupHashes, hash_at, query_of}
 use Rattle.rkyv_collections.specs.{ComparesKeysBy, GetsBy, GetsKey, IsEntryIn, IsMap, IsPairAt, IsPairIn, IsPairOfEntry, IsValueAt, IsValueIn, IsValueOfEntry, IsViewAt, Part, entry_part, key_part, map_bytes, pair_part, value_part}
 use Rattle.rkyv_collections.specs.declared.map.ArchivedHashMap.{ArchivedHashMap}
 use Rattle.rkyv_collections.proofs.FoundEntries.{one_found}
@@ -27,8 +27,8 @@ module _ {K V H W : Type 0} {ks : Specs K} {vs : Specs V} {wt : Words W} (m : Ar
       complete = λ none. let one = h.complete none in (one.0, one.1, at one.0 one.2);
     }
 
-    pub by_through : (hash : ℕ) (key_hash : List ℕ → ℕ → ℕ) (post : View K → Bool → Type 0) → GetsBy part m hash key_hash post found → GetsBy out m hash key_hash post result
-    by_through hash key_hash post h = grind arith
+    pub by_through : (hashes : LookupHashes) (post : View K → Bool → Type 0) → GetsBy part m hashes post found → GetsBy out m hashes post result
+    by_through hashes post h = grind arith
 
   -- a lookup by a comparison with the keys that a query fits is a lookup of the query
   pub gets_query : {Q X State : Type 0} (hasher : Hasher State) (kl : IsElement ks.spec) (vl : IsElement vs.spec) (same_key : Comparison) (key_calls : List ℕ → ℕ → List HasherCall)
@@ -36,7 +36,7 @@ module _ {K V H W : Type 0} {ks : Specs K} {vs : Specs V} {wt : Words W} (m : Ar
       → (q : Q) → hash_of_calls hasher (calls q) < 2 ^ 64
       → (post : View K → Bool → Type 0) → ((key : View K) (r : Bool) → post key r → r ≡ fits q key.archive.now key.pos)
       → (part : Part (ArchivedHashMap K V H W ks vs wt) X) (result : Option X)
-      → GetsBy part m (hash_of_calls hasher (calls q)) (hash_at hasher key_calls) post result → GetsKey part m (query_of hasher key_calls same_key (calls q) (fits q)) result
+      → GetsBy part m (record { hash = hash_of_calls hasher (calls q); key_hash = hash_at hasher key_calls }) post result → GetsKey part m (query_of hasher key_calls same_key (calls q) (fits q)) result
   gets_query hasher kl vl same_key key_calls calls fits query is q small post tells part result h =
       let accept : ℕ → Bool = fits q (map_bytes m) in
       let compares : ComparesKeysBy m post accept = λ key r in_map e. tells key r e ∙ ap (λ (a : Bor (List ℕ)). fits q a.now key.pos) in_map.archive in
@@ -80,16 +80,16 @@ module _ {K V H W : Type 0} {ks : Specs K} {vs : Specs V} {wt : Words W} {m : Ar
   value_of_key {a} {result} got is =
       key_through m entry_part value_part found result (value_walked m found result is) (value_at ks.spec vs.spec found result is) a got
 
-  module _ {hash : ℕ} {key_hash : List ℕ → ℕ → ℕ} {post : View K → Bool → Type 0} where
-    pub pair_by : {result : Option (View K × View V)} → GetsBy entry_part m hash key_hash post found → IsPairOfEntry ks.spec vs.spec result found
-        → GetsBy pair_part m hash key_hash post result
+  module _ {hashes : LookupHashes} {post : View K → Bool → Type 0} where
+    pub pair_by : {result : Option (View K × View V)} → GetsBy entry_part m hashes post found → IsPairOfEntry ks.spec vs.spec result found
+        → GetsBy pair_part m hashes post result
     pair_by {result} got is =
-        by_through m entry_part pair_part found result (pair_walked m found result is) (pair_at ks.spec vs.spec found result is) hash key_hash post got
+        by_through m entry_part pair_part found result (pair_walked m found result is) (pair_at ks.spec vs.spec found result is) hashes post got
 
-    pub value_by : {result : Option (View V)} → GetsBy entry_part m hash key_hash post found → IsValueOfEntry ks.spec vs.spec result found
-        → GetsBy value_part m hash key_hash post result
+    pub value_by : {result : Option (View V)} → GetsBy entry_part m hashes post found → IsValueOfEntry ks.spec vs.spec result found
+        → GetsBy value_part m hashes post result
     value_by {result} got is =
-        by_through m entry_part value_part found result (value_walked m found result is) (value_at ks.spec vs.spec found result is) hash key_hash post got
+        by_through m entry_part value_part found result (value_walked m found result is) (value_at ks.spec vs.spec found result is) hashes post got
 
 -- a set returns the key of the pair
 module _ {K V H W : Type 0} {ks : Specs K} {vs : Specs V} {wt : Words W} {m : ArchivedHashMap K V H W ks vs wt} {a : KeyLookup} where

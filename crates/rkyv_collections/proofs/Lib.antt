@@ -26,3 +26,5 @@ pub mod FirstWrites
 pub mod ListArchives
 pub mod NestedWrites
 pub mod UppercaseTexts
+pub mod EachValue
+pub mod EachList

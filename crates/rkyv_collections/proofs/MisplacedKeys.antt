@@ -1,11 +1,8 @@
 -- Keys of a map that a lookup of their own doesn't find.
 use Rattle.std.proofs.lemmas.Grind.{common_steps}
-use Rattle.std.proofs.Common.{◌≡◌, ℕ, ◌^◌, ◌<◌, ◌||◌, ◌∷◌, [], ◌∙◌, inl, inr, refl, sym, ap, arith, subst, List, Bool, true, Option, Some, None, length, filter, map, take, slice_index}
-use Rattle.std.specs.Option.{option_map}
-use Rattle.std.specs.Prelude.{MatchOption}
+use Rattle.std.proofs.Common.{◌≡◌, ℕ, ◌^◌, ◌<◌, ◌||◌, ◌∷◌, [], ◌∙◌, inl, inr, refl, sym, ap, arith, subst, List, Bool, true, length, filter, map, take, slice_index}
 use Rattle.std.specs.Int.{Width}
 use Rattle.std.specs.List.{Contains, list_any, range_with_len}
-use Rattle.std.proofs.lemmas.Bool.{cases_eq}
 use Rattle.std.proofs.lemmas.List.{get_or-map, get_or_default, length-map, nil_from_length, take-map}
 use Rattle.rkyv_scan.specs.{Hasher, HasherCall, generic_kind, hash_of_calls}
 use Rattle.rkyv_scan.specs.Lemmas.KindLaws.{word_lawful}
@@ -14,12 +11,12 @@ use Rattle.rkyv_base.specs.{ElementSpec, IsElement, ValidAt, Viewable, entry_spe
 use Rattle.rkyv_base.specs.Lemmas.Entry.{entry_element}
 use Rattle.rkyv_keys.specs.{Comparison, IsEquivalence, IsQuery, hash_at}
 use Rattle.rkyv_keys.specs.Lemmas.OfEntries.{valid_key}
-use Rattle.rkyv_table.specs.{AcceptsSame, AloneAccepted, IsSameness, NoneAccepted, cap_at, found, home_positions, item_at, len_at, misplaced, pos_found, repeated, repeats_earlier, table_controls, walk}
-use Rattle.rkyv_table.proofs.ValidTable.{controls_accepted, item_viewable, no_items}
-use Rattle.rkyv_table.proofs.Misplaced.{complete, repeated_misplaced}
+use Rattle.rkyv_table.specs.{IsOnlyAccepted, IsSameness, cap_at, home_positions, item_at, item_found, misplaced, repeated, repeats_earlier, table_controls}
+use Rattle.rkyv_table.proofs.ValidTable.{item_viewable}
+use Rattle.rkyv_table.proofs.ItemLookups.{only_found}
+use Rattle.rkyv_table.proofs.Misplaced.{repeated_misplaced}
 use Rattle.rkyv_table.proofs.RawWalks.{walk_count}
-use Rattle.rkyv_table.proofs.Walks.{full_walked, walked_full}
-use Rattle.rkyv_collections.specs.{FindsTheOne, MapWrittenAt, RepeatedKeysAreMisplaced, map_misplaced, map_spec, pair_at}
+use Rattle.rkyv_collections.specs.{IsKeyPosAt, MapWrittenAt, RepeatedKeysAreMisplaced, map_misplaced, map_spec, pair_at}
 use Rattle.rkyv_collections.proofs.WrittenPairs.{hash_of_pair, len_is_count, pair_valid}
 
 -- the number of repeated items is that of repeated positions
@@ -66,54 +63,20 @@ module _ (w : Width) (k v : ElementSpec) (kl : IsElement k) (vl : IsElement v) (
           ∙ repeated_positions at (λ q r. same_key b q b r) homes
     ]
 
-  pub repeated_keys_misplaced : RepeatedKeysAreMisplaced w k v key_hash same_key
+  pub repeated_keys_misplaced : RepeatedKeysAreMisplaced w k v (record { hash = key_hash; same = same_key })
   repeated_keys_misplaced b p homes view written = repeated_keys b p homes view written
 
--- if no key is misplaced, a lookup finds the one key that fits
+-- if no key is misplaced, a lookup finds the only key that fits
 module _ {Q State : Type 0} (w : Width) (k v : ElementSpec) (kl : IsElement k) (vl : IsElement v) (hasher : Hasher State)
     (same : Comparison) (key_calls : List ℕ → ℕ → List HasherCall) (calls : Q → List HasherCall) (fits : Q → List ℕ → ℕ → Bool)
     (query : IsQuery k same key_calls calls fits) (b : List ℕ) (p : ℕ) (view : Viewable (map_spec w k v) b p) (q : Q)
     (small : hash_of_calls hasher (calls q) < 2 ^ 64) (none : map_misplaced w k v (hash_at hasher key_calls) same b p ≡ 0) where
-  abbrev size : ℕ
-  size = (entry_spec k v).size
+  key_valid : (r : ℕ) → IsKeyPosAt w k v b p r → ValidAt k b r
+  key_valid r at =
+      subst (ValidAt k b) (sym at.2) (valid_key kl vl b (item_at w (entry_spec k v).size b p at.0) (item_viewable w (entry_spec k v) (entry_element k v kl vl) b p view at.0 at.1).valid)
 
-  abbrev item_pos : ℕ → ℕ
-  item_pos = item_at w size b p
-
-  abbrev cap : ℕ
-  cap = cap_at w b p
-
-  abbrev controls : List ℕ
-  controls = table_controls w b p
-
-  abbrev hash : ℕ
-  hash = hash_of_calls hasher (calls q)
-
-  abbrev accept : ℕ → Bool
-  accept i = fits q b (item_pos i)
-
-  key_walked : (i : ℕ) → Contains (walk controls cap) i → ValidAt k b (item_pos i)
-  key_walked i c =
-      valid_key kl vl b (item_pos i) (item_viewable w (entry_spec k v) (entry_element k v kl vl) b p view i (walked_full cap controls i c)).valid
-
-  accepts_same : AcceptsSame controls cap hash accept (λ i. hash_at hasher key_calls b (item_pos i)) (λ i j. same b (item_pos i) b (item_pos j))
-  accepts_same = grind (arith, key_walked)
-
-  by_pos : (o : Option ℕ) → MatchOption o (NoneAccepted controls cap accept) (AloneAccepted controls cap accept) → FindsTheOne w size b p (fits q b) (option_map item_pos o)
-  by_pos None n = λ i walked. n i (full_walked cap controls i walked)
-  by_pos (Some i) a = record {
-    bucket = i;
-    walked = walked_full cap controls i a.walked;
-    at = refl;
-    fitting = a.accepted;
-    alone = λ j walked f. a.alone j (full_walked cap controls j walked) f;
-  }
-
-  pub finds_the_one : FindsTheOne w size b p (fits q b) (pos_found generic_kind w size b p hash (fits q b))
-  finds_the_one = elim (cases_eq cap 0) [
-    | inl z ↦ grind (arith, common_steps, no_items w (entry_spec k v) (entry_element k v kl vl) b p view z, entry_element k v kl vl, by_pos, walked_full)
-    | inr some ↦
-        by_pos (found generic_kind controls cap (len_at w b p) hash accept)
-        (complete generic_kind cap (len_at w b p) hash controls accept (λ i. hash_at hasher key_calls b (item_pos i)) (λ i j. same b (item_pos i) b (item_pos j)) word_lawful
-        (controls_accepted w (entry_spec k v) (entry_element k v kl vl) b p view (omega arith)) small none accepts_same)
-  ]
+  pub finds_only_key : IsOnlyAccepted w (entry_spec k v).size b p (fits q b) (item_found w (entry_spec k v).size b p (hash_of_calls hasher (calls q)) (fits q b))
+  finds_only_key =
+      only_found w (entry_spec k v) (entry_element k v kl vl) b p (hash_of_calls hasher (calls q)) (fits q b) (hash_at hasher key_calls b) (λ r s. same b r b s) view small none
+      (λ r at ok. ap (hash_of_calls hasher) (sym (query.same_calls q b r (key_valid r at) ok)))
+      (λ r s at other ok. query.respects_same q b b r s (key_valid r at) (key_valid s other) ok)

@@ -15,7 +15,7 @@ use Rattle.rkyv_table.proofs.Moved.{moved}
 use Rattle.rkyv_table.proofs.SealedTable.{value_kept}
 use Rattle.rkyv_base.specs.declared.entry.Entry.{Entry}
 use Rattle.rkyv_collections.specs.{AreUnderHashAt, ComparesKeysBy, ComparesKeysByAt, FindsBy, FindsFirstBy, FindsFirstKey, FindsFirstKeyAt, FindsKey, FindsKeyAt, FindsOneKey, FindsOneKeyAt, FoundByHasAt, FoundKeyHasAt, IsAcceptedKey, IsEntryIn, IsKeyAt, IsKeyIn, IsKeyPosAt, IsPairPos, IsValueIn, IsViewAt, MapAt, map_at, map_bytes, map_pos, map_spec}
-use Rattle.rkyv_keys.specs.{KeyLookup}
+use Rattle.rkyv_keys.specs.{KeyLookup, LookupHashes}
 use Rattle.rkyv_collections.specs.declared.map.ArchivedHashMap.{ArchivedHashMap}
 
 module _ (w : Width) (k v : ElementSpec) (kl : IsElement k) (vl : IsElement v) (b : List ℕ) (p : ℕ) (view : Viewable (map_spec w k v) b p) where
@@ -77,13 +77,13 @@ module _ {K V H W : Type 0} {ks : Specs K} {vs : Specs V} {wt : Words W} (m : Ar
       pub first_key_read : (key_hash : List ℕ → ℕ → ℕ) (fits : List ℕ → ℕ → Bool) → FindsFirstKey m key_hash (fits (map_bytes m)) Fact → FindsFirstKeyAt wt.word ks.spec vs.spec b p key_hash (fits b) Implied
       first_key_read key_hash fits found = λ homes written. implies _ (as_read (λ c q. FindsFirstKeyAt wt.word ks.spec vs.spec c q key_hash (fits c) Fact) found homes written)
 
-      pub found_by_read : (hash : ℕ) (key_hash : List ℕ → ℕ → ℕ) (post : View K → Bool → Type 0) → ((key_pos : Option ℕ) × Fact key_pos × IfSome key_pos (IsAcceptedKey m post)) → FindsBy m post hash Fact → FindsFirstBy m post hash key_hash Fact
-          → FoundByHasAt (map_at wt ks vs b p) hash key_hash post Implied
-      found_by_read hash key_hash post accepted finds first = record {
+      pub found_by_read : (hashes : LookupHashes) (post : View K → Bool → Type 0) → ((key_pos : Option ℕ) × Fact key_pos × IfSome key_pos (IsAcceptedKey m post)) → FindsBy m post hashes.hash Fact → FindsFirstBy m post hashes.hash hashes.key_hash Fact
+          → FoundByHasAt (map_at wt ks vs b p) hashes post Implied
+      found_by_read hashes post accepted finds first = record {
         accepted = (accepted.0, implies accepted.0 accepted.1, IfSome_then accepted.0 accepted.2 (λ q a. (a.0, key_at a.0 a.1, a.2, a.3)));
-        finds = λ accept compares. key_read hash (λ c. accept) (finds accept (compares_read post accept compares));
+        finds = λ accept compares. key_read hashes.hash (λ c. accept) (finds accept (compares_read post accept compares));
         first = λ accept compares under.
-            first_key_read key_hash (λ c. accept) (first accept (compares_read post accept compares) (moved (λ c q. AreUnderHashAt wt.word ks.spec vs.spec c q hash key_hash accept) b (map_bytes m) p (map_pos m) (sym bytes) (sym same_pos) under));
+            first_key_read hashes.key_hash (λ c. accept) (first accept (compares_read post accept compares) (moved (λ c q. AreUnderHashAt wt.word ks.spec vs.spec c q hashes.hash hashes.key_hash accept) b (map_bytes m) p (map_pos m) (sym bytes) (sym same_pos) under));
       }
 
       pub satisfies_read : (a : KeyLookup) → FindsKey m a.hash (a.fits (map_bytes m)) Fact → FindsFirstKey m a.key_hash (a.fits (map_bytes m)) Fact → FindsOneKey m a.key_hash a.same (a.fits (map_bytes m)) Fact → FoundKeyHasAt (map_at wt ks vs b p) a Implied
@@ -103,9 +103,9 @@ satisfies_implied m a Fact Implied implies t = record {
   complete = λ none. let one = t.complete none in (one.0, one.1, implies one.0 one.2);
 }
 
-pub satisfies_implied_by : {K : Type 0} (m : MapAt) (hash : ℕ) (key_hash : List ℕ → ℕ → ℕ) (post : View K → Bool → Type 0) (Fact Implied : Option ℕ → Type 0) → ((key_pos : Option ℕ) → Fact key_pos → Implied key_pos)
-    → FoundByHasAt m hash key_hash post Fact → FoundByHasAt m hash key_hash post Implied
-satisfies_implied_by m hash key_hash post Fact Implied implies t = record {
+pub satisfies_implied_by : {K : Type 0} (m : MapAt) (hashes : LookupHashes) (post : View K → Bool → Type 0) (Fact Implied : Option ℕ → Type 0) → ((key_pos : Option ℕ) → Fact key_pos → Implied key_pos)
+    → FoundByHasAt m hashes post Fact → FoundByHasAt m hashes post Implied
+satisfies_implied_by m hashes post Fact Implied implies t = record {
   accepted = (t.accepted.0, implies t.accepted.0 t.accepted.1, t.accepted.2);
   finds = λ accept compares. implies _ (t.finds accept compares);
   first = λ accept compares under homes written. implies _ (t.first accept compares under homes written);

@@ -19,6 +19,7 @@ pub mod InPlace
 pub mod ListArchives
 pub mod NestedWrites
 pub mod InPlaceText
+pub mod EachValue
 use Rattle.rkyv_base.specs.declared.element.HasSpec.{Ghosts as Specs}
 use Rattle.rkyv_base.specs.declared.width.Word.{Ghosts as Words}
 use Rattle.std.specs.Prelude.{◌≡◌, ℕ, ◌+◌, List, Bool, true, Option, map}
@@ -26,12 +27,12 @@ use Rattle.std.specs.Borrow.{Bor}
 use Rattle.std.specs.Int.{Width}
 use Rattle.std.specs.List.{find}
 use Rattle.std.specs.Option.{option_map}
-use Rattle.rkyv_scan.specs.{generic_kind}
 use Rattle.rkyv_base.specs.{ElementSpec, IsAt, IsValidView, archive_of, bytes_of, entry_spec}
 use Rattle.rkyv_base.specs.{pos_of, pos_of_found, value_offset}
 use Rattle.rkyv_base.specs.declared.entry.Entry.{Entry}
 use Rattle.rkyv_base.specs.declared.view.View.{View}
-use Rattle.rkyv_table.specs.{WrittenAt, cap_at, home_positions, item_positions, len_at, pos_found}
+use Rattle.rkyv_table.specs.{WrittenAt, cap_at, home_positions, item_found, item_positions, len_at}
+use Rattle.rkyv_table.specs.declared.table.decoded.Decoded.{Decoded}
 use Rattle.rkyv_collections.specs.declared.map.ArchivedHashMap.{ArchivedHashMap}
 use Rattle.rkyv_collections.specs.declared.map.HashMapOf.{HashMapOf}
 use Rattle.rkyv_collections.specs.Map.MapSpec.{IsKeyPosAt, map_spec}
@@ -44,6 +45,10 @@ module _ {K V H W : Type 0} {ks : Specs K} {vs : Specs V} {wt : Words W} where
   -- the view of the map's header
   abbrev pub map_view : ArchivedHashMap K V H W ks vs wt → View (HashMapOf K V H W)
   map_view m = m.view
+
+  -- the decoded header of the map
+  abbrev pub map_header : ArchivedHashMap K V H W ks vs wt → Decoded
+  map_header m = m.header
 
   -- the archive of the map
   abbrev pub map_archive : ArchivedHashMap K V H W ks vs wt → Bor (List ℕ)
@@ -76,9 +81,9 @@ module _ {K V H W : Type 0} {ks : Specs K} {vs : Specs V} {wt : Words W} where
 
   -- the view is that of a key of the map
   pub record IsKeyIn (m : ArchivedHashMap K V H W ks vs wt) (key : View K) : Type 0 where
-    pub archive : key.archive ≡ map_archive m
+    pub archive : archive_of key ≡ map_archive m
     pub viewable : IsValidView ks.spec key
-    pub key_pos : IsKeyPos m key.pos
+    pub key_pos : IsKeyPos m (pos_of key)
 
   -- the view is that of the value behind a key of the map
   pub record IsValueIn (m : ArchivedHashMap K V H W ks vs wt) (value : View V) : Type 0 where
@@ -95,8 +100,8 @@ module _ {K V H W : Type 0} {ks : Specs K} {vs : Specs V} {wt : Words W} where
 
   -- the view is that of an entry of the map
   abbrev pub IsEntryIn : ArchivedHashMap K V H W ks vs wt → View (Entry K V) → Type 0
-  IsEntryIn m entry = (entry.archive ≡ map_archive m)
-      × IsValidView (entry_spec ks.spec vs.spec) entry × IsKeyPos m entry.pos
+  IsEntryIn m entry = (archive_of entry ≡ map_archive m)
+      × IsValidView (entry_spec ks.spec vs.spec) entry × IsKeyPos m (pos_of entry)
 
 -- the table at `p` was written from entries under the hashes of their keys, in insertion order,
 -- with the home buckets `homes`
@@ -113,7 +118,7 @@ module _ (w : Width) (k v : ElementSpec) (b : List ℕ) (p : ℕ) where
   -- the property applies to the position of the key that a lookup under the hash finds,
   -- or to `None`
   abbrev pub FindsKeyAt : ℕ → (ℕ → Bool) → (Option ℕ → Type 0) → Type 0
-  FindsKeyAt hash accept P = P (pos_found generic_kind w (entry_spec k v).size b p hash accept)
+  FindsKeyAt hash accept P = P (item_found w (entry_spec k v).size b p hash accept)
 
   -- if the map at `p` was written, the property applies to the position of the first accepted key
   -- in insertion order, or to `None`
@@ -131,7 +136,7 @@ module _ {K V H W : Type 0} {ks : Specs K} {vs : Specs V} {wt : Words W}
   -- the comparison returns `accept` of the position of a key
   abbrev pub ComparesKeysBy : (View K → Bool → Type 0) → (ℕ → Bool) → Type 0
   ComparesKeysBy post accept = (key : View K) (r : Bool) → IsKeyIn m key → post key r
-      → r ≡ accept key.pos
+      → r ≡ accept (pos_of key)
 
   -- each accepted key of the map is under the hash
   abbrev pub AreUnderHash : ℕ → (List ℕ → ℕ → ℕ) → (ℕ → Bool) → Type 0

@@ -9,14 +9,14 @@ use Rattle.std.specs.Borrow.{Bor}
 use Rattle.std.specs.Int.{Width}
 use Rattle.rkyv_base.specs.{ElementSpec, IsAt, unit_spec}
 use Rattle.rkyv_base.specs.declared.view.View.{View}
-use Rattle.rkyv_keys.specs.{Comparison, KeyLookup, unit_same}
+use Rattle.rkyv_keys.specs.{ArchivedKeys, Comparison, KeyLookup, unit_same}
 use Rattle.rkyv_collections.specs.Map.Equality.{map_equal}
 use Rattle.rkyv_collections.specs.Map.Lookups.{FoundKeyHas, GetsKey, key_part}
 use Rattle.rkyv_collections.specs.Map.{key_positions, map_archive, map_bytes}
 use Rattle.rkyv_collections.specs.Map.{map_cap, map_len, map_pos}
 use Rattle.rkyv_collections.specs.Map.MapSpec.{map_spec}
 use Rattle.rkyv_collections.specs.Map.{map_view}
-use Rattle.rkyv_collections.specs.Map.Misplaced.{map_misplaced}
+use Rattle.rkyv_collections.specs.Map.Misplaced.{CountsKeysUpTo, misplaced_keys}
 use Rattle.rkyv_collections.specs.declared.map.HashMapOf.{HashMapOf}
 use Rattle.rkyv_collections.specs.declared.set.ArchivedHashSet.{ArchivedHashSet}
 
@@ -70,5 +70,12 @@ abbrev pub set_equal : Width → ElementSpec → (List ℕ → ℕ → ℕ) → 
 set_equal w k key_hash same = map_equal w k unit_spec key_hash same unit_same
 
 -- the number of keys that a lookup of their own doesn't find
-abbrev pub set_misplaced : Width → ElementSpec → (List ℕ → ℕ → ℕ) → Comparison → List ℕ → ℕ → ℕ
-set_misplaced w k key_hash same = map_misplaced w k unit_spec key_hash same
+abbrev pub set_misplaced : {K H W : Type 0} {ks : Specs K} {wt : Words W}
+    → ArchivedHashSet K H W ks wt → ArchivedKeys → ℕ
+set_misplaced s keys = misplaced_keys s.map keys
+
+-- `result`: number of misplaced keys of a set, or `None` if the lookups of all keys read more
+-- than `limit` strides, or more than 2^63
+abbrev pub CountsMembersUpTo : {K H W : Type 0} {ks : Specs K} {wt : Words W}
+    → ArchivedHashSet K H W ks wt → ArchivedKeys → ℕ → Option ℕ → Type 0
+CountsMembersUpTo s keys limit result = CountsKeysUpTo s.map keys limit result

@@ -6,7 +6,7 @@
 //! - `laws` has laws that a proof cites.
 ghost use Rattle.std.specs.Prelude.{MatchResult, Ok, ◌≡◌, ⊤};
 ghost use Rattle.rkyv_base.specs.Lemmas.ElementSpec.{viewable_prop};
-ghost use Rattle.rkyv_base.specs.{IsValidView};
+ghost use Rattle.rkyv_base.specs.{IsValidView, bytes_of, pos_of};
 ghost use Rattle.rkyv_table.specs.{IsDecoded};
 ghost use Rattle.rkyv_collections.specs.Map.MapSpec.{map_spec};
 ghost use Rattle.rkyv_collections.specs.Lemmas.MapElement.{map_element};
@@ -37,8 +37,8 @@ pub struct ArchivedHashMap<'a, K: HasSpec, V: HasSpec, H = FxHasher64, W: Word =
     pub(crate) header: Decoded,
     ghost valid: { IsValidView (map_spec W.word K.spec V.spec) view } by { viewable_prop (map_spec
         W.word K.spec V.spec)
-        (map_element W.word W.kind K.spec V.spec K.laws V.laws) view.archive.now view.pos },
-    ghost decoded: { IsDecoded W.word view.archive.now view.pos header },
+        (map_element W.word W.kind K.spec V.spec K.laws V.laws) (bytes_of view) (pos_of view) },
+    ghost decoded: { IsDecoded W.word (bytes_of view) (pos_of view) header },
 }
 
 impl<'a, K: HasSpec, V: HasSpec, H, W: Word> Clone for ArchivedHashMap<'a, K, V, H, W> {

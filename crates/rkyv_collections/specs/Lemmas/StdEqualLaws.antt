@@ -18,7 +18,7 @@ use Rattle.rkyv_base.specs.{ValidAt, Viewable, entry_spec, value_offset}
 use Rattle.rkyv_base.specs.Lemmas.Entry.{entry_element}
 use Rattle.rkyv_keys.specs.{Comparison, FitsItsEqual, IsQuery, hash_at, hash_of}
 use Rattle.rkyv_keys.specs.Lemmas.OfEntries.{valid_key}
-use Rattle.rkyv_table.specs.{home_positions, item_at, pos_found}
+use Rattle.rkyv_table.specs.{home_positions, item_at, item_found}
 use Rattle.rkyv_table.proofs.FirstFound.{first_found}
 use Rattle.rkyv_table.proofs.ValidTable.{item_viewable}
 use Rattle.rkyv_table.proofs.WrittenTables.{home_pos, home_walked}
@@ -103,7 +103,7 @@ module _ (w : Width) (k v : ElementSpec) (kl : IsElement k) (vl : IsElement v) {
         (omega (arith, inside, count))
 
     pair_found : (n : ℕ) (y : A × B) → slice_get pairs n ≡ Some y
-        → pos_found generic_kind w size b p (own y.0) (fits y.0 b) ≡ Some (item_pos n)
+        → item_found w size b p (own y.0) (fits y.0 b) ≡ Some (item_pos n)
     pair_found n y e =
         let inside = slice_get_within pairs n y e in
         let below : n < length st.homes = omega (arith, inside, homes_count st) in

@@ -1,10 +1,10 @@
 -- Lookups under two hashers that differ in `usize` and `isize` alone.
 use Rattle.std.specs.Prelude.{◌≡◌, ℕ, All, Bool, List, Option}
 use Rattle.std.specs.Int.{Width}
-use Rattle.rkyv_scan.specs.{HasherCall, IsFixed, SizeWords, fx_hash, generic_kind}
+use Rattle.rkyv_scan.specs.{HasherCall, IsFixed, SizeWords, fx_hash}
 use Rattle.rkyv_base.specs.{ElementSpec, Viewable, entry_spec}
 use Rattle.rkyv_keys.specs.{fx_hash_at}
-use Rattle.rkyv_table.specs.{pos_found}
+use Rattle.rkyv_table.specs.{item_found}
 use Rattle.rkyv_collections.specs.Map.{MapWrittenAt}
 use Rattle.rkyv_collections.specs.Map.MapSpec.{map_spec}
 
@@ -12,7 +12,7 @@ module _ (w : Width) (k v : ElementSpec) where
   -- the position that a lookup under the hash of `calls` finds
   abbrev pub fx_found : SizeWords → List HasherCall → List ℕ → ℕ → (ℕ → Bool) → Option ℕ
   fx_found sizes calls b p accept =
-      pos_found generic_kind w (entry_spec k v).size b p (fx_hash sizes calls) accept
+      item_found w (entry_spec k v).size b p (fx_hash sizes calls) accept
 
   -- a map that was written under one rule was written under each other rule
   abbrev pub WrittenAlike : (List ℕ → ℕ → List HasherCall) → Type 0

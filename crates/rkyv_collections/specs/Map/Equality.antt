@@ -6,11 +6,10 @@ use Rattle.std.specs.Prelude.{slice_index}
 use Rattle.std.specs.Int.{Width}
 use Rattle.std.specs.List.{list_all}
 use Rattle.std.specs.Option.{option_map, unwrap_or}
-use Rattle.rkyv_scan.specs.{generic_kind}
 use Rattle.rkyv_base.specs.{ElementSpec, Viewable, bytes_of, entry_spec, pos_of, value_offset}
 use Rattle.rkyv_base.specs.declared.view.View.{View}
 use Rattle.rkyv_keys.specs.{Comparison, entry_same}
-use Rattle.rkyv_table.specs.{item_at, item_positions, len_at, pos_found}
+use Rattle.rkyv_table.specs.{item_at, item_found, item_positions, len_at}
 use Rattle.rkyv_collections.specs.Map.{MapWrittenAt, map_bytes, map_pos}
 use Rattle.rkyv_collections.specs.declared.map.ArchivedHashMap.{ArchivedHashMap}
 use Rattle.rkyv_collections.specs.Map.MapSpec.{map_spec}
@@ -26,7 +25,7 @@ module _ (w : Width) (k v : ElementSpec) (key_hash : List ℕ → ℕ
   pair_matches b q c r =
       unwrap_or
       (option_map (λ at. same_value b (q + value_offset k v) c (at + value_offset k v))
-      (pos_found generic_kind w (entry_spec k v).size c r (key_hash b q) (same_key b q c)))
+      (item_found w (entry_spec k v).size c r (key_hash b q) (same_key b q c)))
       false
 
   -- the maps have the same length, and each pair of the first is matched in the second

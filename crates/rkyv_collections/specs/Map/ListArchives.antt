@@ -7,7 +7,7 @@ use Rattle.std.specs.Borrow.{Bor}
 use Rattle.std.specs.Int.{Width, w32}
 use Rattle.std.specs.Option.{option_map}
 use Rattle.std.specs.declared.vec.Vec.{Vec}
-use Rattle.rkyv_scan.specs.{fx_hasher, generic_kind, low_halves}
+use Rattle.rkyv_scan.specs.{fx_hasher, low_halves}
 use Rattle.rkyv_base.specs.{ArchiveOf, ElementSpec, Encoding, Format, IsAt, IsTextOf}
 use Rattle.rkyv_base.specs.{IsValidArchive, OpensNarrow, ScalarRepresents, ToBytesFails}
 use Rattle.rkyv_base.specs.{entry_spec, narrow_limit, scalar_format, scalar_spec, text_at}
@@ -18,7 +18,7 @@ use Rattle.rkyv_base.specs.declared.errors.WriteError.{WriteError}
 use Rattle.rkyv_base.specs.declared.view.View.{View}
 use Rattle.rkyv_keys.specs.{FoundValues, NativeKeys, first_value, hash_at, hash_of, same_bytes}
 use Rattle.rkyv_keys.specs.{text_calls, text_key_calls}
-use Rattle.rkyv_table.specs.{TableResolver, listed, pos_found}
+use Rattle.rkyv_table.specs.{TableResolver, item_found, listed}
 use Rattle.rkyv_collections.specs.Map.{FindsFirstKey, IsValueAt, IsValueIn, map_bytes}
 use Rattle.rkyv_collections.specs.Map.MapSpec.{map_spec}
 use Rattle.rkyv_collections.specs.Map.MapFormat.{MapRepresents, map_format}
@@ -89,7 +89,7 @@ first_of_text text pairs = first_value (λ other. same_bytes text other.now) pai
 -- which may represent no list
 abbrev pub text_key_found : {N : Type 0} → Encoding N → List ℕ → List ℕ → Option ℕ
 text_key_found e text b =
-    pos_found generic_kind w32 (entry_spec (text_spec w32) (scalar_spec e)).size b
+    item_found w32 (entry_spec (text_spec w32) (scalar_spec e)).size b
     (map_root w32 (text_spec w32) (scalar_spec e) b)
     (hash_of (fx_hasher low_halves) text_calls text) (λ q. same_bytes text (text_at w32 b q))
 

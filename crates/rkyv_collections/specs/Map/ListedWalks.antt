@@ -4,7 +4,7 @@ use Rattle.std.specs.Int.{Width}
 use Rattle.std.specs.List.{AllZip}
 use Rattle.std.specs.List.Sorted.{IsPermutation}
 use Rattle.rkyv_base.specs.{ElementSpec, PairRepresents, entry_spec, unit_spec}
-use Rattle.rkyv_table.specs.{VisitsHomes, cap_at, item_at, item_positions, table_controls}
+use Rattle.rkyv_table.specs.{WalkVisits, item_at, item_positions}
 use Rattle.rkyv_collections.specs.Map.MapFormat.{MapRepresents}
 use Rattle.rkyv_collections.specs.Set.SetFormat.{SetRepresents}
 
@@ -27,7 +27,7 @@ module _ {A B : Type 0} (w : Width) (k v : ElementSpec) (key : List ℕ → ℕ 
   abbrev pub WalksVisitPairs : Type 0
   WalksVisitPairs = (factor : ℕ × ℕ) (b : List ℕ) (p : ℕ) (pairs : List (A × B))
       → (represents : MapRepresents w k v key value key_hash factor b p pairs)
-      → VisitsHomes (cap_at w b p) represents.homes (table_controls w b p)
+      → WalkVisits w b p represents.homes
       × ((n : ℕ) (pair : A × B) → slice_get pairs n ≡ Some pair → PairRepresents k v key value b
       (item_at w (entry_spec k v).size b p (slice_index represents.homes n)) pair)
 

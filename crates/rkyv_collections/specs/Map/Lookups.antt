@@ -6,7 +6,7 @@ use Rattle.std.specs.Prelude.{Some}
 use Rattle.rkyv_base.specs.{ElementSpec, IsAt, IsValidView, archive_of, pos_of, value_offset}
 use Rattle.rkyv_base.specs.declared.entry.Entry.{Entry}
 use Rattle.rkyv_base.specs.declared.view.View.{View}
-use Rattle.rkyv_keys.specs.{KeyLookup}
+use Rattle.rkyv_keys.specs.{KeyLookup, LookupHashes}
 use Rattle.rkyv_collections.specs.Map.{FindsBy, FindsFirstBy, FindsFirstKey, FindsKey, IsViewAt}
 use Rattle.rkyv_collections.specs.Map.{IsEntryIn, IsKeyIn, IsPairAt, IsPairIn, IsValueAt}
 use Rattle.rkyv_collections.specs.Map.{IsValueIn, map_bytes}
@@ -59,15 +59,15 @@ module _ {K V H W : Type 0} {ks : Specs K} {vs : Specs V} {wt : Words W} where
       pub first : FindsFirstKey m a.key_hash (a.fits (map_bytes m)) (part.At result)
       pub complete : FindsOneKey m a.key_hash a.same (a.fits (map_bytes m)) (part.At result)
 
-    -- `result`: part of the pair that a lookup by a comparison finds, under the hash.
+    -- `result`: part of the pair that a lookup by a comparison finds, under the hash of a query.
     -- `accepted`: the comparison accepted the key of the pair
-    pub record GetsBy (hash : ℕ) (key_hash : List ℕ → ℕ → ℕ) (post : View K → Bool → Type 0)
-        (result : Option X) : Type 0 where
+    pub record GetsBy (hashes : LookupHashes) (post : View K → Bool → Type 0) (result : Option X) :
+        Type 0 where
       pub walked : IfSome result (part.In m)
       pub accepted : (key_pos : Option ℕ) × part.At result key_pos
           × IfSome key_pos (IsAcceptedKey m post)
-      pub finds : FindsBy m post hash (part.At result)
-      pub first : FindsFirstBy m post hash key_hash (part.At result)
+      pub finds : FindsBy m post hashes.hash (part.At result)
+      pub first : FindsFirstBy m post hashes.hash hashes.key_hash (part.At result)
 
 module _ {K V : Type 0} (k v : ElementSpec) where
   -- the pair is that of the entry, or there is neither

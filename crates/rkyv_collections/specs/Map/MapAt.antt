@@ -6,7 +6,7 @@ use Rattle.std.specs.Int.{Width}
 use Rattle.std.specs.Option.{option_map}
 use Rattle.rkyv_scan.specs.{Hasher, HasherCall, hash_of_calls}
 use Rattle.rkyv_base.specs.{ElementSpec, value_pos}
-use Rattle.rkyv_keys.specs.{KeyLookup}
+use Rattle.rkyv_keys.specs.{HasherMembers, KeyLookup, KeyMembers}
 use Rattle.rkyv_collections.specs.Map.{FindsFirstKeyAt, FindsKeyAt}
 use Rattle.rkyv_collections.specs.Map.Misplaced.{FindsOneKeyAt}
 
@@ -52,3 +52,9 @@ query_of_value hasher key_calls represents accept_value = record {
   key_hash = λ b q. hash_of_calls hasher (key_calls b q);
   accept_value = accept_value;
 }
+
+-- the same by a hasher and a type of keys
+abbrev pub value_lookup_of : {State A : Type 0} → HasherMembers State → KeyMembers
+    → (List ℕ → ℕ → A → Type 0) → (A → Bool) → ValueQuery A
+value_lookup_of hasher key represents accept_value =
+    query_of_value hasher.hasher key.key_calls represents accept_value

@@ -1,10 +1,9 @@
 -- Queries that match a key of a written map.
 use Rattle.std.specs.Prelude.{◌≡◌, ℕ, ◌<◌, ◌≤◌, List, Option, Some, length, true}
 use Rattle.std.specs.Int.{Width}
-use Rattle.rkyv_scan.specs.{generic_kind}
 use Rattle.rkyv_base.specs.{ElementSpec, Viewable, entry_spec}
 use Rattle.rkyv_keys.specs.{Comparison, KeyLookup}
-use Rattle.rkyv_table.specs.{pos_found}
+use Rattle.rkyv_table.specs.{item_found}
 use Rattle.rkyv_collections.specs.Map.{MapWrittenAt}
 use Rattle.rkyv_collections.specs.Map.Equality.{pair_at}
 use Rattle.rkyv_collections.specs.Map.MapSpec.{map_spec}
@@ -33,4 +32,4 @@ module _ (w : Width) (k v : ElementSpec) where
       → MapWrittenAt w (entry_spec k v) (lookup_of q).key_hash b p homes → i < length homes
       → (lookup_of q).fits b (pair_at w k v b p homes i) ≡ true
       → FindsSameKey (lookup_of q).same b p homes i
-      (pos_found generic_kind w (entry_spec k v).size b p (lookup_of q).hash ((lookup_of q).fits b))
+      (item_found w (entry_spec k v).size b p (lookup_of q).hash ((lookup_of q).fits b))

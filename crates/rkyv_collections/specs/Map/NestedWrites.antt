@@ -2,10 +2,9 @@
 use Rattle.std.specs.Prelude.{◌≡◌, ◌≢◌, ℕ, ◌+◌, ◌*◌, ◌<◌, ◌^◌, Bool, List, Some}
 use Rattle.std.specs.Int.{Width, byte_len}
 use Rattle.std.specs.Option.{option_map}
-use Rattle.rkyv_scan.specs.{generic_kind}
 use Rattle.rkyv_base.specs.{AgreeOn, ElementSpec, Viewable, entry_spec, value_pos}
-use Rattle.rkyv_table.specs.{IsWalked, RestsOnParts, StaysAt, WritesAmongParts, WritesValue}
-use Rattle.rkyv_table.specs.{pos_found, table_controls}
+use Rattle.rkyv_table.specs.{HasSameControls, IsWalked, RestsOnParts, StaysAt, WritesAmongParts}
+use Rattle.rkyv_table.specs.{WritesValue, item_found}
 use Rattle.rkyv_collections.specs.Map.{FindsFirstKeyAt, MapWrittenAt}
 use Rattle.rkyv_collections.specs.Map.MapSpec.{IsKeyPosAt, map_spec}
 use Rattle.rkyv_collections.specs.Map.MapFormat.{MapRepresents}
@@ -22,7 +21,7 @@ module _ (w : Width) (k v : ElementSpec) where
     pub valid : Viewable (map_spec w k v) c p
     pub nested : WritesAmongParts (map_spec w k v) b c p
     pub header : AgreeOn b c p (p + 3 * byte_len w)
-    pub controls : table_controls w c p ≡ table_controls w b p
+    pub controls : HasSameControls w b c p
     pub positions : (j : ℕ) → entry_at w k v c p j ≡ entry_at w k v b p j
     pub keys : (j : ℕ) → IsWalked w b p j → StaysAt k b c (entry_at w k v b p j)
     pub values : (j : ℕ) → IsWalked w b p j → j ≢ i
@@ -30,8 +29,8 @@ module _ (w : Width) (k v : ElementSpec) where
     pub hashes : (j : ℕ) → IsWalked w b p j
         → key_hash c (entry_at w k v b p j) ≡ key_hash b (entry_at w k v b p j)
     pub lookups : (hash : ℕ) (fits : List ℕ → ℕ → Bool) → hash < 2 ^ 64 → RestsOnParts k fits
-        → pos_found generic_kind w (entry_spec k v).size c p hash (fits c)
-        ≡ pos_found generic_kind w (entry_spec k v).size b p hash (fits b)
+        → item_found w (entry_spec k v).size c p hash (fits c)
+        ≡ item_found w (entry_spec k v).size b p hash (fits b)
     pub written : (homes : List ℕ) → MapWrittenAt w (entry_spec k v) key_hash b p homes
         → MapWrittenAt w (entry_spec k v) key_hash c p homes
 
@@ -53,8 +52,8 @@ module _ (w : Width) (k v : ElementSpec) where
   NestedWritesKeepLookups {Q} hash fits =
       (b c : List ℕ) (p pos : ℕ) → Viewable (map_spec w k v) b p → IsKeyPosAt w k v b p pos
       → WritesAmongParts v b c (value_pos k v pos) → (q : Q)
-      → pos_found generic_kind w (entry_spec k v).size c p (hash q) (fits q c)
-      ≡ pos_found generic_kind w (entry_spec k v).size b p (hash q) (fits q b)
+      → item_found w (entry_spec k v).size c p (hash q) (fits q c)
+      ≡ item_found w (entry_spec k v).size b p (hash q) (fits q b)
 
   -- The map represents a list of pairs, and the value of the first pair with a key
   -- equal to `query` is written among its parts. The map then represents

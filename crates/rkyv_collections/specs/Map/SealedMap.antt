@@ -4,13 +4,12 @@ use Rattle.rkyv_base.specs.declared.width.Word.{Ghosts as Words}
 use Rattle.std.specs.Prelude.{◌≡◌, ℕ, List, Bool, true, IfSome, Option}
 use Rattle.std.specs.Int.{Width}
 use Rattle.std.specs.Option.{option_map}
-use Rattle.rkyv_base.specs.{ElementSpec, IsValidView, SealAt, Viewable, archive_in, bytes_of}
-use Rattle.rkyv_base.specs.{entry_spec, pos_in, pos_of, value_pos}
+use Rattle.rkyv_base.specs.{ElementSpec, IsValidView, SealAt, Viewable, archive_in, archive_ref}
+use Rattle.rkyv_base.specs.{bytes_of, entry_spec, pos_in, pos_of, value_pos}
 use Rattle.rkyv_base.specs.declared.seal.ArchiveSeal.{ArchiveSeal}
 use Rattle.rkyv_base.specs.declared.seal.Seal.{Seal}
 use Rattle.rkyv_base.specs.declared.view.View.{View}
-use Rattle.rkyv_scan.specs.{Hasher, HasherCall, hash_of_calls}
-use Rattle.rkyv_keys.specs.{hash_at}
+use Rattle.rkyv_keys.specs.{LookupHashes}
 use Rattle.rkyv_table.specs.{IsWalked, KeptByValueWrites, LendsPair, item_at, pos_of_seal}
 use Rattle.rkyv_collections.specs.Map.{AreUnderHashAt, FindsFirstKeyAt, FindsKeyAt}
 use Rattle.rkyv_collections.specs.Map.MapAt.{MapAt, map_at}
@@ -76,22 +75,27 @@ abbrev pub map_sealed : {K V H W : Type 0} → Words W → Specs K → Specs V
 map_sealed wt ks vs a = map_at wt ks vs (archive_in a) (pos_in a)
 
 -- the property applies to the position of the key that a lookup by a comparison finds
--- under the hash, or to `None`: in any map and in a written one.
+-- under the hash of a query, or to `None`: in any map and in a written one.
 -- `accepted`: the comparison accepted the key
-pub record FoundByHasAt {K : Type 0} (m : MapAt) (hash : ℕ) (key_hash : List ℕ → ℕ → ℕ)
+pub record FoundByHasAt {K : Type 0} (m : MapAt) (hashes : LookupHashes)
     (post : View K → Bool → Type 0) (P : Option ℕ → Type 0) : Type 0 where
   pub accepted : (key_pos : Option ℕ) × P key_pos
       × IfSome key_pos (IsAcceptedKeyAt m.word m.key m.value m.bytes m.pos post)
-  pub finds : FindsByAt m.word m.key m.value m.bytes m.pos post hash P
-  pub first : FindsFirstByAt m.word m.key m.value m.bytes m.pos post hash key_hash P
+  pub finds : FindsByAt m.word m.key m.value m.bytes m.pos post hashes.hash P
+  pub first : FindsFirstByAt m.word m.key m.value m.bytes m.pos post hashes.hash hashes.key_hash P
 
--- The property applies to the position of the value of such a key, or to `None`. `calls`: hasher
--- calls of the lookup, `key_calls`: those of the key at a position
-abbrev pub FoundValueByHasAt : {K State : Type 0} → MapAt → Hasher State → List HasherCall
-    → (List ℕ → ℕ → List HasherCall) → (View K → Bool → Type 0) → (Option ℕ → Type 0) → Type 0
-FoundValueByHasAt m hasher calls key_calls post P =
-    FoundByHasAt m (hash_of_calls hasher calls) (hash_at hasher key_calls) post
-    (λ key_pos. P (option_map (value_pos m.key m.value) key_pos))
+-- the property applies to the position of the value of such a key, or to `None`
+abbrev pub FoundValueByHasAt : {K : Type 0} → MapAt → LookupHashes → (View K → Bool → Type 0)
+    → (Option ℕ → Type 0) → Type 0
+FoundValueByHasAt m hashes post P =
+    FoundByHasAt m hashes post (λ key_pos. P (option_map (value_pos m.key m.value) key_pos))
+
+-- the value that such a lookup finds is written, if it finds one. `Writes`: relation of the bytes
+-- before, the result, the bytes `c` afterwards and the found position
+abbrev pub WritesFoundBy : {K X : Type 0} → MapAt → LookupHashes → (View K → Bool → Type 0)
+    → (List ℕ → X → List ℕ → Option ℕ → Type 0) → X → List ℕ → Type 0
+WritesFoundBy m hashes post Writes result c =
+    FoundValueByHasAt m hashes post (Writes m.bytes result c)
 
 -- `q`: position of the key in bucket `i` of the map at `p`, with the value behind it.
 -- Each write of the value alone that keeps it valid keeps the map: its header, its control bytes,
@@ -115,7 +119,7 @@ module _ {K V H W : Type 0} (w : Width) (k v : ElementSpec) (a : ArchiveSeal
     pub bucket : ℕ
     pub key : ℕ
     pub pair : IsPairPos w k v (archive_in a) (pos_in a) bucket key
-    pub at : SealAt value a.archive (value_pos k v key)
+    pub at : SealAt value (archive_ref a) (value_pos k v key)
 
 -- the position is that of the key of the found pair, or there is neither
 abbrev pub IsPairSealAt : {K V : Type 0} → Option (View K × Seal V) → Option ℕ → Type 0

@@ -9,8 +9,8 @@ use Rattle.rkyv_base.specs.declared.entry.Entry.{Entry}
 use Rattle.rkyv_base.specs.declared.seal.Seal.{Seal}
 use Rattle.rkyv_base.specs.declared.view.View.{View}
 use Rattle.rkyv_table.specs.{CountsDown, IsSealIter, KeepsTable, LendsPair, LendsValue, SameArchive}
-use Rattle.rkyv_table.specs.{SameValue, StaysThere, cap_at, cursor_buckets_left, cursor_bytes}
-use Rattle.rkyv_table.specs.{cursor_len, len_at, table_controls, walk}
+use Rattle.rkyv_table.specs.{SameValue, StaysThere, cursor_buckets_left, cursor_bytes, cursor_len}
+use Rattle.rkyv_table.specs.{full_buckets, len_at}
 use Rattle.rkyv_table.specs.declared.table.raw_iter_seal.RawIterSeal.{RawIterSeal}
 use Rattle.rkyv_collections.specs.Map.SealedMap.{IsPairPos}
 use Rattle.rkyv_collections.specs.declared.map.in_place.iter_seal.IterMut.{IterMut}
@@ -34,7 +34,7 @@ module _ {K V : Type 0} (k v : ElementSpec) where
   pub record HasAllPairs (w : Width) (b : List ℕ) (p : ℕ) (r : RawIterSeal (Entry K V)) : Type 0
     where
       pub iter : IsPairIter w p r
-      pub buckets : cursor_buckets_left w p r ≡ walk (table_controls w b p) (cap_at w b p)
+      pub buckets : cursor_buckets_left w p r ≡ full_buckets w b p
       pub count : cursor_len r ≡ len_at w b p
 
   -- the first remaining pair is taken, and its key is at `q`

@@ -1,10 +1,9 @@
 -- Maps with a value that is written in place.
 use Rattle.std.specs.Prelude.{◌≡◌, ℕ, ◌<◌, ◌^◌, List, Bool, Some, slice_get, slice_index, slice_set}
 use Rattle.std.specs.Int.{Width}
-use Rattle.rkyv_scan.specs.{generic_kind}
 use Rattle.rkyv_base.specs.{ElementSpec, Viewable, entry_spec, value_pos}
 use Rattle.rkyv_table.specs.{IsWalked, KeepsTable, RestsOnKey, SameValue, WritesValue}
-use Rattle.rkyv_table.specs.{home_positions, item_at, pos_found}
+use Rattle.rkyv_table.specs.{home_positions, item_at, item_found}
 use Rattle.rkyv_collections.specs.Map.{MapWrittenAt}
 use Rattle.rkyv_collections.specs.Map.MapSpec.{map_spec}
 use Rattle.rkyv_collections.specs.Map.MapFormat.{MapRepresents}
@@ -25,8 +24,8 @@ module _ (w : Width) (k v : ElementSpec) where
     pub hashes : (j : ℕ) → IsWalked w b p j
         → key_hash c (entry_at b p j) ≡ key_hash b (entry_at b p j)
     pub lookups : (hash : ℕ) (fits : List ℕ → ℕ → Bool) → hash < 2 ^ 64 → RestsOnKey k fits
-        → pos_found generic_kind w (entry_spec k v).size c p hash (fits c)
-        ≡ pos_found generic_kind w (entry_spec k v).size b p hash (fits b)
+        → item_found w (entry_spec k v).size c p hash (fits c)
+        ≡ item_found w (entry_spec k v).size b p hash (fits b)
     pub written : (homes : List ℕ) → MapWrittenAt w (entry_spec k v) key_hash b p homes
         → MapWrittenAt w (entry_spec k v) key_hash c p homes
 
@@ -47,8 +46,8 @@ module _ (w : Width) (k v : ElementSpec) where
   ValueWritesKeepLookups {Q} hash fits =
       (b c : List ℕ) (p i : ℕ) → Viewable (map_spec w k v) b p → IsWalked w b p i
       → WritesValue k v b c (entry_at b p i) → (q : Q)
-      → pos_found generic_kind w (entry_spec k v).size c p (hash q) (fits q c)
-      ≡ pos_found generic_kind w (entry_spec k v).size b p (hash q) (fits q b)
+      → item_found w (entry_spec k v).size c p (hash q) (fits q c)
+      ≡ item_found w (entry_spec k v).size b p (hash q) (fits q b)
 
   -- a map that represents a list of pairs represents the list with the new value,
   -- after the write of that value

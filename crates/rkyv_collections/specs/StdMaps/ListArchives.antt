@@ -9,6 +9,7 @@ use Rattle.rkyv_collections.specs.Map.MapFormat.{MapRepresents}
 use Rattle.rkyv_collections.specs.Map.MapSpec.{map_spec}
 use Rattle.rkyv_collections.specs.Set.{set_spec}
 use Rattle.rkyv_collections.specs.Set.SetFormat.{SetRepresents}
+use Rattle.rkyv_collections.specs.StdMaps.StdMap.{inner_entries, inner_keys}
 use Rattle.rkyv_collections.specs.declared.std_maps.hashed.Hashed.{Hashed}
 
 -- `b`: archive within `limit` with the written bytes of the native value, and no others.
@@ -43,13 +44,19 @@ with_relation v related = record { spec = v.spec; laws = v.laws; represents = re
 abbrev pub IsListOfEntries : {A B S H : Type 0} → Width → ElementMembers A → ElementMembers B
     → (List ℕ → ℕ → ℕ) → List ℕ → ℕ → Hashed (HashMap A B S) H → Type 0
 IsListOfEntries w k v hash b p x =
-    MapRepresents w k.spec v.spec k.represents v.represents hash (7, 8) b p x.map.entries
+    MapRepresents w k.spec v.spec k.represents v.represents hash (7, 8) b p (inner_entries x)
+
+-- the same for entries whose values have the relation `related`
+abbrev pub IsListOfRelated : {A B C S H : Type 0} → Width → ElementMembers A → ElementMembers B
+    → (List ℕ → ℕ → C → Type 0) → (List ℕ → ℕ → ℕ) → List ℕ → ℕ → Hashed (HashMap A C S) H → Type 0
+IsListOfRelated w k v related hash b p x =
+    IsListOfEntries w k (with_relation v related) hash b p x
 
 -- the set at `p` represents the list of the keys of a set of std, under the load factor 7 / 8
 abbrev pub IsListOfKeys : {A S H : Type 0} → Width → ElementMembers A → (List ℕ → ℕ → ℕ)
     → List ℕ → ℕ → Hashed (HashSet A S) H → Type 0
 IsListOfKeys w k hash b p x =
-    SetRepresents w k.spec k.represents hash (7, 8) b p x.map.keys
+    SetRepresents w k.spec k.represents hash (7, 8) b p (inner_keys x)
 
 -- The root of an archive with the written bytes of a map of std represents the list of its entries.
 -- `k`, `v`: its keys and values, `hash`: hash of the key at a position
@@ -66,8 +73,10 @@ WrittenSetsAreLists w k hash format =
     WrittenRootsAre (set_spec w k.spec) (IsListOfKeys w k hash) format
 
 -- In any archive with the written bytes of a map of std, the map represents the list
--- of its entries. `k`, `v`: its keys and values, `hash`: hash of the key at a position
-abbrev pub WrittenMapsListEntries : {A B S H R : Type 0} → Width → ElementMembers A
-    → ElementMembers B → (List ℕ → ℕ → ℕ) → Format (Hashed (HashMap A B S) H) R → Type 0
-WrittenMapsListEntries w k v hash format =
-    IsFormat (map_spec w k.spec v.spec) (IsListOfEntries w k v hash) format
+-- of its entries, whose values have the relation `related`. `k`, `v`: its keys and values,
+-- `hash`: hash of the key at a position
+abbrev pub WrittenMapsListEntries : {A B C S H R : Type 0} → Width → ElementMembers A
+    → ElementMembers B → (List ℕ → ℕ → C → Type 0) → (List ℕ → ℕ → ℕ)
+    → Format (Hashed (HashMap A C S) H) R → Type 0
+WrittenMapsListEntries w k v related hash format =
+    IsFormat (map_spec w k.spec v.spec) (IsListOfRelated w k v related hash) format

@@ -5,9 +5,8 @@ use Rattle.std.specs.Prelude.{◌≡◌, ℕ, ◌+◌, List, length, Bool, IsSom
 use Rattle.std.specs.HashMap.{HashMap}
 use Rattle.std.specs.Int.{Width}
 use Rattle.std.specs.List.{All}
-use Rattle.rkyv_scan.specs.{generic_kind}
 use Rattle.rkyv_base.specs.{ElementSpec, entry_spec, value_offset}
-use Rattle.rkyv_table.specs.{len_at, pos_found}
+use Rattle.rkyv_table.specs.{item_found, len_at}
 use Rattle.rkyv_collections.specs.Map.{map_bytes, map_pos}
 use Rattle.rkyv_keys.specs.{Queried}
 use Rattle.rkyv_collections.specs.declared.map.ArchivedHashMap.{ArchivedHashMap}
@@ -17,7 +16,7 @@ module _ {A B : Type 0} (w : Width) (k v : ElementSpec) (hash : A → ℕ) (fits
   -- a lookup of the pair's key in the map at `p` finds a value that equals the pair's
   abbrev pub FindsPair : List ℕ → ℕ → A × B → Type 0
   FindsPair b p pair = IsSomeAnd
-      (pos_found generic_kind w (entry_spec k v).size b p (hash pair.0) (fits pair.0 b)) (λ q.
+      (item_found w (entry_spec k v).size b p (hash pair.0) (fits pair.0 b)) (λ q.
       equals b (q + value_offset k v) pair.1)
 
   -- the map at `p` has as many pairs as `entries`, and each of these is found in it

@@ -10,14 +10,14 @@ use Rattle.std.specs.Int.{Width}
 use Rattle.std.specs.List.{list_any}
 use Rattle.std.specs.Map.{lookup}
 use Rattle.std.specs.Option.{is_some}
-use Rattle.rkyv_scan.specs.{generic_kind}
-use Rattle.rkyv_table.specs.{pos_found}
+use Rattle.rkyv_table.specs.{item_found}
 use Rattle.rkyv_collections.specs.Map.ListedLookups.{AgreesOnKeys}
 use Rattle.rkyv_collections.specs.Map.{map_bytes, map_pos}
 use Rattle.rkyv_collections.specs.Map.MapSpec.{map_spec}
 use Rattle.rkyv_keys.specs.{Queried}
 use Rattle.rkyv_collections.specs.Set.{set_spec}
 use Rattle.rkyv_collections.specs.declared.map.ArchivedHashMap.{ArchivedHashMap}
+use Rattle.rkyv_collections.specs.StdMaps.StdMap.{inner_entries, inner_keys}
 use Rattle.rkyv_collections.specs.declared.std_maps.hashed.Hashed.{Hashed}
 
 -- the value is `offset` bytes behind the position, or there is neither
@@ -36,7 +36,7 @@ module _ {Q A : Type 0} (w : Width) (k : ElementSpec) (hash : Q → ℕ)
       → ℕ → Q → (A → Bool) → List (A × B) → Type 0
   FindsFirstAccepted v value b p q accept_value entries =
       IsValueBehind value b (value_offset k v)
-      (pos_found generic_kind w (entry_spec k v).size b p (hash q) (fits q b))
+      (item_found w (entry_spec k v).size b p (hash q) (fits q b))
       (lookup accept_value entries)
 
   module _ (key : List ℕ → ℕ → A → Type 0) where
@@ -51,7 +51,7 @@ module _ {Q A : Type 0} (w : Width) (k : ElementSpec) (hash : Q → ℕ)
     abbrev pub FindsMembers : List ℕ → ℕ → List A → Type 0
     FindsMembers b p keys = (q : Q) (accept_value : A → Bool)
         → AgreesOnKeys k key b (fits q b) accept_value
-        → is_some (pos_found generic_kind w (entry_spec k unit_spec).size b p (hash q) (fits q b))
+        → is_some (item_found w (entry_spec k unit_spec).size b p (hash q) (fits q b))
         ≡ list_any accept_value keys
 
 -- The query finds the value of the first entry with an accepted key in the map.
@@ -70,7 +70,7 @@ abbrev pub FindsInWrittenMap : {A B S H R Q : Type 0} → Width → ElementMembe
     → ElementMembers B → Queried Q → Format (Hashed (HashMap A B S) H) R → Type 0
 FindsInWrittenMap w k v queries f = IsFormat (map_spec w k.spec v.spec)
     (λ b p x. FindsEntries w k.spec queries.hash queries.fits k.represents v.spec v.represents
-    b p x.map.entries)
+    b p (inner_entries x))
     f
 
 -- In any archive with the written bytes of a set of std, each query is looked up.
@@ -78,5 +78,5 @@ FindsInWrittenMap w k v queries f = IsFormat (map_spec w k.spec v.spec)
 abbrev pub FindsInWrittenSet : {A S H R Q : Type 0} → Width → ElementMembers A → Queried Q
     → Format (Hashed (HashSet A S) H) R → Type 0
 FindsInWrittenSet w k queries f = IsFormat (set_spec w k.spec)
-    (λ b p x. FindsMembers w k.spec queries.hash queries.fits k.represents b p x.map.keys)
+    (λ b p x. FindsMembers w k.spec queries.hash queries.fits k.represents b p (inner_keys x))
     f

@@ -3,6 +3,7 @@ use denote.Ref.{Bor}
 use Rattle.std.specs.Prelude.{◌≡◌, ℕ, ◌<◌, ◌⊎◌, Bool, List, [], ◌∷◌, ◌++◌, MatchResult, None}
 use Rattle.std.specs.Prelude.{Result, Some}
 use Rattle.std.specs.HashMap.{HashMap, IsUnique, Updates, hasher_of, keys}
+use Rattle.std.specs.HashSet.{HashSet}
 use Rattle.std.specs.Int.{Width}
 use Rattle.std.specs.List.{AllZip, IsDistinct, find}
 use Rattle.std.specs.Map.{keys_of, lookup, update_all}
@@ -17,6 +18,18 @@ use Rattle.rkyv_collections.specs.declared.std_maps.hashed.Hashed.{Hashed}
 -- the map or set of std inside the wrapper
 abbrev pub inner : {M H : Type 0} → Hashed M H → M
 inner hashed = hashed.map
+
+-- the entries of the map of std inside the wrapper
+abbrev pub inner_entries : {A B S H : Type 0} → Hashed (HashMap A B S) H → List (A × B)
+inner_entries hashed = hashed.map.entries
+
+-- the keys of the set of std inside the wrapper
+abbrev pub inner_keys : {A S H : Type 0} → Hashed (HashSet A S) H → List A
+inner_keys hashed = hashed.map.keys
+
+-- the wrapper with another map or set of std inside
+abbrev pub with_inner : {M H : Type 0} → Hashed M H → M → Hashed M H
+with_inner hashed map = record { map = map; hasher = hashed.hasher }
 
 -- the wrapper of the map or set of std that a wrapped reference refers to
 abbrev pub referent : {M H : Type 0} → Hashed (Bor M) H → Hashed M H

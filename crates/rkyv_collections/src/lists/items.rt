@@ -1,10 +1,11 @@
 //! Lists of items that are archived as sets.
 
 ghost use Rattle.std.specs.Prelude.{◌≡◌};
-ghost use Rattle.rkyv_keys.specs.{hash_at, hash_of};
+ghost use Rattle.rkyv_keys.specs.{archived_hash, hash_at, hash_of, native_hash};
 ghost use Rattle.rkyv_table.specs.{listed, written_as_each};
 ghost use Rattle.rkyv_table.specs.Lemmas.Listed.{listed-format, written_as_each-format};
-ghost use Rattle.rkyv_collections.specs.{SetRepresents, set_format, set_spec};
+ghost use Rattle.rkyv_collections.specs.{SetRepresents, items_load_factor, listed_items};
+ghost use Rattle.rkyv_collections.specs.{set_format, set_spec};
 ghost use Rattle.rkyv_collections.specs.Lemmas.SetSound.{set_local, set_sound};
 
 use crate::set::write::HashSetResolver;
@@ -43,8 +44,8 @@ impl<'a, A> SetItems<'a, A> {
     /// Returns the list under `FxHasher64` and the load factor 7 / 8.
     #[inline]
     pub fn new(items: &'a [A]) -> SetItems<'a, A>
-        ensures items { result.items.now ≡ items.now }
-        ensures load_factor { result.load_factor ≡ (7, 8) }
+        ensures items { listed_items result ≡ items.now }
+        ensures load_factor { items_load_factor result ≡ (7, 8) }
     {
         SetItems::with_load_factor(items, (7, 8))
     }
@@ -56,8 +57,8 @@ impl<'a, A, H> SetItems<'a, A, H> {
     /// Archiving fails with `InvalidLoadFactor` unless the load factor is above 0 and at most 1.
     #[inline]
     pub fn with_load_factor(items: &'a [A], load_factor: (usize, usize)) -> SetItems<'a, A, H>
-        ensures items { result.items.now ≡ items.now }
-        ensures load_factor { result.load_factor ≡ load_factor }
+        ensures items { listed_items result ≡ items.now }
+        ensures load_factor { items_load_factor result ≡ load_factor }
     {
         SetItems {
             items,
@@ -70,10 +71,11 @@ impl<'a, A, H> SetItems<'a, A, H> {
 impl<'a, W: Width, H: KeyHasher, A, K: KeyElement + Represents<A>> Represents<SetItems<'a, A, H>>
     for HashSetOf<K, H, W> {
     ghost represents = { λ b p x. SetRepresents W.word K.spec K.represents
-        (hash_at H.hasher K.key_calls)
-        x.load_factor b p x.items.now };
+        (archived_hash H.KeyHasher K.KeyElement)
+        (items_load_factor x) b p (listed_items x) };
 
-    ghost local = { λ x. set_local H.hasher W.word K.laws x.load_factor K.key K.local x.items.now };
+    ghost local = { λ x. set_local H.hasher W.word K.laws (items_load_factor x) K.key K.local
+        (listed_items x) };
 }
 
 impl<'a, W: Width, H: KeyHasher, A: Archive<W>> Archive<W> for SetItems<'a, A, H>
@@ -85,8 +87,9 @@ where
 
     type Resolver = HashSetResolver<W>;
 
-    ghost format = { written_as_each (λ x. x.items.now) (λ x. listed W.MAX_CAPACITY x.load_factor
-        (set_format W.word A.Archived.spec A.format (hash_of H.hasher A.calls) x.load_factor)) };
+    ghost format = { written_as_each listed_items (λ x. listed W.MAX_CAPACITY (items_load_factor x)
+        (set_format W.word A.Archived.spec A.format (native_hash H.KeyHasher A.KeyHash)
+        (items_load_factor x))) };
 
     fn resolve(&self, resolver: HashSetResolver<W>, pos: u64, out: &mut [u8]) -> ResolveResult {
         resolver.resolve(pos, out)
@@ -94,14 +97,14 @@ where
 
     ghost laws = { let hash = hash_at H.hasher A.Archived.key_calls in
         let own = hash_of H.hasher A.calls in
-        written_as_each-format (λ x. x.items.now) (set_spec W.word A.Archived.spec)
-        (λ x. SetRepresents W.word A.Archived.spec A.Archived.represents hash x.load_factor)
-        (λ x. listed W.MAX_CAPACITY x.load_factor
-        (set_format W.word A.Archived.spec A.format own x.load_factor))
-        (λ x. listed-format W.MAX_CAPACITY x.load_factor (set_spec W.word A.Archived.spec)
-        (SetRepresents W.word A.Archived.spec A.Archived.represents hash x.load_factor)
-        (set_format W.word A.Archived.spec A.format own x.load_factor)
-        (set_sound H.hasher W.word A.Archived.laws x.load_factor W.layout.kind
+        written_as_each-format listed_items (set_spec W.word A.Archived.spec)
+        (λ x. SetRepresents W.word A.Archived.spec A.Archived.represents hash (items_load_factor x))
+        (λ x. listed W.MAX_CAPACITY (items_load_factor x)
+        (set_format W.word A.Archived.spec A.format own (items_load_factor x)))
+        (λ x. listed-format W.MAX_CAPACITY (items_load_factor x) (set_spec W.word A.Archived.spec)
+        (SetRepresents W.word A.Archived.spec A.Archived.represents hash (items_load_factor x))
+        (set_format W.word A.Archived.spec A.format own (items_load_factor x))
+        (set_sound H.hasher W.word A.Archived.laws (items_load_factor x) W.layout.kind
         A.query A.native A.Eq.laws.refl A.Archive.laws)) };
 }
 

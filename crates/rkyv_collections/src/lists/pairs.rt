@@ -1,10 +1,11 @@
 //! Lists of pairs that are archived as maps.
 
 ghost use Rattle.std.specs.Prelude.{◌≡◌};
-ghost use Rattle.rkyv_keys.specs.{hash_at, hash_of};
+ghost use Rattle.rkyv_keys.specs.{archived_hash, hash_at, hash_of, native_hash};
 ghost use Rattle.rkyv_table.specs.{listed, written_as_each};
 ghost use Rattle.rkyv_table.specs.Lemmas.Listed.{written_as_each-format};
-ghost use Rattle.rkyv_collections.specs.{MapRepresents, map_format, map_spec};
+ghost use Rattle.rkyv_collections.specs.{MapRepresents, listed_pairs, map_format, map_spec};
+ghost use Rattle.rkyv_collections.specs.{pairs_load_factor};
 ghost use Rattle.rkyv_collections.specs.Lemmas.MapSound.{listed_map_sound, map_local};
 
 use crate::map::write::HashMapResolver;
@@ -40,8 +41,8 @@ impl<'a, A, B> MapPairs<'a, A, B> {
     /// Returns the list under `FxHasher64` and the load factor 7 / 8.
     #[inline]
     pub fn new(pairs: &'a [(A, B)]) -> MapPairs<'a, A, B>
-        ensures pairs { result.pairs.now ≡ pairs.now }
-        ensures load_factor { result.load_factor ≡ (7, 8) }
+        ensures pairs { listed_pairs result ≡ pairs.now }
+        ensures load_factor { pairs_load_factor result ≡ (7, 8) }
     {
         MapPairs::with_load_factor(pairs, (7, 8))
     }
@@ -56,8 +57,8 @@ impl<'a, A, B, H> MapPairs<'a, A, B, H> {
         pairs: &'a [(A, B)],
         load_factor: (usize, usize),
     ) -> MapPairs<'a, A, B, H>
-        ensures pairs { result.pairs.now ≡ pairs.now }
-        ensures load_factor { result.load_factor ≡ load_factor }
+        ensures pairs { listed_pairs result ≡ pairs.now }
+        ensures load_factor { pairs_load_factor result ≡ load_factor }
     {
         MapPairs {
             pairs,
@@ -71,10 +72,10 @@ impl<'a, W: Width, H: KeyHasher, A, B, K: KeyElement + Represents<A>, V: Represe
     MapPairs<'a, A, B, H>,
 > for HashMapOf<K, V, H, W> {
     ghost represents = { λ b p x. MapRepresents W.word K.spec V.spec K.represents V.represents
-        (hash_at H.hasher K.key_calls) x.load_factor b p x.pairs.now };
+        (archived_hash H.KeyHasher K.KeyElement) (pairs_load_factor x) b p (listed_pairs x) };
 
-    ghost local = { λ x. map_local H.hasher W.word K.laws V.laws x.load_factor K.key K.local V.local
-        x.pairs.now };
+    ghost local = { λ x. map_local H.hasher W.word K.laws V.laws (pairs_load_factor x) K.key K.local
+        V.local (listed_pairs x) };
 }
 
 impl<'a, W: Width, H: KeyHasher, A: Archive<W>, B: Archive<W>> Archive<W> for MapPairs<'a, A, B, H>
@@ -86,9 +87,9 @@ where
 
     type Resolver = HashMapResolver<W>;
 
-    ghost format = { written_as_each (λ x. x.pairs.now) (λ x. listed W.MAX_CAPACITY x.load_factor
+    ghost format = { written_as_each listed_pairs (λ x. listed W.MAX_CAPACITY (pairs_load_factor x)
         (map_format W.word A.Archived.spec B.Archived.spec A.format B.format
-        (hash_of H.hasher A.calls) x.load_factor)) };
+        (native_hash H.KeyHasher A.KeyHash) (pairs_load_factor x))) };
 
     fn resolve(&self, resolver: HashMapResolver<W>, pos: u64, out: &mut [u8]) -> ResolveResult {
         resolver.resolve(pos, out)
@@ -96,14 +97,14 @@ where
 
     ghost laws = { let hash = hash_at H.hasher A.Archived.key_calls in
         let own = hash_of H.hasher A.calls in
-        written_as_each-format (λ x. x.pairs.now) (map_spec W.word A.Archived.spec B.Archived.spec)
+        written_as_each-format listed_pairs (map_spec W.word A.Archived.spec B.Archived.spec)
         (λ x. MapRepresents W.word A.Archived.spec B.Archived.spec A.Archived.represents
         B.Archived.represents
-        hash x.load_factor)
-        (λ x. listed W.MAX_CAPACITY x.load_factor
+        hash (pairs_load_factor x))
+        (λ x. listed W.MAX_CAPACITY (pairs_load_factor x)
         (map_format W.word A.Archived.spec B.Archived.spec A.format B.format own
-        x.load_factor))
-        (λ x. listed_map_sound H.hasher W.word A.Archived.laws B.Archived.laws x.load_factor
+        (pairs_load_factor x)))
+        (λ x. listed_map_sound H.hasher W.word A.Archived.laws B.Archived.laws (pairs_load_factor x)
         W.MAX_CAPACITY W.layout.kind
         A.query A.native A.Eq.laws.refl A.Archive.laws B.laws) };
 }

@@ -10,12 +10,13 @@
 //! | a value of any type, by a comparison | `ArchivedHashMap::found_by` | two closures |
 //! | a value by its seal | `ArchivedHashMap::get_seal` | a seal of the map and a query |
 //! | a value while its key is read | `ArchivedHashMap::get_key_value_seal` | the same |
-//! | each value | `ArchivedHashMap::values_over` or `values_seal` | bytes or a seal of the map |
+//! | each value | `ArchivedHashMap::for_each_value` | bytes and a closure |
+//! | some values | `ArchivedHashMap::values_over` or `values_seal` | bytes or a seal of the map |
 //! | each value while its key is read | `ArchivedHashMap::iter_over` or `iter_seal` | the same |
 //!
 //! Take the first call that fits. The contracts of the first two also have the list that the map
-//! represents afterwards. The contracts of `found_with` and `found_by` cover all bytes of the
-//! archive afterwards.
+//! represents afterwards. The contracts of `found_with`, `found_by` and `for_each_value` cover all
+//! bytes of the archive afterwards.
 //!
 //! `make_ascii_uppercase_of` is in `map::in_place::text`.
 //! `get_seal_with` and `get_key_value_seal_with` look up by a comparison.
@@ -24,11 +25,11 @@ ghost use Rattle.std.specs.Prelude.{IfSome, length, ℕ, ◌+◌, ◌≡◌, ◌
 ghost use Rattle.rkyv_base.specs.{Viewable, value_pos};
 ghost use Rattle.rkyv_table.specs.{MayWriteIn, WritesAmongParts, WritesIn};
 ghost use Rattle.rkyv_collections.specs.{CanCompareKeysAt, FoundValueByHasAt, FoundValueHasAt};
-ghost use Rattle.rkyv_collections.specs.{IsKeyPosAt, SetsFirst};
-ghost use Rattle.rkyv_collections.specs.{SetsValue, map_at, map_bytes, map_pos, map_spec};
-ghost use Rattle.rkyv_collections.specs.{query_of_value};
-ghost use Rattle.rkyv_keys.specs.{query_of};
+ghost use Rattle.rkyv_collections.specs.{IsKeyPosAt, SetsFirst, SetsValue, WritesFoundBy, map_at};
+ghost use Rattle.rkyv_collections.specs.{map_bytes, map_pos, map_spec, value_lookup_of};
+ghost use Rattle.rkyv_keys.specs.{lookup_hashes, lookup_of};
 
+mod for_each;
 pub mod iter_seal;
 mod sealed;
 pub mod text;
@@ -62,7 +63,7 @@ impl<'a, K: KeyElement, V: Element, H: KeyHasher, W: Width> ArchivedHashMap<'a, 
         ensures inside { IfSome result (λ pos. pos + V.spec.size ≤ length archive.now) }
         ensures viewable { IfSome result (λ pos. Viewable V.spec archive.now pos) }
         ensures finds { FoundValueHasAt (map_at W.Word K.HasSpec V.HasSpec archive.now root)
-            (query_of H.hasher K.key_calls K.same (Q.calls key.now) (Q.fits key.now))
+            (lookup_of H.KeyHasher K.KeyElement Q.Query key.now)
             (λ pos. result ≡ pos) }
     {
         found_pos(map_over::<K, V, H, W>(archive, root).get(key))
@@ -83,7 +84,7 @@ impl<'a, K: KeyElement, V: Element, H: KeyHasher, W: Width> ArchivedHashMap<'a, 
         ensures inside { IfSome result (λ pos. pos + V.spec.size ≤ length archive.now) }
         ensures viewable { IfSome result (λ pos. Viewable V.spec archive.now pos) }
         ensures finds { FoundValueByHasAt (map_at W.Word K.HasSpec V.HasSpec archive.now root)
-            H.hasher (Q.calls key.now) K.key_calls
+            (lookup_hashes H.KeyHasher K.KeyElement Q.KeyHash key.now)
             (F.post cmp key.entry) (λ pos. result ≡ pos) }
     {
         found_pos(map_over::<K, V, H, W>(archive, root).get_with(key, cmp))
@@ -125,7 +126,7 @@ impl<'a, K: KeyElement, V: Element, H: KeyHasher, W: Width> ArchivedHashMap<'a, 
         requires map { Viewable (map_spec W.word K.spec V.spec) archive.old root }
         requires callable { MayWriteIn F.pre V.spec write archive.old }
         ensures { FoundValueHasAt (map_at W.Word K.HasSpec V.HasSpec archive.old root)
-            (query_of H.hasher K.key_calls K.same (Q.calls key.now) (Q.fits key.now))
+            (lookup_of H.KeyHasher K.KeyElement Q.Query key.now)
             (WritesIn F.post write archive.old result archive.new) }
     {
         let pos = Self::value_pos_in(&*archive, root, key)?;
@@ -156,9 +157,9 @@ impl<'a, K: KeyElement, V: Element, H: KeyHasher, W: Width> ArchivedHashMap<'a, 
         requires callable { CanCompareKeysAt W.word K.spec V.spec archive.old root
             (F.pre cmp key) }
         requires writable { MayWriteIn G.pre V.spec write archive.old }
-        ensures { FoundValueByHasAt (map_at W.Word K.HasSpec V.HasSpec archive.old root)
-            H.hasher (Q.calls key.now) K.key_calls
-            (F.post cmp key.entry) (WritesIn G.post write archive.old result archive.new) }
+        ensures { WritesFoundBy (map_at W.Word K.HasSpec V.HasSpec archive.old root)
+            (lookup_hashes H.KeyHasher K.KeyElement Q.KeyHash key.now) (F.post cmp key.entry)
+            (WritesIn G.post write) result archive.new }
     {
         let pos = Self::value_pos_by(&*archive, root, key, cmp)?;
         Some(write(archive, pos))
@@ -197,10 +198,10 @@ pub fn set_value_of<
 >(archive: &mut [u8], root: u64, key: &A, value: N) -> bool
     requires map { Viewable (map_spec W.word K.spec N.spec) archive.old root }
     ensures sets { SetsValue (map_at W.Word K.HasSpec N.HasSpec archive.old root)
-        (query_of H.hasher K.key_calls K.same (A.calls key.now) (A.fits key.now))
+        (lookup_of H.KeyHasher K.KeyElement A.Query key.now)
         N.encoding value result archive.new }
     ensures listed { SetsFirst (map_at W.Word K.HasSpec N.HasSpec archive.old root)
-        (query_of_value H.hasher K.key_calls K.represents (A.eq key.now))
+        (value_lookup_of H.KeyHasher K.KeyElement K.represents (A.eq key.now))
         N.encoding value result archive.new }
     ensures parts { WritesAmongParts (map_spec W.word K.spec N.spec)
         archive.old archive.new root }

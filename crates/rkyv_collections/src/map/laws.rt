@@ -2,18 +2,22 @@
 //!
 //! - This module has laws of equality, lookups, walks and clones.
 //! - `written` is about the bytes of written maps, and `list_archives` about root maps.
-//! - `in_place` is about writes of one value, and `nested` about maps that are values of maps.
+//! - `in_place` is about writes of one value, `each` about those of all values.
+//! - `nested` is about maps that are values of maps.
 ghost use Rattle.std.specs.Int.{w32};
 ghost use Rattle.std.specs.Prelude.{◌↔◌, ◌≡◌};
 ghost use Rattle.rkyv_base.specs.{SameSpec, SameValues};
-ghost use Rattle.rkyv_keys.specs.{SameComparison, hash_at, native_pairs, query_of};
+ghost use Rattle.rkyv_keys.specs.{SameComparison, archived_hash, archived_keys, lookup_of};
+ghost use Rattle.rkyv_keys.specs.{native_pairs};
 ghost use Rattle.rkyv_table.specs.{CountsPositions, ItemsLeft, SameSteps, YieldsKey, YieldsPair};
 ghost use Rattle.rkyv_table.specs.{YieldsValue};
 ghost use Rattle.rkyv_collections.specs.{ComparedAlike, EqualHaveSamePairs, FindsMatchedKeys};
 ghost use Rattle.rkyv_collections.specs.{LookupsFindListed, QueriedAlike, RepeatedKeysAreMisplaced};
 ghost use Rattle.rkyv_collections.specs.{WalksAll, WalksVisitEach, WalksVisitPairs, WrittenAlike};
-ghost use Rattle.rkyv_collections.specs.{map_equal, map_list, map_spec};
+ghost use Rattle.rkyv_collections.specs.{listed_pairs, map_equal, map_list, map_spec};
+ghost use Rattle.rkyv_collections.specs.{pairs_load_factor};
 
+pub mod each;
 pub mod in_place;
 pub mod list_archives;
 pub mod nested;
@@ -71,23 +75,23 @@ pub fn clones_are_the_same<'a, K: HasSpec, V: HasSpec, H, W: Word>()
 /// the same value in the second.
 pub fn maps_are_compared<K: KeyElement, V: ElementEq, H: KeyHasher, W: Width>()
     ensures { SameComparison ⟦<HashMapOf<K, V, H, W> as ElementEq>⟧.same
-        (map_equal W.word K.spec V.spec (hash_at H.hasher K.key_calls) K.same V.same) }
+        (map_equal W.word K.spec V.spec (archived_hash H.KeyHasher K.KeyElement) K.same V.same) }
 {}
 
 /// States that written maps of distinct keys are equal if and only if they have the same pairs.
 ///
 /// They have the same pairs if each pair of either is the same as one of the other.
 pub fn equal_maps_have_the_same_pairs<K: KeyElement, V: ElementEquiv, H: KeyHasher, W: Width>()
-    ensures { EqualHaveSamePairs W.word K.spec V.spec (hash_at H.hasher K.key_calls) K.same
-        V.same }
+    ensures { EqualHaveSamePairs W.word K.spec V.spec (archived_hash H.KeyHasher K.KeyElement)
+        K.same V.same }
 {}
 
 /// States that `misplaced` is the number of keys that are the same as an earlier key.
 ///
 /// The map must be a written one. Earlier keys are those that were inserted before.
 pub fn repeated_keys_are_misplaced<K: KeyElement, V: Element, H: KeyHasher, W: Width>()
-    ensures { RepeatedKeysAreMisplaced W.word K.spec V.spec (hash_at H.hasher K.key_calls)
-        K.same }
+    ensures { RepeatedKeysAreMisplaced W.word K.spec V.spec
+        (archived_keys H.KeyHasher K.KeyElement) }
 {}
 
 /// States that a query that matches a key of a written map finds it, or a key that is the same.
@@ -95,7 +99,7 @@ pub fn repeated_keys_are_misplaced<K: KeyElement, V: Element, H: KeyHasher, W: W
 /// The found key was not inserted later. If no two keys of the map are the same, it is that key.
 pub fn matched_keys_are_found<Q: Query<K>, K: KeyElement, V: Element, H: KeyHasher, W: Width>()
     ensures { FindsMatchedKeys W.word K.spec V.spec
-        (λ q. query_of H.hasher K.key_calls K.same (Q.calls q) (Q.fits q)) }
+        (lookup_of H.KeyHasher K.KeyElement Q.Query) }
 {}
 
 /// States that a lookup finds the first pair of the represented list with an accepted key.
@@ -131,15 +135,15 @@ pub fn walks_visit_each<
     W: Width,
 >()
     ensures homes { WalksVisitPairs W.word K.spec V.spec K.represents V.represents
-        (hash_at H.hasher K.key_calls) }
+        (archived_hash H.KeyHasher K.KeyElement) }
     ensures pairs { WalksVisitEach W.word K.spec V.spec K.represents V.represents
-        (hash_at H.hasher K.key_calls) }
+        (archived_hash H.KeyHasher K.KeyElement) }
 {}
 
 /// States that a map whose keys hash no `usize` or `isize` is looked up alike by both hashers.
 ///
 /// `FxHasher64` and `FxHasher64Wide` differ in the calls for `usize` and `isize` alone.
-/// A `FixedKey` makes none of them, and all keys of `rkyv_keys` implement it.
+/// A `FixedKey` makes none of them, and all keys of `rkyv_keys` but byte strings implement it.
 ///
 /// - `written`: a map that was written under one hasher was written under the other.
 /// - `compared`: in any map, a comparison finds the same key under both, if the query makes none
@@ -166,8 +170,8 @@ where
         (map_spec W.word K.spec V.spec) }
     ensures list { SameValues
         ⟦<HashMapOf<K, V, H, W> as Represents<MapPairs<'a, A, B, H>>>⟧.represents
-        (map_list W.word K.Represents V.Represents (hash_at H.hasher K.key_calls)
-        (λ x. x.load_factor) (λ x. x.pairs.now)) }
+        (map_list W.word K.Represents V.Represents (archived_hash H.KeyHasher K.KeyElement)
+        pairs_load_factor listed_pairs) }
     ensures default_width { SameSpec ⟦<HashMapOf<K, V, H> as HasSpec>⟧.spec
         (map_spec w32 K.spec V.spec) }
     ensures default_hasher { SameValues

@@ -3,7 +3,7 @@
 //! `serialize_from_iter` writes the entries and returns a resolver. Its `resolve` then writes
 //! the header.
 
-ghost use Rattle.std.specs.Prelude.{◌≡◌, ◌+◌, ◌<◌, ◌^◌, length};
+ghost use Rattle.std.specs.Prelude.{◌≡◌, length};
 ghost use Rattle.rkyv_table.specs.{pairs_in, resolver_of};
 ghost use Rattle.rkyv_keys.specs.{native_format};
 ghost use Rattle.rkyv_collections.specs.{ResolvesMap, WritesMap};
@@ -108,7 +108,6 @@ impl<'a, K: KeyElement, V: HasSpec, H: KeyHasher, W: Width> ArchivedHashMap<'a, 
     ///
     /// - `len` and `load_factor` are those of the resolver.
     /// - `out` has the size of a header.
-    /// - The header ends below 2^64.
     ///
     /// # Errors
     ///
@@ -123,7 +122,6 @@ impl<'a, K: KeyElement, V: HasSpec, H: KeyHasher, W: Width> ArchivedHashMap<'a, 
     ) -> ResolveResult
         requires same { (len ≡ resolver.len) × (load_factor ≡ resolver.load_factor) }
         requires room { length out.old ≡ W.TABLE_SIZE }
-        requires fits { pos + W.TABLE_SIZE < 2 ^ 64 }
         ensures { ResolvesMap W.word (resolver_of len load_factor resolver.pos) pos
             out.old out.new result }
     {

@@ -11,7 +11,7 @@ ghost use Rattle.rkyv_base.specs.{IsValidView, archive_of, pos_of, unit_spec};
 ghost use Rattle.rkyv_base.specs.Lemmas.Empty.{unit_element};
 ghost use Rattle.rkyv_collections.specs.{FoundMemberHas, GetsMember, IsSetAt, WalksAllKeys};
 ghost use Rattle.rkyv_collections.specs.{member_positions, set_archive, set_cap, set_len, set_spec};
-ghost use Rattle.rkyv_keys.specs.{IsFoundAt, query_of};
+ghost use Rattle.rkyv_keys.specs.{IsFoundAt, lookup_of};
 ghost use Rattle.rkyv_collections.specs.Lemmas.MapElement.{map_element};
 
 use crate::map::read::iter::Keys;
@@ -180,7 +180,7 @@ impl<'a, K: KeyElement, H: KeyHasher, W: Width> ArchivedHashSet<'a, K, H, W> {
     #[inline]
     pub fn get<Q: Query<K>>(self, key: &Q) -> Option<View<'a, K>>
         ensures { GetsMember self.entry
-            (query_of H.hasher K.key_calls K.same (Q.calls key.now) (Q.fits key.now)) result }
+            (lookup_of H.KeyHasher K.KeyElement Q.Query key.now) result }
     {
         let (stored, _) = self.map.get_key_value(key)?;
         Some(stored)
@@ -202,8 +202,8 @@ impl<'a, K: KeyElement, H: KeyHasher, W: Width> ArchivedHashSet<'a, K, H, W> {
     #[inline]
     pub fn contains<Q: Query<K>>(self, key: &Q) -> bool
         ensures { FoundMemberHas self.entry
-            (query_of H.hasher K.key_calls K.same (Q.calls key.now) (Q.fits key.now)) (IsFoundAt
-            result) }
+            (lookup_of H.KeyHasher K.KeyElement Q.Query key.now)
+            (IsFoundAt result) }
     {
         self.map.contains_key(key)
     }

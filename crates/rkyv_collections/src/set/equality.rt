@@ -1,9 +1,9 @@
 //! Equality of sets, and the keys that a lookup of their own doesn't find.
 ghost use Rattle.std.specs.Prelude.{◌≡◌};
 ghost use Rattle.rkyv_base.specs.{IsValidView};
-ghost use Rattle.rkyv_keys.specs.{at_views, hash_at};
-ghost use Rattle.rkyv_collections.specs.{CountsKeysUpTo, set_bytes, set_equal, set_misplaced};
-ghost use Rattle.rkyv_collections.specs.{set_pos, set_spec, set_view};
+ghost use Rattle.rkyv_keys.specs.{archived_hash, archived_keys, at_views};
+ghost use Rattle.rkyv_collections.specs.{CountsMembersUpTo, set_equal, set_misplaced, set_spec};
+ghost use Rattle.rkyv_collections.specs.{set_view};
 
 use crate::set::{ArchivedHashSet, HashSetOf};
 use rkyv_base::{View, Width};
@@ -21,7 +21,7 @@ impl<'a, K: KeyElement, H: KeyHasher, W: Width> ArchivedHashSet<'a, K, H, W> {
     /// the cost quadratic in their number.
     #[inline]
     pub fn eq_set(self, other: ArchivedHashSet<'_, K, H, W>) -> bool
-        ensures { let key_hash = hash_at H.hasher K.key_calls in
+        ensures { let key_hash = archived_hash H.KeyHasher K.KeyElement in
             result ≡ at_views (set_equal W.word K.spec key_hash K.same) (set_view self.entry)
             (set_view other.entry) }
     {
@@ -41,9 +41,7 @@ impl<'a, K: KeyElement, H: KeyHasher, W: Width> ArchivedHashSet<'a, K, H, W> {
     /// `FxHasher64` takes no secret key, so chosen keys can share one.
     #[inline]
     pub fn misplaced(self) -> usize
-        ensures { let key_hash = hash_at H.hasher K.key_calls in
-            result ≡ set_misplaced W.word K.spec key_hash K.same (set_bytes self.entry)
-            (set_pos self.entry) }
+        ensures { result ≡ set_misplaced self.entry (archived_keys H.KeyHasher K.KeyElement) }
     {
         self.map.misplaced()
     }
@@ -53,28 +51,28 @@ impl<'a, K: KeyElement, H: KeyHasher, W: Width> ArchivedHashSet<'a, K, H, W> {
     /// The number is the result of `misplaced`.
     ///
     /// The result is `None` if and only if the lookups of all keys read more than `limit` strides
-    /// of sixteen control bytes, or more than 2^63.
+    /// of sixteen control bytes.
     ///
     /// By its code alone, it reads at most `limit` strides and those of one more lookup, so its
     /// cost on an untrusted set is bounded. The contract of `misplaced_up_to_by` of tables also
     /// says so.
     #[inline]
     pub fn misplaced_up_to(self, limit: u64) -> Option<usize>
-        ensures { let key_hash = hash_at H.hasher K.key_calls in
-            CountsKeysUpTo self.entry.map key_hash K.same limit result }
+        ensures { CountsMembersUpTo self.entry (archived_keys H.KeyHasher K.KeyElement) limit
+            result }
     {
         self.map.misplaced_up_to(limit)
     }
 }
 
 impl<K: KeyElement, H: KeyHasher, W: Width> ElementEq for HashSetOf<K, H, W> {
-    ghost same = { set_equal W.word K.spec (hash_at H.hasher K.key_calls) K.same };
+    ghost same = { set_equal W.word K.spec (archived_hash H.KeyHasher K.KeyElement) K.same };
 
     #[inline]
     fn same(a: View<'_, HashSetOf<K, H, W>>, b: View<'_, HashSetOf<K, H, W>>) -> bool
         requires a { IsValidView (set_spec W.word K.spec) a }
         requires b { IsValidView (set_spec W.word K.spec) b }
-        ensures { let key_hash = hash_at H.hasher K.key_calls in
+        ensures { let key_hash = archived_hash H.KeyHasher K.KeyElement in
             result ≡ at_views (set_equal W.word K.spec key_hash K.same) a.entry b.entry }
     {
         ArchivedHashSet::of(a).eq_set(ArchivedHashSet::of(b))

@@ -7,9 +7,10 @@ ghost use Rattle.std.specs.Int.{w32};
 ghost use Rattle.std.specs.Prelude.{◌↔◌, ◌≡◌};
 ghost use Rattle.rkyv_collections.specs.{ComparedAlike, MembersFoundAreListed, QueriedAlike};
 ghost use Rattle.rkyv_collections.specs.{SetLookupsFindListed, SetWalksVisitEach, WalksAllKeys};
-ghost use Rattle.rkyv_collections.specs.{WrittenAlike, set_equal, set_list, set_spec};
+ghost use Rattle.rkyv_collections.specs.{WrittenAlike, items_load_factor, listed_items, set_equal};
+ghost use Rattle.rkyv_collections.specs.{set_list, set_spec};
 ghost use Rattle.rkyv_base.specs.{SameSpec, SameValues, unit_spec};
-ghost use Rattle.rkyv_keys.specs.{SameComparison, hash_at, native_keys};
+ghost use Rattle.rkyv_keys.specs.{SameComparison, archived_hash, native_keys};
 
 pub mod written;
 
@@ -47,14 +48,15 @@ pub fn clones_are_the_same<'a, K: HasSpec, H, W: Word>()
 /// in the second.
 pub fn sets_are_compared<K: KeyElement, H: KeyHasher, W: Width>()
     ensures { SameComparison ⟦<HashSetOf<K, H, W> as ElementEq>⟧.same
-        (set_equal W.word K.spec (hash_at H.hasher K.key_calls) K.same) }
+        (set_equal W.word K.spec (archived_hash H.KeyHasher K.KeyElement) K.same) }
 {}
 
 /// States that `iter` returns each key of the list that a set represents once.
 ///
 /// The positions of a walk have the keys of the list, each once, in some order.
 pub fn walks_visit_each<A, K: KeyElement + Represents<A>, H: KeyHasher, W: Width>()
-    ensures { SetWalksVisitEach W.word K.spec K.represents (hash_at H.hasher K.key_calls) }
+    ensures { SetWalksVisitEach W.word K.spec K.represents
+        (archived_hash H.KeyHasher K.KeyElement) }
 {}
 
 /// States that `contains` is `true` if and only if the represented list has an equal key.
@@ -68,7 +70,7 @@ pub fn lookups_find_listed<
     W: Width,
 >()
     ensures { SetLookupsFindListed H W.Word K.HasSpec
-        (native_keys K.represents (hash_at H.hasher K.key_calls) Q.fits Q.equals) }
+        (native_keys K.represents (archived_hash H.KeyHasher K.KeyElement) Q.fits Q.equals) }
 {}
 
 /// States that `contains` in a root set is `true` if and only if the list has an equal key.
@@ -82,7 +84,7 @@ pub fn members_found_are_listed<
     W: Width,
 >()
     ensures { MembersFoundAreListed H W.Word K.HasSpec
-        (native_keys K.represents (hash_at H.hasher K.key_calls) Q.fits Q.equals) }
+        (native_keys K.represents (archived_hash H.KeyHasher K.KeyElement) Q.fits Q.equals) }
 {}
 
 /// States that a set whose keys hash no `usize` or `isize` is looked up alike by both hashers.
@@ -107,8 +109,8 @@ where
     K: KeyElement + Represents<A>,
     ensures spec { SameSpec ⟦<HashSetOf<K, H, W> as HasSpec>⟧.spec (set_spec W.word K.spec) }
     ensures list { SameValues ⟦<HashSetOf<K, H, W> as Represents<SetItems<'a, A, H>>>⟧.represents
-        (set_list W.word K.Represents (hash_at H.hasher K.key_calls) (λ x. x.load_factor)
-        (λ x. x.items.now)) }
+        (set_list W.word K.Represents (archived_hash H.KeyHasher K.KeyElement) items_load_factor
+        listed_items) }
     ensures default_width { SameSpec ⟦<HashSetOf<K, H> as HasSpec>⟧.spec (set_spec w32 K.spec) }
     ensures default_hasher { SameValues
         ⟦<HashSetOf<K> as Represents<SetItems<'a, A>>>⟧.represents

@@ -3,7 +3,7 @@
 //! `serialize_from_iter` writes the keys and returns a resolver. Its `resolve` then writes
 //! the header.
 
-ghost use Rattle.std.specs.Prelude.{◌≡◌, ◌+◌, ◌<◌, ◌^◌, length};
+ghost use Rattle.std.specs.Prelude.{◌≡◌, length};
 ghost use Rattle.rkyv_table.specs.{keys_in, resolver_of};
 ghost use Rattle.rkyv_keys.specs.{native_key_format};
 ghost use Rattle.rkyv_collections.specs.{ResolvesMap, WritesSet};
@@ -92,7 +92,6 @@ impl<'a, K: KeyElement, H: KeyHasher, W: Width> ArchivedHashSet<'a, K, H, W> {
     ///
     /// - `len` and `load_factor` are those of the resolver.
     /// - `out` has the size of a header.
-    /// - The header ends below 2^64.
     ///
     /// # Errors
     ///
@@ -107,7 +106,6 @@ impl<'a, K: KeyElement, H: KeyHasher, W: Width> ArchivedHashSet<'a, K, H, W> {
     ) -> ResolveResult
         requires same { (len ≡ resolver.len) × (load_factor ≡ resolver.load_factor) }
         requires room { length out.old ≡ W.TABLE_SIZE }
-        requires fits { pos + W.TABLE_SIZE < 2 ^ 64 }
         ensures { ResolvesMap W.word (resolver_of len load_factor resolver.pos) pos
             out.old out.new result }
     {

@@ -6,11 +6,11 @@
 
 ghost use Rattle.std.specs.Prelude.{IsTrue, ◌↔◌};
 ghost use Rattle.rkyv_base.specs.{AtView, IsValidView};
-ghost use Rattle.rkyv_keys.specs.{hash_of, queried};
+ghost use Rattle.rkyv_keys.specs.{native_hash, queries_of};
 ghost use Rattle.rkyv_table.specs.{listed};
 ghost use Rattle.rkyv_collections.specs.{EntriesEqual, FindsFirstAcceptedIn, FindsPairIn};
-ghost use Rattle.rkyv_collections.specs.{StdMapEquals, StdMapEqualsIn, map_format, map_spec};
-ghost use Rattle.rkyv_collections.specs.{of_entries};
+ghost use Rattle.rkyv_collections.specs.{StdMapEquals, StdMapEqualsIn, inner, inner_entries};
+ghost use Rattle.rkyv_collections.specs.{map_format, map_spec, of_entries};
 ghost use Rattle.rkyv_collections.specs.Lemmas.StdOnce.{std_map_once};
 ghost use Rattle.rkyv_collections.specs.Lemmas.StdMapSound.{std_map_equal};
 
@@ -28,7 +28,7 @@ impl<'a, K: KeyElement, V: HasSpec, H: KeyHasher, W: Width> ArchivedHashMap<'a, 
     pub(crate) fn finds_equal<A: Query<K>, B>(self, key: &A, value: &B) -> bool
     where
         V: MatchesNative<B>,
-        ensures { let queries = queried H.hasher A.calls A.fits in
+        ensures { let queries = queries_of H.KeyHasher A.Query in
             IsTrue result ↔ FindsPairIn self.entry queries V.equals (key.now, value.now) }
     {
         match self.get(key) {
@@ -49,7 +49,7 @@ impl<'a, K: KeyElement, V: HasSpec, H: KeyHasher, W: Width> ArchivedHashMap<'a, 
     where
         K: Represents<A>,
         V: MatchesNative<B>,
-        ensures { let queries = queried H.hasher A.calls A.fits in
+        ensures { let queries = queries_of H.KeyHasher A.Query in
             IsTrue result ↔ FindsFirstAcceptedIn self.entry queries V.equals key.now (A.eq key.now)
             other.now.entries }
     {
@@ -81,7 +81,7 @@ impl<'a, K: KeyElement, V: HasSpec, H: KeyHasher, W: Width> ArchivedHashMap<'a, 
     where
         K: Represents<A>,
         V: MatchesNative<B>,
-        ensures { let queries = queried H.hasher A.calls A.fits in
+        ensures { let queries = queries_of H.KeyHasher A.Query in
             IsTrue result ↔ StdMapEqualsIn self.entry queries V.equals other.now }
     {
         if self.len() != other.len() {
@@ -105,13 +105,13 @@ impl<
     B,
     T: BuildHasher,
 > MatchesNative<HashMap<A, B, T>> for HashMapOf<K, V, H, W> {
-    ghost equals = { StdMapEquals W.word K.spec V.spec (hash_of H.hasher A.calls) A.fits
+    ghost equals = { StdMapEquals W.word K.spec V.spec (native_hash H.KeyHasher A.KeyHash) A.fits
         V.equals };
 
     #[inline]
     fn eq_native(view: View<'_, HashMapOf<K, V, H, W>>, value: &HashMap<A, B, T>) -> bool
         requires { IsValidView (map_spec W.word K.spec V.spec) view }
-        ensures { let hash = hash_of H.hasher A.calls in
+        ensures { let hash = native_hash H.KeyHasher A.KeyHash in
             IsTrue result ↔ AtView (StdMapEquals W.word K.spec V.spec hash A.fits V.equals)
             view.entry value.now }
     {
@@ -123,13 +123,13 @@ impl<K, V, H, W, M> MatchesNative<Hashed<M, H>> for HashMapOf<K, V, H, W>
 where
     HashMapOf<K, V, H, W>: MatchesNative<M> + Represents<Hashed<M, H>>,
 {
-    ghost equals = { λ b p x. ⟦<HashMapOf<K, V, H, W> as MatchesNative<M>>⟧.equals b p x.map };
+    ghost equals = { λ b p x. ⟦<HashMapOf<K, V, H, W> as MatchesNative<M>>⟧.equals b p (inner x) };
 
     #[inline]
     fn eq_native(view: View<'_, Self>, value: &Hashed<M, H>) -> bool
         requires { IsValidView ⟦<HashMapOf<K, V, H, W> as Element>⟧.spec view }
         ensures { let equals = ⟦<HashMapOf<K, V, H, W> as MatchesNative<M>>⟧.equals in
-            IsTrue result ↔ AtView equals view.entry value.now.map }
+            IsTrue result ↔ AtView equals view.entry (inner value.now) }
     {
         <HashMapOf<K, V, H, W> as MatchesNative<M>>::eq_native(view, &value.map)
     }
@@ -147,7 +147,7 @@ where
     B::Archived: MatchesNative<B>,
     A: NativeKey<A::Archived>,
 {
-    ghost equal = { std_map_equal (λ x. x.map.entries) H.hasher W.word A.Archived.laws
+    ghost equal = { std_map_equal inner_entries H.hasher W.word A.Archived.laws
         B.Archived.laws W.MAX_CAPACITY W.layout.kind A.query A.native A.Eq.laws
         A.Archive.laws B.equal };
 }
@@ -173,12 +173,12 @@ impl<
     T: BuildHasher,
 > EqArchived<ArchivedHashMap<'a, K, V, H, W>> for HashMap<A, B, T> {
     ghost equals_archived = { λ other m.
-        StdMapEqualsIn other (queried H.hasher A.calls A.fits) V.equals m };
+        StdMapEqualsIn other (queries_of H.KeyHasher A.Query) V.equals m };
 
     #[inline]
     fn eq_archived(&self, other: ArchivedHashMap<'a, K, V, H, W>) -> bool
         ensures { IsTrue result ↔ StdMapEqualsIn other.entry
-            (queried H.hasher A.calls A.fits) V.equals self.now }
+            (queries_of H.KeyHasher A.Query) V.equals self.now }
     {
         other.eq_std(self)
     }
@@ -208,5 +208,5 @@ impl<
     T: BuildHasher,
 > RepresentsUniquely<Hashed<HashMap<A, B, T>, H>> for HashMapOf<K, V, H, W> {
     ghost once = { λ m n. std_map_once A.eq A.Eq.laws B.eq K.spec V.spec K.laws V.laws W.word
-        K.represents V.represents K.once V.once m.map n.map };
+        K.represents V.represents K.once V.once (inner m) (inner n) };
 }

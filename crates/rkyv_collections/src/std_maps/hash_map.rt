@@ -1,10 +1,10 @@
 //! Maps of std as values that archived maps represent, and their serialization.
 
 ghost use Rattle.rkyv_base.specs.{RepresentsAs, written_as};
-ghost use Rattle.rkyv_keys.specs.{hash_of, native_format};
+ghost use Rattle.rkyv_keys.specs.{native_format, native_hash};
 ghost use Rattle.rkyv_table.specs.{listed};
-ghost use Rattle.rkyv_collections.specs.{SerializesEntries, StdMapRepresents, inner, map_format};
-ghost use Rattle.rkyv_collections.specs.{of_entries};
+ghost use Rattle.rkyv_collections.specs.{SerializesEntries, StdMapRepresents, inner, inner_entries};
+ghost use Rattle.rkyv_collections.specs.{map_format, of_entries};
 ghost use Rattle.rkyv_collections.specs.Lemmas.StdMapLaws.{entries_local};
 ghost use Rattle.rkyv_collections.specs.Lemmas.StdMapSound.{std_map_sound};
 
@@ -35,7 +35,7 @@ impl<A: Eq + Hash, B, T: BuildHasher, H, W: Width, K: Represents<A>, V: Represen
         (StdMapRepresents K.spec V.spec K.represents V.represents W.word A.eq) };
 
     ghost local = { λ x. entries_local K.spec V.spec K.laws V.laws W.word A.eq K.local V.local
-        x.map.entries };
+        (inner_entries x) };
 }
 
 impl<W: Width, H: KeyHasher, A: Archive<W> + Hash, B: Archive<W>, T: BuildHasher> Archive<W>
@@ -48,15 +48,15 @@ where
 
     type Resolver = HashMapResolver<W>;
 
-    ghost format = { written_as (λ x. x.map.entries) (of_entries A.eq (listed W.MAX_CAPACITY (7, 8)
-        (map_format W.word A.Archived.spec B.Archived.spec A.format B.format
-        (hash_of H.hasher A.calls) (7, 8)))) };
+    ghost format = { written_as inner_entries (of_entries A.eq (listed W.MAX_CAPACITY
+        (7, 8) (map_format W.word A.Archived.spec B.Archived.spec A.format B.format
+        (native_hash H.KeyHasher A.KeyHash) (7, 8)))) };
 
     fn resolve(&self, resolver: HashMapResolver<W>, pos: u64, out: &mut [u8]) -> ResolveResult {
         resolver.resolve(pos, out)
     }
 
-    ghost laws = { std_map_sound (λ x. x.map.entries) H.hasher W.word A.Archived.laws
+    ghost laws = { std_map_sound inner_entries H.hasher W.word A.Archived.laws
         B.Archived.laws W.MAX_CAPACITY W.layout.kind A.query A.native A.Eq.laws
         A.Archive.laws B.laws };
 }

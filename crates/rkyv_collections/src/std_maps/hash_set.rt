@@ -4,12 +4,12 @@ ghost use Rattle.std.specs.Prelude.{IsTrue, MatchResult, ◌↔◌};
 ghost use Rattle.rkyv_base.specs.{AtView, IsValidView, RepresentsAs, unit_format, unit_represents};
 ghost use Rattle.rkyv_base.specs.{unit_spec, written_as};
 ghost use Rattle.rkyv_base.specs.Lemmas.Empty.{unit_element, unit_is_format, unit_local};
-ghost use Rattle.rkyv_keys.specs.{Deserializes, hash_of, native_format, queried};
+ghost use Rattle.rkyv_keys.specs.{Deserializes, hash_of, native_format, native_hash, queries_of};
 ghost use Rattle.rkyv_table.specs.{listed, with_units};
 ghost use Rattle.rkyv_collections.specs.{EntriesEqual, InsertsKey, ReadsStdSet, SerializesEntries};
 ghost use Rattle.rkyv_collections.specs.{StdSetEquals, StdSetEqualsIn, StdSetRepresents, inner};
-ghost use Rattle.rkyv_collections.specs.{insert_key_fails, map_format, of_entries, set_spec};
-ghost use Rattle.rkyv_collections.specs.{set_view, std_set_fails};
+ghost use Rattle.rkyv_collections.specs.{inner_keys, insert_key_fails, map_format, of_entries};
+ghost use Rattle.rkyv_collections.specs.{set_spec, set_view, std_set_fails};
 ghost use Rattle.rkyv_collections.specs.Lemmas.StdOnce.{std_set_once};
 ghost use Rattle.rkyv_collections.specs.Lemmas.StdMapLaws.{entries_local};
 ghost use Rattle.rkyv_collections.specs.Lemmas.StdMapSound.{std_map_equal, std_map_sound};
@@ -45,7 +45,7 @@ impl<A: Eq + Hash, T: BuildHasher, H, W: Width, K: Represents<A>> Represents<
     ghost represents = { RepresentsAs inner (StdSetRepresents K.spec K.represents W.word A.eq) };
 
     ghost local = { λ x. entries_local K.spec unit_spec K.laws unit_element W.word A.eq K.local
-        unit_local (with_units x.map.keys) };
+        unit_local (with_units (inner_keys x)) };
 }
 
 impl<W: Width, H: KeyHasher, A: Archive<W> + Hash, T: BuildHasher> Archive<W>
@@ -58,16 +58,16 @@ where
 
     type Resolver = HashSetResolver<W>;
 
-    ghost format = { written_as (λ x. with_units x.map.keys)
+    ghost format = { written_as (λ x. with_units (inner_keys x))
         (of_entries A.eq (listed W.MAX_CAPACITY (7, 8)
         (map_format W.word A.Archived.spec unit_spec A.format unit_format
-        (hash_of H.hasher A.calls) (7, 8)))) };
+        (native_hash H.KeyHasher A.KeyHash) (7, 8)))) };
 
     fn resolve(&self, resolver: HashSetResolver<W>, pos: u64, out: &mut [u8]) -> ResolveResult {
         resolver.resolve(pos, out)
     }
 
-    ghost laws = { std_map_sound (λ x. with_units x.map.keys) H.hasher W.word A.Archived.laws
+    ghost laws = { std_map_sound (λ x. with_units (inner_keys x)) H.hasher W.word A.Archived.laws
         unit_element W.MAX_CAPACITY W.layout.kind A.query A.native A.Eq.laws
         A.Archive.laws unit_is_format };
 }
@@ -178,7 +178,7 @@ impl<'a, K: KeyElement, H: KeyHasher, W: Width> ArchivedHashSet<'a, K, H, W> {
     pub fn eq_std<A: NativeKey<K> + Hash, T: BuildHasher>(self, other: &HashSet<A, T>) -> bool
     where
         K: Represents<A>,
-        ensures { let queries = queried H.hasher A.calls A.fits in
+        ensures { let queries = queries_of H.KeyHasher A.Query in
             IsTrue result ↔ StdSetEqualsIn self.entry queries other.now }
     {
         if self.len() != other.len() {
@@ -200,12 +200,12 @@ impl<
     A: NativeKey<K> + Hash,
     T: BuildHasher,
 > MatchesNative<HashSet<A, T>> for HashSetOf<K, H, W> {
-    ghost equals = { StdSetEquals W.word K.spec (hash_of H.hasher A.calls) A.fits };
+    ghost equals = { StdSetEquals W.word K.spec (native_hash H.KeyHasher A.KeyHash) A.fits };
 
     #[inline]
     fn eq_native(view: View<'_, HashSetOf<K, H, W>>, value: &HashSet<A, T>) -> bool
         requires { IsValidView (set_spec W.word K.spec) view }
-        ensures { let hash = hash_of H.hasher A.calls in
+        ensures { let hash = native_hash H.KeyHasher A.KeyHash in
             IsTrue result ↔ AtView (StdSetEquals W.word K.spec hash A.fits) view.entry
             value.now }
     {
@@ -217,13 +217,13 @@ impl<K, H, W, M> MatchesNative<Hashed<M, H>> for HashSetOf<K, H, W>
 where
     HashSetOf<K, H, W>: MatchesNative<M> + Represents<Hashed<M, H>>,
 {
-    ghost equals = { λ b p x. ⟦<HashSetOf<K, H, W> as MatchesNative<M>>⟧.equals b p x.map };
+    ghost equals = { λ b p x. ⟦<HashSetOf<K, H, W> as MatchesNative<M>>⟧.equals b p (inner x) };
 
     #[inline]
     fn eq_native(view: View<'_, Self>, value: &Hashed<M, H>) -> bool
         requires { IsValidView ⟦<HashSetOf<K, H, W> as Element>⟧.spec view }
         ensures { let equals = ⟦<HashSetOf<K, H, W> as MatchesNative<M>>⟧.equals in
-            IsTrue result ↔ AtView equals view.entry value.now.map }
+            IsTrue result ↔ AtView equals view.entry (inner value.now) }
     {
         <HashSetOf<K, H, W> as MatchesNative<M>>::eq_native(view, &value.map)
     }
@@ -238,12 +238,12 @@ impl<
     T: BuildHasher,
 > EqArchived<ArchivedHashSet<'a, K, H, W>> for HashSet<A, T> {
     ghost equals_archived = { λ other s.
-        StdSetEqualsIn other (queried H.hasher A.calls A.fits) s };
+        StdSetEqualsIn other (queries_of H.KeyHasher A.Query) s };
 
     #[inline]
     fn eq_archived(&self, other: ArchivedHashSet<'a, K, H, W>) -> bool
         ensures { IsTrue result ↔ StdSetEqualsIn other.entry
-            (queried H.hasher A.calls A.fits) self.now }
+            (queries_of H.KeyHasher A.Query) self.now }
     {
         other.eq_std(self)
     }
@@ -257,8 +257,8 @@ where
 {
     ghost equal = { let set = set_spec W.word A.Archived.spec in
         set_equal_written W.word A.Archived.spec set (hash_of H.hasher A.calls) A.fits
-        (λ x. x.map.keys) ⟦<Hashed<HashSet<A, T>, H> as Archive<W>>⟧.format
-        (std_map_equal (λ x. with_units x.map.keys) H.hasher W.word A.Archived.laws unit_element
+        inner_keys ⟦<Hashed<HashSet<A, T>, H> as Archive<W>>⟧.format
+        (std_map_equal (λ x. with_units (inner_keys x)) H.hasher W.word A.Archived.laws unit_element
         W.MAX_CAPACITY W.layout.kind A.query A.native A.Eq.laws A.Archive.laws
         unit_is_format) };
 }
@@ -303,6 +303,6 @@ impl<K: RepresentsUniquely<A>, H, W: Width, A: Eq + Hash, T: BuildHasher> Repres
     Hashed<HashSet<A, T>, H>,
 > for HashSetOf<K, H, W> {
     ghost once = { λ s t. std_set_once A.eq A.Eq.laws K.spec K.laws W.word
-        K.represents K.once s.map
-        t.map };
+        K.represents K.once (inner s)
+        (inner t) };
 }

@@ -4,6 +4,7 @@
 
 ghost use Rattle.std.specs.Prelude.{◌≡◌};
 ghost use Rattle.std.specs.Borrow.{Lends, sem};
+ghost use Rattle.rkyv_collections.specs.StdMaps.StdMap.{inner, with_inner};
 ghost use Rattle.rkyv_collections.specs.contracts.std_maps.hashed.Hashed.{the_row};
 
 use rkyv_scan::FxHasher64;
@@ -42,7 +43,7 @@ impl<M, H> Hashed<M, H> {
     /// Returns the wrapper of a map or set.
     #[inline]
     pub fn new(map: M) -> Hashed<M, H>
-        ensures { result.map ≡ map }
+        ensures { inner result ≡ map }
     {
         Hashed {
             map,
@@ -53,7 +54,7 @@ impl<M, H> Hashed<M, H> {
     /// Returns a reference to the map or set.
     #[inline]
     pub fn get(&self) -> &M
-        ensures { result.now ≡ self.now.map }
+        ensures { result.now ≡ inner self.now }
     {
         &self.map
     }
@@ -61,9 +62,9 @@ impl<M, H> Hashed<M, H> {
     /// Returns a mutable reference to the map or set.
     #[inline]
     pub fn get_mut(&mut self) -> &mut M
-        ensures value { result.now ≡ self.old.map }
+        ensures value { result.now ≡ inner self.old }
         ensures* writes_back { sem 𝓛 (Lends (the_row M.row H.row) M.row self.entry result
-            (λ map. record { map = map; hasher = self.old.hasher })) }
+            (with_inner self.old)) }
     {
         &mut self.map
     }
@@ -71,7 +72,7 @@ impl<M, H> Hashed<M, H> {
     /// Returns the map or set itself.
     #[inline]
     pub fn into_inner(self) -> M
-        ensures { result ≡ self.map }
+        ensures { result ≡ inner self }
     {
         let Hashed { map, .. } = self;
         map
@@ -79,14 +80,17 @@ impl<M, H> Hashed<M, H> {
 }
 
 impl<M: PartialEq, H> PartialEq for Hashed<M, H> {
-    ghost eq = { λ x y. M.eq x.map y.map };
+    ghost eq = { λ x y. M.eq (inner x) (inner y) };
 
     ghost laws = { let m = M.laws in
-        record { symm = λ x y. m.symm x.map y.map; trans = λ x y z. m.trans x.map y.map z.map } };
+        record {
+          symm = λ x y. m.symm (inner x) (inner y);
+          trans = λ x y z. m.trans (inner x) (inner y) (inner z);
+        } };
 
     #[inline]
     fn eq(&self, other: &Hashed<M, H>) -> bool
-        ensures { result ≡ M.eq self.now.map other.now.map }
+        ensures { result ≡ M.eq (inner self.now) (inner other.now) }
     {
         self.map == other.map
     }
@@ -95,15 +99,15 @@ impl<M: PartialEq, H> PartialEq for Hashed<M, H> {
 impl<M: Eq, H> Eq for Hashed<M, H> {
     ghost laws = { let m = M.Eq.laws in
         record {
-          refl = λ x. m.refl x.map;
-          symm = λ x y. m.symm x.map y.map;
-          congr = λ x y z. m.congr x.map y.map z.map;
+          refl = λ x. m.refl (inner x);
+          symm = λ x y. m.symm (inner x) (inner y);
+          congr = λ x y z. m.congr (inner x) (inner y) (inner z);
         } };
 }
 
 /// `Hashed` is formatted as the map or set itself.
 impl<M: Debug, H> Debug for Hashed<M, H> {
-    ghost debug_output = { λ x. M.debug_output x.map };
+    ghost debug_output = { λ x. M.debug_output (inner x) };
 
     fn fmt<U: Write>(&self, f: &mut Formatter<U>) -> fmt::Result {
         self.map.fmt(f)

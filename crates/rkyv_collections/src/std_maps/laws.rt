@@ -6,14 +6,16 @@
 ghost use Rattle.std.specs.Prelude.{◌≡◌, ◌↔◌};
 ghost use Rattle.rkyv_base.specs.{IsFormat, RepresentsAs, SameFormat, SameValues, unit_format};
 ghost use Rattle.rkyv_base.specs.{unit_spec, written_as};
-ghost use Rattle.rkyv_keys.specs.{SameErrors, hash_at, hash_of, native_format, queried};
+ghost use Rattle.rkyv_keys.specs.{SameErrors, archived_hash, native_format, native_hash};
+ghost use Rattle.rkyv_keys.specs.{queries_of};
 ghost use Rattle.rkyv_table.specs.{with_units};
 ghost use Rattle.rkyv_collections.specs.{ArchivesRoundTrip, FindsInWrittenMap, FindsInWrittenSet};
 ghost use Rattle.rkyv_collections.specs.{StdMapEquals, StdMapEqualsIn, StdMapRepresents};
 ghost use Rattle.rkyv_collections.specs.{StdSetEquals, StdSetEqualsIn, StdSetRepresents};
 ghost use Rattle.rkyv_collections.specs.{WrittenMapsAreEqual, WrittenMapsAreLists};
 ghost use Rattle.rkyv_collections.specs.{WrittenSetsAreEqual, WrittenSetsAreLists, inner};
-ghost use Rattle.rkyv_collections.specs.{referent, std_map_fails, std_map_format, std_set_fails};
+ghost use Rattle.rkyv_collections.specs.{inner_entries, inner_keys, referent, std_map_fails};
+ghost use Rattle.rkyv_collections.specs.{std_map_format, std_set_fails};
 
 use crate::map::{ArchivedHashMap, HashMapOf};
 use crate::set::{ArchivedHashSet, HashSetOf};
@@ -51,7 +53,7 @@ where
     A: NativeKey<A::Archived>,
     ensures { let format = ⟦<Hashed<HashMap<A, B, T>, H> as Archive<W>>⟧.format in
         FindsInWrittenMap W.word A.Archived.Represents B.Archived.Represents
-        (queried H.hasher Q.calls Q.fits) format }
+        (queries_of H.KeyHasher Q.Query) format }
 {
     nested_maps_are_looked_up::<Q, W, H, A, B, T, ValueRelation>();
 }
@@ -74,7 +76,7 @@ where
     A::Archived: KeyElement,
     A: NativeKey<A::Archived>,
     ensures { let format = ⟦<Hashed<HashSet<A, T>, H> as Archive<W>>⟧.format in
-        FindsInWrittenSet W.word A.Archived.Represents (queried H.hasher Q.calls Q.fits)
+        FindsInWrittenSet W.word A.Archived.Represents (queries_of H.KeyHasher Q.Query)
         format }
 {}
 
@@ -135,11 +137,11 @@ where
     H: KeyHasher,
     A: NativeKey<K> + Hash,
     ensures maps { SameValues ⟦<HashMapOf<K, V, H, W> as MatchesNative<HashMap<A, B, T>>>⟧.equals
-        (StdMapEquals W.word K.spec V.spec (hash_of H.hasher A.calls) A.fits V.equals) }
+        (StdMapEquals W.word K.spec V.spec (native_hash H.KeyHasher A.KeyHash) A.fits V.equals) }
     ensures hashed { SameValues
         ⟦<HashMapOf<K, V, H, W> as MatchesNative<Hashed<HashMap<A, B, T>, H>>>⟧.equals
         (RepresentsAs inner
-        (StdMapEquals W.word K.spec V.spec (hash_of H.hasher A.calls) A.fits V.equals)) }
+        (StdMapEquals W.word K.spec V.spec (native_hash H.KeyHasher A.KeyHash) A.fits V.equals)) }
 {}
 
 /// States that an archived set is compared with a set of std by their lengths and by lookups.
@@ -151,10 +153,11 @@ where
     H: KeyHasher,
     A: NativeKey<K> + Hash,
     ensures sets { SameValues ⟦<HashSetOf<K, H, W> as MatchesNative<HashSet<A, T>>>⟧.equals
-        (StdSetEquals W.word K.spec (hash_of H.hasher A.calls) A.fits) }
+        (StdSetEquals W.word K.spec (native_hash H.KeyHasher A.KeyHash) A.fits) }
     ensures hashed { SameValues
         ⟦<HashSetOf<K, H, W> as MatchesNative<Hashed<HashSet<A, T>, H>>>⟧.equals
-        (RepresentsAs inner (StdSetEquals W.word K.spec (hash_of H.hasher A.calls) A.fits)) }
+        (RepresentsAs inner
+        (StdSetEquals W.word K.spec (native_hash H.KeyHasher A.KeyHash) A.fits)) }
 {}
 
 /// States which archived maps and sets `eq_archived` of a map or set of std takes as equal.
@@ -168,23 +171,23 @@ where
     A: NativeKey<K> + Hash,
     ensures maps { (m : _) (x : _) →
         ⟦<HashMap<A, B, T> as EqArchived<ArchivedHashMap<'a, K, V, H, W>>>⟧.equals_archived m x
-        ↔ StdMapEqualsIn m (queried H.hasher A.calls A.fits) V.equals x }
+        ↔ StdMapEqualsIn m (queries_of H.KeyHasher A.Query) V.equals x }
     ensures sets { (s : _) (x : _) →
         ⟦<HashSet<A, T> as EqArchived<ArchivedHashSet<'a, K, H, W>>>⟧.equals_archived s x
-        ↔ StdSetEqualsIn s (queried H.hasher A.calls A.fits) x }
+        ↔ StdSetEqualsIn s (queries_of H.KeyHasher A.Query) x }
 {}
 
 /// States that wrapped maps or sets of std are equal if and only if the maps or sets are.
 pub fn hashed_values_are_compared<M: PartialEq, H>()
-    ensures { (x y : _) → ⟦<Hashed<M, H> as PartialEq>⟧.eq x y ≡ M.eq x.map y.map }
+    ensures { (x y : _) → ⟦<Hashed<M, H> as PartialEq>⟧.eq x y ≡ M.eq (inner x) (inner y) }
 {}
 
 /// States that a clone of a wrapped value wraps a clone of it, and fails only if that clone does.
 pub fn hashed_values_are_cloned<M: Clone, H>()
     ensures clones { (x clone : _) →
-        ⟦<Hashed<M, H> as Clone>⟧.is_clone x clone ↔ M.is_clone x.map clone.map }
+        ⟦<Hashed<M, H> as Clone>⟧.is_clone x clone ↔ M.is_clone (inner x) (inner clone) }
     ensures infallible { (x : _) →
-        ⟦<Hashed<M, H> as Clone>⟧.is_infallible x ↔ M.is_infallible x.map }
+        ⟦<Hashed<M, H> as Clone>⟧.is_infallible x ↔ M.is_infallible (inner x) }
 {}
 
 /// States which errors deserializing a map of std can return.
@@ -228,7 +231,7 @@ where
     ensures { SameFormat ⟦<Hashed<HashMap<A, B, T>, H> as Archive<W>>⟧.format
         (std_map_format W.Width
         (native_format K.spec B.Archived.spec A.format B.format H.hasher A.calls) A.eq
-        (λ x. x.map.entries)) }
+        inner_entries) }
 {}
 
 /// States that a set of std is written as the set of its keys, which are distinct.
@@ -239,7 +242,7 @@ where
     ensures { SameFormat ⟦<Hashed<HashSet<A, T>, H> as Archive<W>>⟧.format
         (std_map_format W.Width
         (native_format K.spec unit_spec A.format unit_format H.hasher A.calls) A.eq
-        (λ x. with_units x.map.keys)) }
+        (λ x. with_units (inner_keys x))) }
 {}
 
 /// States that a wrapped reference to a map of std is written as the wrapped map.
@@ -278,7 +281,7 @@ where
     B::Archived: MatchesNative<B>,
     A: NativeKey<A::Archived>,
     ensures { WrittenMapsAreEqual W.word A.Archived.spec B.Archived.spec
-        (queried H.hasher A.calls A.fits) B.Archived.equals
+        (queries_of H.KeyHasher A.Query) B.Archived.equals
         ⟦<Hashed<HashMap<A, B, T>, H> as Archive<W>>⟧.format }
 {
     written_values_are_equal::<W, Hashed<HashMap<A, B, T>, H>>();
@@ -289,7 +292,7 @@ pub fn written_sets_are_equal<W: Width, H: KeyHasher, A: Archive<W> + Hash, T: B
 where
     A::Archived: KeyElement,
     A: NativeKey<A::Archived>,
-    ensures { WrittenSetsAreEqual W.word A.Archived.spec (queried H.hasher A.calls A.fits)
+    ensures { WrittenSetsAreEqual W.word A.Archived.spec (queries_of H.KeyHasher A.Query)
         ⟦<Hashed<HashSet<A, T>, H> as Archive<W>>⟧.format }
 {
     written_values_are_equal::<W, Hashed<HashSet<A, T>, H>>();
@@ -311,7 +314,7 @@ where
     A: NativeKey<A::Archived>,
     ensures { let format = ⟦<Hashed<HashMap<A, B, T>, H> as Archive<W>>⟧.format in
         WrittenMapsAreLists W.word A.Archived.Represents B.Archived.Represents
-        (hash_at H.hasher A.Archived.key_calls) format }
+        (archived_hash H.KeyHasher A.Archived.KeyElement) format }
 {
     nested_maps_are_lists::<W, H, A, B, T, ValueRelation>();
 }
@@ -325,7 +328,7 @@ where
     A: NativeKey<A::Archived>,
     ensures { let format = ⟦<Hashed<HashSet<A, T>, H> as Archive<W>>⟧.format in
         WrittenSetsAreLists W.word A.Archived.Represents
-        (hash_at H.hasher A.Archived.key_calls) format }
+        (archived_hash H.KeyHasher A.Archived.KeyElement) format }
 {
     written_values_are_related::<W, Hashed<HashSet<A, T>, H>, KeysRelation>();
 }

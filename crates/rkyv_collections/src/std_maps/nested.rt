@@ -8,12 +8,14 @@ ghost use Rattle.std.specs.Prelude.{List, ℕ};
 ghost use Rattle.rkyv_base.specs.{IsFormat, PairRepresents, SameValues};
 ghost use Rattle.rkyv_base.specs.Lemmas.Empty.{unit_element, unit_is_format};
 ghost use Rattle.rkyv_base.specs.Lemmas.Pairs.{pair_is_format};
-ghost use Rattle.rkyv_keys.specs.{found_views, hash_at, native_keys, native_pairs, queried};
+ghost use Rattle.rkyv_keys.specs.{archived_hash, found_views, native_keys, native_pairs};
+ghost use Rattle.rkyv_keys.specs.{queries_of};
 ghost use Rattle.rkyv_table.specs.{with_units};
-ghost use Rattle.rkyv_collections.specs.{FindsInWrittenMap, FoundAreListed, IsListOfEntries};
-ghost use Rattle.rkyv_collections.specs.{IsListOfKeys, LookupsFindListed, WalksVisitEach};
+ghost use Rattle.rkyv_collections.specs.{FindsInWrittenMap, FoundAreListed, IsListOfKeys};
+ghost use Rattle.rkyv_collections.specs.{IsListOfRelated, LookupsFindListed, WalksVisitEach};
 ghost use Rattle.rkyv_collections.specs.{WalksVisitPairs, WrittenMapsAreLists};
-ghost use Rattle.rkyv_collections.specs.{WrittenMapsListEntries, WrittenRootsAre, with_relation};
+ghost use Rattle.rkyv_collections.specs.{WrittenMapsListEntries, WrittenRootsAre, inner_entries};
+ghost use Rattle.rkyv_collections.specs.{inner_keys, with_relation};
 ghost use Rattle.rkyv_collections.specs.Lemmas.StdLists.{entries_listed};
 
 use crate::std_maps::hashed::Hashed;
@@ -64,12 +66,12 @@ where
     A::Archived: KeyElement,
     A: NativeKey<A::Archived>,
 {
-    ghost related = { IsListOfEntries W.word A.Archived.Represents
-        (with_relation B.Archived.Represents R.related) (hash_at H.hasher A.Archived.key_calls) };
+    ghost related = { IsListOfRelated W.word A.Archived.Represents B.Archived.Represents R.related
+        (archived_hash H.KeyHasher A.Archived.KeyElement) };
 
     ghost written = { entries_listed H.hasher W.word W.layout.kind W.MAX_CAPACITY A.Archived.laws
         B.Archived.laws A.query A.native A.Eq.laws.refl A.Archive.laws R.written
-        (λ x. x.map.entries) };
+        inner_entries };
 }
 
 /// The relation of sets that represent the list of the keys of a set of std.
@@ -84,11 +86,11 @@ where
     A: NativeKey<A::Archived>,
 {
     ghost related = { IsListOfKeys W.word A.Archived.Represents
-        (hash_at H.hasher A.Archived.key_calls) };
+        (archived_hash H.KeyHasher A.Archived.KeyElement) };
 
     ghost written = { entries_listed H.hasher W.word W.layout.kind W.MAX_CAPACITY A.Archived.laws
         unit_element A.query A.native A.Eq.laws.refl A.Archive.laws unit_is_format
-        (λ x. with_units x.map.keys) };
+        (λ x. with_units (inner_keys x)) };
 }
 
 /// The relation of entries to pairs, whose parts have the relations `R` and `S`.
@@ -138,7 +140,7 @@ where
     A::Archived: KeyElement,
     A: NativeKey<A::Archived>,
     ensures { FindsInWrittenMap W.word A.Archived.Represents
-        (with_relation B.Archived.Represents R.related) (queried H.hasher Q.calls Q.fits)
+        (with_relation B.Archived.Represents R.related) (queries_of H.KeyHasher Q.Query)
         ⟦<Hashed<HashMap<A, B, T>, H> as Archive<W>>⟧.format }
 {}
 
@@ -158,10 +160,11 @@ where
     A::Archived: KeyElement,
     A: NativeKey<A::Archived>,
     ensures root { WrittenMapsAreLists W.word A.Archived.Represents
-        (with_relation B.Archived.Represents R.related) (hash_at H.hasher A.Archived.key_calls)
+        (with_relation B.Archived.Represents R.related)
+        (archived_hash H.KeyHasher A.Archived.KeyElement)
         ⟦<Hashed<HashMap<A, B, T>, H> as Archive<W>>⟧.format }
-    ensures written { WrittenMapsListEntries W.word A.Archived.Represents
-        (with_relation B.Archived.Represents R.related) (hash_at H.hasher A.Archived.key_calls)
+    ensures written { WrittenMapsListEntries W.word A.Archived.Represents B.Archived.Represents
+        R.related (archived_hash H.KeyHasher A.Archived.KeyElement)
         ⟦<Hashed<HashMap<A, B, T>, H> as Archive<W>>⟧.format }
 {
     written_values_are_related::<W, Hashed<HashMap<A, B, T>, H>, EntriesRelation<R>>();
@@ -184,7 +187,8 @@ where
     ensures maps { LookupsFindListed H W.Word A.Archived.HasSpec B.Archived.HasSpec
         (native_pairs A.Archived.represents R.related H.hasher A.Archived.key_calls) }
     ensures root { FoundAreListed H W.Word A.Archived.HasSpec B.Archived.HasSpec
-        (native_keys A.Archived.represents (hash_at H.hasher A.Archived.key_calls) Q.fits Q.equals)
+        (native_keys A.Archived.represents (archived_hash H.KeyHasher A.Archived.KeyElement) Q.fits
+        Q.equals)
         (found_views R.related) }
 {}
 
@@ -201,9 +205,9 @@ pub fn nested_walks_visit_each<
 where
     A::Archived: KeyElement,
     ensures homes { WalksVisitPairs W.word A.Archived.spec B.Archived.spec A.Archived.represents
-        R.related (hash_at H.hasher A.Archived.key_calls) }
+        R.related (archived_hash H.KeyHasher A.Archived.KeyElement) }
     ensures pairs { WalksVisitEach W.word A.Archived.spec B.Archived.spec A.Archived.represents
-        R.related (hash_at H.hasher A.Archived.key_calls) }
+        R.related (archived_hash H.KeyHasher A.Archived.KeyElement) }
 {}
 
 /// States the definitions of the relations of values, of maps of std, of sets of std and of pairs.
@@ -218,11 +222,11 @@ where
     ensures values { SameValues ⟦<ValueRelation as WrittenRelation<W, B>>⟧.related V.represents }
     ensures maps { SameValues
         ⟦<EntriesRelation<R> as WrittenRelation<W, Hashed<HashMap<A, B, T>, H>>>⟧.related
-        (IsListOfEntries W.word K.Represents (with_relation V.Represents R.related)
-        (hash_at H.hasher K.key_calls)) }
+        (IsListOfRelated W.word K.Represents V.Represents R.related
+        (archived_hash H.KeyHasher K.KeyElement)) }
     ensures sets { SameValues
         ⟦<KeysRelation as WrittenRelation<W, Hashed<HashSet<A, T>, H>>>⟧.related
-        (IsListOfKeys W.word K.Represents (hash_at H.hasher K.key_calls)) }
+        (IsListOfKeys W.word K.Represents (archived_hash H.KeyHasher K.KeyElement)) }
     ensures pairs { SameValues ⟦<PairRelation<S, R> as WrittenRelation<W, (A, B)>>⟧.related
         (PairRepresents K.spec V.spec S.related R.related) }
 {}

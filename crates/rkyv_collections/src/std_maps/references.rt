@@ -5,7 +5,7 @@
 ghost use Rattle.rkyv_base.specs.{RepresentsAs, unit_spec, written_as};
 ghost use Rattle.rkyv_base.specs.Lemmas.Empty.{unit_element, unit_is_format, unit_local};
 ghost use Rattle.rkyv_table.specs.{with_units};
-ghost use Rattle.rkyv_collections.specs.{referent};
+ghost use Rattle.rkyv_collections.specs.{inner_entries, inner_keys, referent};
 ghost use Rattle.rkyv_collections.specs.Lemmas.StdMapLaws.{entries_local};
 ghost use Rattle.rkyv_collections.specs.Lemmas.StdMapSound.{std_map_sound};
 
@@ -37,7 +37,7 @@ impl<
         ⟦<HashMapOf<K, V, H, W> as Represents<Hashed<HashMap<A, B, T>, H>>>⟧.represents };
 
     ghost local = { λ x. entries_local K.spec V.spec K.laws V.laws W.word A.eq K.local V.local
-        x.map.now.entries };
+        (inner_entries (referent x)) };
 }
 
 impl<'a, W: Width, H: KeyHasher, A: Archive<W> + Hash, B: Archive<W>, T: BuildHasher> Archive<W>
@@ -57,7 +57,7 @@ where
         resolver.resolve(pos, out)
     }
 
-    ghost laws = { std_map_sound (λ x. x.map.now.entries) H.hasher W.word A.Archived.laws
+    ghost laws = { std_map_sound (λ x. inner_entries (referent x)) H.hasher W.word A.Archived.laws
         B.Archived.laws W.MAX_CAPACITY W.layout.kind A.query A.native A.Eq.laws
         A.Archive.laws B.laws };
 }
@@ -87,7 +87,7 @@ impl<'a, A: Eq + Hash, T: BuildHasher, H, W: Width, K: Represents<A>> Represents
         ⟦<HashSetOf<K, H, W> as Represents<Hashed<HashSet<A, T>, H>>>⟧.represents };
 
     ghost local = { λ x. entries_local K.spec unit_spec K.laws unit_element W.word A.eq K.local
-        unit_local (with_units x.map.now.keys) };
+        unit_local (with_units (inner_keys (referent x))) };
 }
 
 impl<'a, W: Width, H: KeyHasher, A: Archive<W> + Hash, T: BuildHasher> Archive<W>
@@ -107,8 +107,8 @@ where
         resolver.resolve(pos, out)
     }
 
-    ghost laws = { std_map_sound (λ x. with_units x.map.now.keys) H.hasher W.word A.Archived.laws
-        unit_element W.MAX_CAPACITY W.layout.kind A.query A.native A.Eq.laws
+    ghost laws = { std_map_sound (λ x. with_units (inner_keys (referent x))) H.hasher W.word
+        A.Archived.laws unit_element W.MAX_CAPACITY W.layout.kind A.query A.native A.Eq.laws
         A.Archive.laws unit_is_format };
 }
 

@@ -11,7 +11,7 @@ ghost use Rattle.std.specs.Prelude.{IfSome, IsSome, drop, length, take, ◌+◌,
 ghost use Rattle.rkyv_base.specs.{IsValidView, LiesIn, Viewable, archive_in, bytes_in, bytes_of};
 ghost use Rattle.rkyv_base.specs.{pos_in, pos_of, seal_pos, value_pos, with_value};
 ghost use Rattle.rkyv_table.specs.{CountsDown, LendsArchive, SameArchive, StaysThere, WrittenBy};
-ghost use Rattle.rkyv_table.specs.{cursor_bytes, cursor_len};
+ghost use Rattle.rkyv_table.specs.{cursor_archive, cursor_bytes, cursor_len};
 ghost use Rattle.rkyv_collections.specs.{HasAllPairs, IsMapSeal, IsSplitPair, KeepsPairs};
 ghost use Rattle.rkyv_collections.specs.{KeepsValues, LendsFirstPair, LendsFirstValue};
 ghost use Rattle.rkyv_collections.specs.{MayWritePair, MayWriteValue, StepsAndWritesPair};
@@ -274,8 +274,8 @@ impl<'a, K: Element, N: Scalar, H, W> ValuesMut<'a, K, N, H, W> {
 impl<'a, K: Element, V: Element, H, W: Width> ArchivedHashMap<'a, K, V, H, W> {
     /// Returns a cursor over the pairs of a sealed map, in bucket order, for writing their values.
     ///
-    /// Once the cursor is dropped, its caller knows nothing of the bytes. The contract of
-    /// `set_value_of` covers them.
+    /// Once the cursor is dropped, its caller knows nothing of the bytes. The contracts of
+    /// `for_each_value` and of `set_value_of` cover them.
     ///
     /// # Requires
     ///
@@ -312,7 +312,7 @@ impl<'a, K: Element, V: Element, H, W: Width> ArchivedHashMap<'a, K, V, H, W> {
     /// Returns a cursor over the pairs of the map at `pos` of an archive, for writing their values.
     ///
     /// The pairs are in bucket order. Once the cursor is dropped, its caller knows nothing of the
-    /// bytes. The contract of `set_value_of` covers them.
+    /// bytes. The contracts of `for_each_value` and of `set_value_of` cover them.
     ///
     /// # Requires
     ///
@@ -320,7 +320,8 @@ impl<'a, K: Element, V: Element, H, W: Width> ArchivedHashMap<'a, K, V, H, W> {
     #[inline]
     pub fn iter_over(archive: &'a mut [u8], pos: u64) -> IterMut<'a, K, V, H, W>
         requires map { Viewable (map_spec W.word K.spec V.spec) archive.old pos }
-        ensures reference { (entries_in result).archive.ghost_name ≡ archive.entry.ghost_name }
+        ensures reference { (cursor_archive (entries_in result)).ghost_name
+            ≡ archive.entry.ghost_name }
         ensures bytes { cursor_bytes (entries_in result) ≡ archive.old }
         ensures all { HasAllPairs K.spec V.spec W.word archive.old pos (entries_in result) }
     {
@@ -333,8 +334,8 @@ impl<'a, K: Element, V: Element, H, W: Width> ArchivedHashMap<'a, K, V, H, W> {
 
     /// Returns a cursor over the values of a sealed map, in bucket order, for writing them.
     ///
-    /// Once the cursor is dropped, its caller knows nothing of the bytes. The contract of
-    /// `set_value_of` covers them.
+    /// Once the cursor is dropped, its caller knows nothing of the bytes. The contracts of
+    /// `for_each_value` and of `set_value_of` cover them.
     ///
     /// # Requires
     ///
@@ -372,7 +373,7 @@ impl<'a, K: Element, V: Element, H, W: Width> ArchivedHashMap<'a, K, V, H, W> {
     /// Returns a cursor over the values of the map at `pos` of an archive, for writing them.
     ///
     /// The values are in bucket order. Once the cursor is dropped, its caller knows nothing of the
-    /// bytes. The contract of `set_value_of` covers them.
+    /// bytes. The contracts of `for_each_value` and of `set_value_of` cover them.
     ///
     /// # Requires
     ///
@@ -391,7 +392,8 @@ impl<'a, K: Element, V: Element, H, W: Width> ArchivedHashMap<'a, K, V, H, W> {
     #[inline]
     pub fn values_over(archive: &'a mut [u8], pos: u64) -> ValuesMut<'a, K, V, H, W>
         requires map { Viewable (map_spec W.word K.spec V.spec) archive.old pos }
-        ensures reference { (entries_of result).archive.ghost_name ≡ archive.entry.ghost_name }
+        ensures reference { (cursor_archive (entries_of result)).ghost_name
+            ≡ archive.entry.ghost_name }
         ensures bytes { cursor_bytes (entries_of result) ≡ archive.old }
         ensures all { HasAllPairs K.spec V.spec W.word archive.old pos (entries_of result) }
     {

@@ -14,7 +14,7 @@ ghost use Rattle.rkyv_base.specs.{pos_in, seal_pos, value_pos};
 ghost use Rattle.rkyv_collections.specs.{CanCompareKeysIn, FoundByHasAt, FoundKeyHasAt, IsKeyPosIn};
 ghost use Rattle.rkyv_collections.specs.{IsMapSeal, IsPairSeal, IsPairSealAt, IsValueSeal};
 ghost use Rattle.rkyv_collections.specs.{IsValueSealAt, map_bytes, map_pos, map_sealed};
-ghost use Rattle.rkyv_keys.specs.{hash_at, hash_of, query_of};
+ghost use Rattle.rkyv_keys.specs.{lookup_hashes, lookup_of};
 
 use crate::map::{ArchivedHashMap, HashMapOf};
 use rkyv_base::{ArchiveSeal, Element, Seal, View, Width, found_pos};
@@ -46,7 +46,7 @@ impl<'a, K: KeyElement, V: Element, H: KeyHasher, W: Width> ArchivedHashMap<'a, 
         requires callable { CanCompareKeysIn W.word K.spec V.spec this.now (F.pre cmp key) }
         ensures walked { IfSome result (IsKeyPosIn W.word K.spec V.spec this.now) }
         ensures finds { FoundByHasAt (map_sealed W.Word K.HasSpec V.HasSpec this.now)
-            (hash_of H.hasher Q.calls key.now) (hash_at H.hasher K.key_calls)
+            (lookup_hashes H.KeyHasher K.KeyElement Q.KeyHash key.now)
             (F.post cmp key.entry) (λ key_pos. result ≡ key_pos) }
     {
         found_pos(map_in(this).find(key, cmp))
@@ -61,7 +61,7 @@ impl<'a, K: KeyElement, V: Element, H: KeyHasher, W: Width> ArchivedHashMap<'a, 
         requires map { IsMapSeal W.word K.spec V.spec this.now }
         ensures walked { IfSome result (IsKeyPosIn W.word K.spec V.spec this.now) }
         ensures finds { FoundKeyHasAt (map_sealed W.Word K.HasSpec V.HasSpec this.now)
-            (query_of H.hasher K.key_calls K.same (Q.calls key.now) (Q.fits key.now))
+            (lookup_of H.KeyHasher K.KeyElement Q.Query key.now)
             (λ key_pos. result ≡ key_pos) }
     {
         found_pos(map_in(this).find_key(key))
@@ -127,7 +127,7 @@ impl<'a, K: KeyElement, V: Element, H: KeyHasher, W: Width> ArchivedHashMap<'a, 
         ensures viewable { IfSome result (λ pair. IsValidView K.spec pair.0) }
         ensures walked { IfSome result (IsPairSeal W.word K.spec V.spec this.entry) }
         ensures finds { FoundByHasAt (map_sealed W.Word K.HasSpec V.HasSpec this.entry)
-            (hash_of H.hasher Q.calls key.now) (hash_at H.hasher K.key_calls)
+            (lookup_hashes H.KeyHasher K.KeyElement Q.KeyHash key.now)
             (F.post cmp key.entry) (IsPairSealAt result) }
     {
         let found = Self::find_pos(&this, key, cmp);
@@ -172,7 +172,7 @@ impl<'a, K: KeyElement, V: Element, H: KeyHasher, W: Width> ArchivedHashMap<'a, 
         ensures viewable { IfSome result (λ pair. IsValidView K.spec pair.0) }
         ensures walked { IfSome result (IsPairSeal W.word K.spec V.spec this.entry) }
         ensures finds { FoundKeyHasAt (map_sealed W.Word K.HasSpec V.HasSpec this.entry)
-            (query_of H.hasher K.key_calls K.same (Q.calls key.now) (Q.fits key.now))
+            (lookup_of H.KeyHasher K.KeyElement Q.Query key.now)
             (IsPairSealAt result) }
     {
         let found = Self::find_key_pos(&this, key);
@@ -202,7 +202,7 @@ impl<'a, K: KeyElement, V: Element, H: KeyHasher, W: Width> ArchivedHashMap<'a, 
             (seal_pos value)) }
         ensures walked { IfSome result (IsValueSeal W.word K.spec V.spec this.entry) }
         ensures finds { FoundByHasAt (map_sealed W.Word K.HasSpec V.HasSpec this.entry)
-            (hash_of H.hasher Q.calls key.now) (hash_at H.hasher K.key_calls)
+            (lookup_hashes H.KeyHasher K.KeyElement Q.KeyHash key.now)
             (F.post cmp key.entry) (IsValueSealAt K.spec V.spec result) }
     {
         let found = Self::find_pos(&this, key, cmp);
@@ -248,7 +248,7 @@ impl<'a, K: KeyElement, V: Element, H: KeyHasher, W: Width> ArchivedHashMap<'a, 
             (seal_pos value)) }
         ensures walked { IfSome result (IsValueSeal W.word K.spec V.spec this.entry) }
         ensures finds { FoundKeyHasAt (map_sealed W.Word K.HasSpec V.HasSpec this.entry)
-            (query_of H.hasher K.key_calls K.same (Q.calls key.now) (Q.fits key.now))
+            (lookup_of H.KeyHasher K.KeyElement Q.Query key.now)
             (IsValueSealAt K.spec V.spec result) }
     {
         let found = Self::find_key_pos(&this, key);

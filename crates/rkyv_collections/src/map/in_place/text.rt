@@ -4,8 +4,8 @@
 ghost use Rattle.rkyv_base.specs.{Viewable};
 ghost use Rattle.rkyv_table.specs.{WritesAmongParts};
 ghost use Rattle.rkyv_collections.specs.{UppercasesFirst, UppercasesText, map_to_texts_at};
-ghost use Rattle.rkyv_collections.specs.{map_to_texts_spec, query_of_value};
-ghost use Rattle.rkyv_keys.specs.{query_of};
+ghost use Rattle.rkyv_collections.specs.{map_to_texts_spec, value_lookup_of};
+ghost use Rattle.rkyv_keys.specs.{lookup_of};
 
 use crate::map::ArchivedHashMap;
 use rkyv_base::seal_text::uppercase_at;
@@ -45,10 +45,10 @@ pub fn make_ascii_uppercase_of<
 >(archive: &mut [u8], root: u64, key: &A) -> Option<bool>
     requires map { Viewable (map_to_texts_spec W.word K.spec) archive.old root }
     ensures uppercases { UppercasesText (map_to_texts_at W.Word K.HasSpec archive.old root)
-        (query_of H.hasher K.key_calls K.same (A.calls key.now) (A.fits key.now))
+        (lookup_of H.KeyHasher K.KeyElement A.Query key.now)
         result archive.new }
     ensures listed { UppercasesFirst (map_to_texts_at W.Word K.HasSpec archive.old root)
-        (query_of_value H.hasher K.key_calls K.represents (A.eq key.now)) result archive.new }
+        (value_lookup_of H.KeyHasher K.KeyElement K.represents (A.eq key.now)) result archive.new }
     ensures parts { WritesAmongParts (map_to_texts_spec W.word K.spec) archive.old archive.new
         root }
 {

@@ -1,6 +1,6 @@
 //! Laws of writes of one value in place.
 
-ghost use Rattle.rkyv_keys.specs.{hash_at, hash_of};
+ghost use Rattle.rkyv_keys.specs.{archived_hash, native_hash};
 ghost use Rattle.rkyv_collections.specs.{ValueWritesKeepLookups, ValueWritesKeepMaps};
 ghost use Rattle.rkyv_collections.specs.{ValuesWrittenRepresent};
 
@@ -15,12 +15,12 @@ use rkyv_scan::KeyHasher;
 /// - A written map is still one.
 pub fn value_writes_keep_maps<K: KeyElement, V: Element, H: KeyHasher, W: Width>()
     ensures { ValueWritesKeepMaps W.word K.spec V.spec
-        (hash_at H.hasher K.key_calls) }
+        (archived_hash H.KeyHasher K.KeyElement) }
 {}
 
 /// States that each query finds the same key after a write of one value that keeps it valid.
 pub fn value_writes_keep_lookups<K: KeyElement, V: Element, Q: Query<K>, H: KeyHasher, W: Width>()
-    ensures { let hash = hash_of H.hasher Q.calls in
+    ensures { let hash = native_hash H.KeyHasher Q.KeyHash in
         ValueWritesKeepLookups W.word K.spec V.spec hash Q.fits }
 {}
 
@@ -29,5 +29,5 @@ pub fn values_written_represent<A, B, K: KeyElement, V: Represents<B>, H: KeyHas
 where
     K: Represents<A>,
     ensures { ValuesWrittenRepresent W.word K.spec V.spec K.represents V.represents
-        (hash_at H.hasher K.key_calls) }
+        (archived_hash H.KeyHasher K.KeyElement) }
 {}

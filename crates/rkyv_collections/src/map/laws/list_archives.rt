@@ -3,7 +3,8 @@
 //! A lookup of a native key in a root map that represents a list of pairs finds the value
 //! of the first pair whose key equals it, and `None` if the list has no such pair.
 ghost use Rattle.rkyv_collections.specs.{FoundAreListed};
-ghost use Rattle.rkyv_keys.specs.{found_scalars, found_texts, found_views, hash_at, native_keys};
+ghost use Rattle.rkyv_keys.specs.{archived_hash, found_scalars, found_texts, found_views};
+ghost use Rattle.rkyv_keys.specs.{native_keys};
 
 use rkyv_base::{HasSpec, Represents, Scalar, Text, Width};
 use rkyv_keys::{KeyElement, NativeQuery};
@@ -22,7 +23,7 @@ pub fn values_found_are_listed<
     W: Width,
 >()
     ensures { FoundAreListed H W.Word K.HasSpec V.HasSpec
-        (native_keys K.represents (hash_at H.hasher K.key_calls) Q.fits Q.equals)
+        (native_keys K.represents (archived_hash H.KeyHasher K.KeyElement) Q.fits Q.equals)
         (found_views V.represents) }
 {}
 
@@ -36,7 +37,7 @@ pub fn scalars_found_are_listed<
     W: Width,
 >()
     ensures { FoundAreListed H W.Word K.HasSpec N.HasSpec
-        (native_keys K.represents (hash_at H.hasher K.key_calls) Q.fits Q.equals)
+        (native_keys K.represents (archived_hash H.KeyHasher K.KeyElement) Q.fits Q.equals)
         (found_scalars N.encoding) }
 {}
 
@@ -49,6 +50,6 @@ pub fn texts_found_are_listed<
     W: Width,
 >()
     ensures { FoundAreListed H W.Word K.HasSpec ⟦<Text<W> as HasSpec>⟧
-        (native_keys K.represents (hash_at H.hasher K.key_calls) Q.fits Q.equals)
+        (native_keys K.represents (archived_hash H.KeyHasher K.KeyElement) Q.fits Q.equals)
         (found_texts W.word) }
 {}

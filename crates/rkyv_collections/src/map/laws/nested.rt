@@ -1,5 +1,5 @@
 //! Laws of writes among the parts of a value, as to a map that is the value of another map.
-ghost use Rattle.rkyv_keys.specs.{hash_at, hash_of, native_keys};
+ghost use Rattle.rkyv_keys.specs.{archived_hash, native_hash, native_keys};
 ghost use Rattle.rkyv_collections.specs.{NestedWritesKeepLookups, NestedWritesKeepMaps};
 ghost use Rattle.rkyv_collections.specs.{NestedWritesRepresent, ValueWritesAreNested};
 
@@ -21,12 +21,12 @@ pub fn value_writes_are_nested<K: KeyElement, V: Element, W: Width>()
 /// - A written map is still one.
 /// - The write is one among the parts of the map.
 pub fn nested_writes_keep_maps<K: KeyElement, V: Element, H: KeyHasher, W: Width>()
-    ensures { NestedWritesKeepMaps W.word K.spec V.spec (hash_at H.hasher K.key_calls) }
+    ensures { NestedWritesKeepMaps W.word K.spec V.spec (archived_hash H.KeyHasher K.KeyElement) }
 {}
 
 /// States that each query finds the same key after a write among the parts of a value.
 pub fn nested_writes_keep_lookups<K: KeyElement, V: Element, Q: Query<K>, H: KeyHasher, W: Width>()
-    ensures { let hash = hash_of H.hasher Q.calls in
+    ensures { let hash = native_hash H.KeyHasher Q.KeyHash in
         NestedWritesKeepLookups W.word K.spec V.spec hash Q.fits }
 {}
 
@@ -43,5 +43,6 @@ pub fn nested_writes_represent<
     W: Width,
 >()
     ensures { NestedWritesRepresent W.word K.spec V.spec
-        (native_keys K.represents (hash_at H.hasher K.key_calls) Q.fits Q.equals) V.represents }
+        (native_keys K.represents (archived_hash H.KeyHasher K.KeyElement) Q.fits Q.equals)
+        V.represents }
 {}

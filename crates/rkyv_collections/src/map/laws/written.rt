@@ -1,7 +1,8 @@
 //! Laws of written maps, in any archive that contains their bytes, and of lists of pairs.
 
 ghost use Rattle.rkyv_base.specs.{SameFormat};
-ghost use Rattle.rkyv_collections.specs.{WrittenMapsRepresent, map_list_format};
+ghost use Rattle.rkyv_collections.specs.{WrittenMapsRepresent, listed_pairs, map_list_format};
+ghost use Rattle.rkyv_collections.specs.{pairs_load_factor};
 ghost use Rattle.rkyv_keys.specs.{native_format, native_pairs};
 
 use crate::lists::MapPairs;
@@ -38,5 +39,5 @@ where
     B: 'a + Archive<W, Archived = V>,
     ensures { SameFormat ⟦<MapPairs<'a, A, B, H> as Archive<W>>⟧.format
         (map_list_format W.Width (native_format K.spec V.spec A.format B.format H.hasher A.calls)
-        (λ x. x.load_factor) (λ x. x.pairs.now)) }
+        pairs_load_factor listed_pairs) }
 {}

@@ -5,8 +5,8 @@
 ghost use Rattle.std.specs.Prelude.{IsTrue, ◌↔◌, ◌≡◌};
 ghost use Rattle.rkyv_base.specs.{IsAt, IsValidView, bytes_of, pos_of};
 ghost use Rattle.rkyv_table.specs.{IsDecoded};
-ghost use Rattle.rkyv_collections.specs.{map_archive, map_bytes, map_cap, map_len, map_pos};
-ghost use Rattle.rkyv_collections.specs.{map_spec};
+ghost use Rattle.rkyv_collections.specs.{map_archive, map_bytes, map_cap, map_header, map_len};
+ghost use Rattle.rkyv_collections.specs.{map_pos, map_spec, map_view};
 
 use crate::map::{ArchivedHashMap, HashMapOf};
 use rkyv_base::{Element, Entry, View, Width};
@@ -41,7 +41,7 @@ impl<'a, K: Element, V: Element, H, W: Width> ArchivedHashMap<'a, K, V, H, W> {
     #[inline]
     pub fn of(view: View<'a, HashMapOf<K, V, H, W>>) -> ArchivedHashMap<'a, K, V, H, W>
         requires { IsValidView (map_spec W.word K.spec V.spec) view }
-        ensures view { result.view ≡ view.entry }
+        ensures view { map_view result ≡ view.entry }
     {
         let table = ArchivedHashTable::of(view.at::<TableOf<Entry<K, V>, W>>(view.pos()));
         ArchivedHashMap {
@@ -63,8 +63,8 @@ impl<'a, K: Element, V: Element, H, W: Width> ArchivedHashMap<'a, K, V, H, W> {
     ) -> ArchivedHashMap<'a, K, V, H, W>
         requires view { IsValidView (map_spec W.word K.spec V.spec) view }
         requires header { IsDecoded W.word (bytes_of view) (pos_of view) header }
-        ensures view { result.view ≡ view.entry }
-        ensures header { result.header ≡ header }
+        ensures view { map_view result ≡ view.entry }
+        ensures header { map_header result ≡ header }
     {
         ArchivedHashMap { view, header }
     }

@@ -4,7 +4,7 @@
 //! for maps that are values.
 ghost use Rattle.std.specs.Prelude.{◌+◌, ◌≡◌};
 ghost use Rattle.rkyv_base.specs.{IsAt, IsValidView, archive_of, pos_of, value_offset};
-ghost use Rattle.rkyv_keys.specs.{at_views, hash_at};
+ghost use Rattle.rkyv_keys.specs.{archived_hash, at_views};
 ghost use Rattle.rkyv_collections.specs.{finds_same, map_equal, map_spec, map_view};
 
 use crate::map::{ArchivedHashMap, HashMapOf};
@@ -19,7 +19,7 @@ impl<'a, K: KeyElement, V: ElementEq, H: KeyHasher, W: Width> ArchivedHashMap<'a
         requires key { IsValidView K.spec key }
         requires value { IsValidView V.spec value }
         requires pair { IsAt value (archive_of key) (pos_of key + value_offset K.spec V.spec) }
-        ensures { let key_hash = hash_at H.hasher K.key_calls in
+        ensures { let key_hash = archived_hash H.KeyHasher K.KeyElement in
             result ≡ finds_same self.entry key_hash K.same V.same key.entry }
     {
         match self.get(&KeyView::of(key)) {
@@ -52,7 +52,7 @@ impl<'a, K: KeyElement, V: ElementEq, H: KeyHasher, W: Width> ArchivedHashMap<'a
     /// ```
     #[inline]
     pub fn eq_map(self, other: ArchivedHashMap<'_, K, V, H, W>) -> bool
-        ensures { let key_hash = hash_at H.hasher K.key_calls in
+        ensures { let key_hash = archived_hash H.KeyHasher K.KeyElement in
             result ≡ at_views (map_equal W.word K.spec V.spec key_hash K.same V.same)
             (map_view self.entry) (map_view other.entry) }
     {
@@ -69,13 +69,14 @@ impl<'a, K: KeyElement, V: ElementEq, H: KeyHasher, W: Width> ArchivedHashMap<'a
 }
 
 impl<K: KeyElement, V: ElementEq, H: KeyHasher, W: Width> ElementEq for HashMapOf<K, V, H, W> {
-    ghost same = { map_equal W.word K.spec V.spec (hash_at H.hasher K.key_calls) K.same V.same };
+    ghost same = { map_equal W.word K.spec V.spec (archived_hash H.KeyHasher K.KeyElement)
+        K.same V.same };
 
     #[inline]
     fn same(a: View<'_, HashMapOf<K, V, H, W>>, b: View<'_, HashMapOf<K, V, H, W>>) -> bool
         requires a { IsValidView (map_spec W.word K.spec V.spec) a }
         requires b { IsValidView (map_spec W.word K.spec V.spec) b }
-        ensures { let key_hash = hash_at H.hasher K.key_calls in
+        ensures { let key_hash = archived_hash H.KeyHasher K.KeyElement in
             result ≡ at_views (map_equal W.word K.spec V.spec key_hash K.same V.same) a.entry
             b.entry }
     {

@@ -7,13 +7,12 @@
 //! A lookup in an untrusted map may read all of its control bytes.
 //! `FxHasher64` takes no secret key, so it doesn't protect from chosen input.
 ghost use Rattle.std.specs.Prelude.{IfSome, IsSome, Option, Some, ◌<◌, ◌^◌, ◌≡◌, ℕ};
-ghost use Rattle.rkyv_scan.specs.{hash_of_calls};
-ghost use Rattle.rkyv_base.specs.{IsAt, IsValidView, archive_of, entry_spec, pos_of};
+ghost use Rattle.rkyv_base.specs.{IsAt, IsValidView, archive_of, bytes_of, entry_spec, pos_of};
 ghost use Rattle.rkyv_base.specs.declared.view.View.{View};
 ghost use Rattle.rkyv_collections.specs.{CanCompareKeys, FindsKey, FoundKeyHas, GetsBy, GetsKey};
 ghost use Rattle.rkyv_collections.specs.{IsPairOfEntry, IsValueOfEntry, IsViewAt, entry_part};
 ghost use Rattle.rkyv_collections.specs.{map_bytes, pair_part, value_part};
-ghost use Rattle.rkyv_keys.specs.{IsFoundAt, hash_at, hash_of, query_of};
+ghost use Rattle.rkyv_keys.specs.{IsFoundAt, lookup_hashes, lookup_of, native_hash};
 
 use crate::map::ArchivedHashMap;
 use rkyv_base::view::PairView;
@@ -60,9 +59,10 @@ impl<'a, K: KeyElement, V: Element, H: KeyHasher, W: Width> ArchivedHashMap<'a, 
     where
         F: Fn(&Q, View<'a, K>) -> bool,
         requires callable { CanCompareKeys self (F.pre cmp key) }
-        ensures found { GetsBy entry_part self.entry (hash_of H.hasher Q.calls key.now)
-            (hash_at H.hasher K.key_calls) (F.post cmp key.entry) result }
-        ensures hash { hash_of_calls H.hasher (Q.calls key.now) < 2 ^ 64 }
+        ensures found { GetsBy entry_part self.entry
+            (lookup_hashes H.KeyHasher K.KeyElement Q.KeyHash key.now) (F.post cmp key.entry)
+            result }
+        ensures hash { native_hash H.KeyHasher Q.KeyHash key.now < 2 ^ 64 }
     {
         let hash = hash_value::<Q, H>(key);
         self.table().get_with(
@@ -96,8 +96,9 @@ impl<'a, K: KeyElement, V: Element, H: KeyHasher, W: Width> ArchivedHashMap<'a, 
     where
         F: Fn(&Q, View<'a, K>) -> bool,
         requires callable { CanCompareKeys self (F.pre cmp key) }
-        ensures { GetsBy pair_part self.entry (hash_of H.hasher Q.calls key.now)
-            (hash_at H.hasher K.key_calls) (F.post cmp key.entry) result }
+        ensures { GetsBy pair_part self.entry
+            (lookup_hashes H.KeyHasher K.KeyElement Q.KeyHash key.now) (F.post cmp key.entry)
+            result }
     {
         found_pair(self.find(key, cmp))
     }
@@ -116,8 +117,9 @@ impl<'a, K: KeyElement, V: Element, H: KeyHasher, W: Width> ArchivedHashMap<'a, 
     where
         F: Fn(&Q, View<'a, K>) -> bool,
         requires callable { CanCompareKeys self (F.pre cmp key) }
-        ensures { GetsBy value_part self.entry (hash_of H.hasher Q.calls key.now)
-            (hash_at H.hasher K.key_calls) (F.post cmp key.entry) result }
+        ensures { GetsBy value_part self.entry
+            (lookup_hashes H.KeyHasher K.KeyElement Q.KeyHash key.now) (F.post cmp key.entry)
+            result }
     {
         found_value(self.find(key, cmp))
     }
@@ -126,13 +128,14 @@ impl<'a, K: KeyElement, V: Element, H: KeyHasher, W: Width> ArchivedHashMap<'a, 
     #[inline]
     pub(crate) fn find_key<Q: Query<K>>(self, key: &Q) -> Option<View<'a, Entry<K, V>>>
         ensures { GetsKey entry_part self.entry
-            (query_of H.hasher K.key_calls K.same (Q.calls key.now) (Q.fits key.now)) result }
+            (lookup_of H.KeyHasher K.KeyElement Q.Query key.now) result }
     {
         self.find(
             key,
             |key, stored|
                 requires { IsValidView K.spec stored }
-                ensures { result ≡ Q.fits key.entry.now stored.entry.archive.now stored.entry.pos }
+                ensures { result ≡ Q.fits key.entry.now (bytes_of stored.entry)
+                    (pos_of stored.entry) }
             { key.same(stored) },
         )
     }
@@ -150,7 +153,7 @@ impl<'a, K: KeyElement, V: Element, H: KeyHasher, W: Width> ArchivedHashMap<'a, 
     #[inline]
     pub fn get_key_value<Q: Query<K>>(self, key: &Q) -> Option<PairView<'a, K, V>>
         ensures { GetsKey pair_part self.entry
-            (query_of H.hasher K.key_calls K.same (Q.calls key.now) (Q.fits key.now)) result }
+            (lookup_of H.KeyHasher K.KeyElement Q.Query key.now) result }
     {
         found_pair(self.find_key(key))
     }
@@ -174,7 +177,7 @@ impl<'a, K: KeyElement, V: Element, H: KeyHasher, W: Width> ArchivedHashMap<'a, 
     #[inline]
     pub fn get<Q: Query<K>>(self, key: &Q) -> Option<View<'a, V>>
         ensures { GetsKey value_part self.entry
-            (query_of H.hasher K.key_calls K.same (Q.calls key.now) (Q.fits key.now)) result }
+            (lookup_of H.KeyHasher K.KeyElement Q.Query key.now) result }
     {
         found_value(self.find_key(key))
     }
@@ -185,8 +188,8 @@ impl<'a, K: KeyElement, V: Element, H: KeyHasher, W: Width> ArchivedHashMap<'a, 
     #[inline]
     pub fn contains_key<Q: Query<K>>(self, key: &Q) -> bool
         ensures { FoundKeyHas self.entry
-            (query_of H.hasher K.key_calls K.same (Q.calls key.now) (Q.fits key.now)) (IsFoundAt
-            result) }
+            (lookup_of H.KeyHasher K.KeyElement Q.Query key.now)
+            (IsFoundAt result) }
     {
         is_found(self.find_key(key))
     }
@@ -215,10 +218,10 @@ impl<'a, K: KeyElement, V: Element, H: KeyHasher, W: Width> ArchivedHashMap<'a, 
     #[inline]
     pub fn index<Q: Query<K>>(self, key: &Q) -> View<'a, V>
         requires found { FindsKey self
-            (hash_of H.hasher Q.calls key.now)
+            (native_hash H.KeyHasher Q.KeyHash key.now)
             (Q.fits key.now (map_bytes self)) IsSome }
         ensures { GetsKey value_part self.entry
-            (query_of H.hasher K.key_calls K.same (Q.calls key.now) (Q.fits key.now))
+            (lookup_of H.KeyHasher K.KeyElement Q.Query key.now)
             (Some result) }
     {
         self.find_key(key).unwrap().value()

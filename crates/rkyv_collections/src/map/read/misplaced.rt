@@ -7,7 +7,7 @@
 //! or returns `None`.
 ghost use Rattle.std.specs.Prelude.{◌≡◌};
 ghost use Rattle.rkyv_base.specs.{IsValidView, bytes_of, entry_spec, pos_of};
-ghost use Rattle.rkyv_keys.specs.{hash_at};
+ghost use Rattle.rkyv_keys.specs.{archived_hash, archived_keys};
 ghost use Rattle.rkyv_collections.specs.{CountsKeysUpTo, misplaced_keys};
 
 use crate::map::ArchivedHashMap;
@@ -40,12 +40,12 @@ impl<'a, K: KeyElement, V: Element, H: KeyHasher, W: Width> ArchivedHashMap<'a, 
     /// assert_eq!(rt; misplaced(&one_key_twice()).ok(), Some(1));
     /// ```
     pub fn misplaced(self) -> usize
-        ensures { result ≡ misplaced_keys self.entry (hash_at H.hasher K.key_calls) K.same }
+        ensures { result ≡ misplaced_keys self.entry (archived_keys H.KeyHasher K.KeyElement) }
     {
         self.table().misplaced_by(
             |entry|
                 requires { IsValidView (entry_spec K.spec V.spec) entry }
-                ensures { result ≡ hash_at H.hasher K.key_calls (bytes_of entry.entry)
+                ensures { result ≡ archived_hash H.KeyHasher K.KeyElement (bytes_of entry.entry)
                     (pos_of entry.entry) }
             { hash_value::<KeyView<'_, K>, H>(&KeyView::of(entry.key())) },
             |own, other|
@@ -62,7 +62,7 @@ impl<'a, K: KeyElement, V: Element, H: KeyHasher, W: Width> ArchivedHashMap<'a, 
     /// The number is the result of `misplaced`.
     ///
     /// The result is `None` if and only if the lookups of all keys read more than `limit` strides
-    /// of sixteen control bytes, or more than 2^63.
+    /// of sixteen control bytes.
     ///
     /// By its code alone, it reads at most `limit` strides and those of one more lookup, so its
     /// cost on an untrusted map is bounded. The contract of `misplaced_up_to_by` of tables also
@@ -83,12 +83,12 @@ impl<'a, K: KeyElement, V: Element, H: KeyHasher, W: Width> ArchivedHashMap<'a, 
     /// assert_eq!(rt; counted, [Some(Some(0)), Some(None)]);
     /// ```
     pub fn misplaced_up_to(self, limit: u64) -> Option<usize>
-        ensures { CountsKeysUpTo self.entry (hash_at H.hasher K.key_calls) K.same limit result }
+        ensures { CountsKeysUpTo self.entry (archived_keys H.KeyHasher K.KeyElement) limit result }
     {
         self.table().misplaced_up_to_by(
             |entry|
                 requires { IsValidView (entry_spec K.spec V.spec) entry }
-                ensures { result ≡ hash_at H.hasher K.key_calls (bytes_of entry.entry)
+                ensures { result ≡ archived_hash H.KeyHasher K.KeyElement (bytes_of entry.entry)
                     (pos_of entry.entry) }
             { hash_value::<KeyView<'_, K>, H>(&KeyView::of(entry.key())) },
             |entry, other|

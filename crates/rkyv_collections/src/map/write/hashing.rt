@@ -1,7 +1,7 @@
 //! Pairs under the hashes of their keys, as the input of a call that writes a table.
 
 ghost use Rattle.std.specs.Prelude.{◌≡◌};
-ghost use Rattle.rkyv_keys.specs.{hash_of};
+ghost use Rattle.rkyv_keys.specs.{native_hash};
 ghost use Rattle.rkyv_collections.specs.{HashedStep};
 
 use rkyv_base::{EntryAdapter, Lend};
@@ -35,7 +35,7 @@ impl<A: KeyHash, B, H: KeyHasher, BK: Lend<A>, BV: Lend<B>, I: Iterator<Item = (
     ghost can_next = { λ s. I.can_next s.pairs };
 
     ghost next_gives = { λ s r t. HashedStep I.next_gives (λ key.
-        hash_of H.hasher A.calls (BK.lent key)) s.pairs r t.pairs };
+        native_hash H.KeyHasher A.KeyHash (BK.lent key)) s.pairs r t.pairs };
 
     ghost remaining = { λ s. I.remaining s.pairs };
 

@@ -1,8 +1,9 @@
 //! Laws of written sets, in any archive that contains their bytes, and of lists of keys.
 
 ghost use Rattle.rkyv_base.specs.{SameFormat};
-ghost use Rattle.rkyv_collections.specs.{WrittenSetsRepresent, set_list_format};
-ghost use Rattle.rkyv_keys.specs.{hash_at, hash_of, native_key_format};
+ghost use Rattle.rkyv_collections.specs.{WrittenSetsRepresent, items_load_factor, listed_items};
+ghost use Rattle.rkyv_collections.specs.{set_list_format};
+ghost use Rattle.rkyv_keys.specs.{archived_hash, native_hash, native_key_format};
 
 use crate::lists::SetItems;
 use rkyv_base::{Archive, Represents, Width};
@@ -20,8 +21,8 @@ pub fn written_sets_represent<
     A: NativeKey<K> + Archive<W, Archived = K>,
 >()
     ensures { WrittenSetsRepresent W.word K.spec K.represents
-        (hash_at H.hasher K.key_calls) A.format
-        (hash_of H.hasher A.calls) }
+        (archived_hash H.KeyHasher K.KeyElement) A.format
+        (native_hash H.KeyHasher A.KeyHash) }
 {}
 
 /// States that a list of keys is written as the set of these keys, under its load factor.
@@ -33,5 +34,5 @@ where
     A: 'a + NativeKey<K> + Archive<W, Archived = K>,
     ensures { SameFormat ⟦<SetItems<'a, A, H> as Archive<W>>⟧.format
         (set_list_format W.Width (native_key_format K.spec A.format H.hasher A.calls)
-        (λ x. x.load_factor) (λ x. x.items.now)) }
+        items_load_factor listed_items) }
 {}

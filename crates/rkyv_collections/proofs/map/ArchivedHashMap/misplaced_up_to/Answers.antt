@@ -1,4 +1,4 @@
-use Rattle.std.proofs.Common.{ap, subst, zero-add, ◌∙◌, ◌≡◌, ◌+◌, ◌<◌, ◌≤◌, ◌^◌, ◌⊎◌, Bool, ℕ, List, MatchOption}
+use Rattle.std.proofs.Common.{ap, subst, ◌∙◌, ◌≡◌, ◌<◌, ◌≤◌, Bool, ℕ, List, MatchOption}
 use Rattle.std.specs.Borrow.{Bor}
 use Rattle.rkyv_scan.specs.{generic_kind}
 use Rattle.rkyv_base.specs.{bytes_of, entry_spec}
@@ -26,14 +26,11 @@ returns g c =
     let moved : (f : List ℕ → ℕ → ℕ → (ℕ → ℕ) → (ℕ → ℕ → Bool) → ℕ) → count_in f (table_bytes t) (table_pos t) ≡ count_in f b (map_pos c.args.self) =
     λ f. ap (λ (a : Bor (List ℕ)). count_in f a.now (table_pos t)) c.table.ensures.at.0 ∙ ap (count_in f b) c.table.ensures.at.1 in
     let read : ℕ = count_in (all_strides generic_kind) (table_bytes t) (table_pos t) in
-    let strides : ℕ = count_in (all_strides generic_kind) b (map_pos c.args.self) in
     let counted : ℕ = count_in (misplaced generic_kind) (table_bytes t) (table_pos t) in
     let keys : ℕ = count_in (misplaced generic_kind) b (map_pos c.args.self) in
-    let Counts : ℕ → ℕ → ℕ → Type 0 = λ all some many.
-    MatchOption c.misplaced_up_to_by.result ((c.args.limit < some) ⊎ (2 ^ 63 < all)) (λ n. (some ≤ c.args.limit) × (all ≤ 2 ^ 63) × (n ≡ many)) in
-    let first : Counts (c.new.result + read) read counted = c.misplaced_up_to_by.ensures.counts hash_of same
+    let Counts : ℕ → ℕ → Type 0 = λ some many.
+    MatchOption c.misplaced_up_to_by.result (c.args.limit < some) (λ n. (some ≤ c.args.limit) × (n ≡ many)) in
+    let first : Counts read counted = c.misplaced_up_to_by.ensures.counts hash_of same
     (λ x h item e. e.1 ∙ ap (λ a. key_hash a x.pos) (here x item))
     (λ x y r own other e. e.2 ∙ ap (λ a. same_key a x.pos (bytes_of y) y.pos) (here x own) ∙ ap (λ a. same_key b x.pos a y.pos) (here y other)) in
-    let as_strides : read ≡ strides = moved (all_strides generic_kind) in
-    let none : c.new.result + read ≡ strides = ap (λ n. n + read) c.new.ensures ∙ zero-add read ∙ as_strides in
-    subst (λ n. Counts n strides keys) none (subst (λ n. Counts (c.new.result + read) n keys) as_strides (subst (λ n. Counts (c.new.result + read) read n) (moved (misplaced generic_kind)) first))
+    subst (λ n. Counts n keys) (moved (all_strides generic_kind)) (subst (Counts read) (moved (misplaced generic_kind)) first)
