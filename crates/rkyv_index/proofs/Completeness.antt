@@ -38,7 +38,7 @@ none_kept P a (suc n) e i from to = elim (cases_Bool (P a)) [
 module _ {K Q : Type 0} (m : Index K) (kind : IsArchiveWord m.word) (kl : IsElement m.key) (vl : IsElement m.value)
     {State : Type 0} (hasher : Hasher State) (same : Comparison) (key_calls : List ℕ → ℕ → List HasherCall) (calls : Q → List HasherCall) (fits : Q → List ℕ → ℕ → Bool)
     (query : IsQuery m.key same key_calls calls fits) (view : Viewable (index_spec m.word (entry_spec m.key m.value)) m.bytes m.pos) (q : Q)
-    (small : hash_of_calls hasher (calls q) < 2 ^ 64) (none : index_misplaced m (hash_at hasher key_calls) same ≡ 0) where
+    (small : hash_of_calls hasher (calls q) < 2 ^ 64) (none : index_misplaced m (record { hash = hash_at hasher key_calls; same = same }) ≡ 0) where
   abbrev w : Width
   w = m.word
 
@@ -99,7 +99,7 @@ module _ {K Q : Type 0} (m : Index K) (kind : IsArchiveWord m.word) (kl : IsElem
   -- a lookup finds the index of a key that fits
   found_itself : (i : ℕ) → i < len → accept i ≡ true → index_found w b p (hash_of_calls hasher (calls q)) accept ≡ Some i
   found_itself i below ok =
-      let own = own_found m (hash_at hasher key_calls) same in
+      let own = own_found m (record { hash = hash_at hasher key_calls; same = same }) in
       let P : ℕ → Bool = λ j. not (is_found_at j (own j)) in
       let own_result = found_at_is i (own i) (not-false (is_found_at i (own i)) (none_kept P 0 len none i (omega arith) (omega (arith, below)))) in
       let same_hash : hash_of_calls hasher (calls q) ≡ hash_at hasher key_calls b (at i) = ap (hash_of_calls hasher) (query.same_calls q b (at i) (key_valid i below) ok) in

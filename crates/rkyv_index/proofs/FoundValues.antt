@@ -8,8 +8,7 @@ use Rattle.std.specs.Option.{option_map}
 use Rattle.std.specs.Prelude.{IfSome}
 use Rattle.rkyv_base.specs.{Viewable, pos_of_found}
 use Rattle.rkyv_base.specs.declared.view.View.{View}
-use Rattle.rkyv_scan.specs.{Hasher, HasherCall, hash_of_calls}
-use Rattle.rkyv_keys.specs.{KeyLookup, hash_at}
+use Rattle.rkyv_keys.specs.{KeyLookup, LookupHashes}
 use Rattle.rkyv_index.specs.{FoundByHas, FoundKeyHas, FoundValueByHas, FoundValueHas, GetsBy, GetsKey, Index, IsIndex, IsStored, IsValueOf, MatchesAt, index_bytes, index_over, index_pos, value_part, value_pos_of}
 use Rattle.rkyv_index.specs.declared.map.ArchivedIndexMap.{ArchivedIndexMap}
 use Rattle.rkyv_index.proofs.SealedIndex.{as_read, found_by_read, found_key_read}
@@ -19,7 +18,7 @@ module _ {K : Type 0} {m : Index K} where
   pub found_implied : {a : KeyLookup} {Fact Implied : Option ℕ → Type 0} → ((index : Option ℕ) → Fact index → Implied index) → FoundKeyHas m a Fact → FoundKeyHas m a Implied
   found_implied implies t = grind arith
 
-  pub found_by_implied : {hash : ℕ} {key_hash : List ℕ → ℕ → ℕ} {post : View K → Bool → Type 0} {Fact Implied : Option ℕ → Type 0} → ((index : Option ℕ) → Fact index → Implied index) → FoundByHas m hash key_hash post Fact → FoundByHas m hash key_hash post Implied
+  pub found_by_implied : {hashes : LookupHashes} {post : View K → Bool → Type 0} {Fact Implied : Option ℕ → Type 0} → ((index : Option ℕ) → Fact index → Implied index) → FoundByHas m hashes post Fact → FoundByHas m hashes post Implied
   found_by_implied implies t = grind arith
 
   module _ {P : Option ℕ → Type 0} {found : Option ℕ} (at : P found) where
@@ -27,7 +26,7 @@ module _ {K : Type 0} {m : Index K} where
     pub found_at : {a : KeyLookup} → FoundKeyHas m a (IsIndex found) → FoundKeyHas m a P
     found_at t = found_implied (λ index is. subst P is at) t
 
-    pub found_by_at : {hash : ℕ} {key_hash : List ℕ → ℕ → ℕ} {post : View K → Bool → Type 0} → FoundByHas m hash key_hash post (IsIndex found) → FoundByHas m hash key_hash post P
+    pub found_by_at : {hashes : LookupHashes} {post : View K → Bool → Type 0} → FoundByHas m hashes post (IsIndex found) → FoundByHas m hashes post P
     found_by_at t = grind arith
 
 -- the bytes of a view are those of the reference that it was made from
@@ -44,9 +43,9 @@ module _ {K V H W : Type 0} {ks : Specs K} {vs : Specs V} {wt : Words W} (m : Ar
   pub value_found : (a : KeyLookup) (r : Option (View V)) (found : Option ℕ) → found ≡ pos_of_found r → GetsKey value_part m a r → FoundValueHas (index_over wt ks vs b p) a (λ q. found ≡ q)
   value_found a r found e got = found_implied (λ index at. e ∙ value_at_index r index at) (found_key_read m b p bytes pos value_part got)
 
-  pub value_found_by : {State : Type 0} (hasher : Hasher State) (calls : List HasherCall) (key_calls : List ℕ → ℕ → List HasherCall) (post : View K → Bool → Type 0) (r : Option (View V)) (found : Option ℕ) → found ≡ pos_of_found r
-      → GetsBy value_part m (hash_of_calls hasher calls) (hash_at hasher key_calls) post r → FoundValueByHas (index_over wt ks vs b p) hasher calls key_calls post (λ q. found ≡ q)
-  value_found_by hasher calls key_calls post r found e got = found_by_implied (λ index at. e ∙ value_at_index r index at) (found_by_read m b p bytes pos value_part got)
+  pub value_found_by : (hashes : LookupHashes) (post : View K → Bool → Type 0) (r : Option (View V)) (found : Option ℕ) → found ≡ pos_of_found r
+      → GetsBy value_part m hashes post r → FoundValueByHas (index_over wt ks vs b p) hashes post (λ q. found ≡ q)
+  value_found_by hashes post r found e got = found_by_implied (λ index at. e ∙ value_at_index r index at) (found_by_read m b p bytes pos value_part got)
 
   -- a found value is valid
   pub value_viewable : (r : Option (View V)) (found : Option ℕ) → found ≡ pos_of_found r → IfSome r (λ x. (i : ℕ) × IsStored m i × IsValueOf m i x) → IfSome found (λ q. Viewable vs.spec b q)

@@ -6,7 +6,7 @@ use Rattle.std.proofs.lemmas.Grind.{common_steps}
 use Rattle.std.specs.Option.{is_some}
 use Rattle.std.specs.Prelude.{IfSome}
 use Rattle.rkyv_base.specs.declared.view.View.{View}
-use Rattle.rkyv_keys.specs.{IsFoundAt, KeyLookup}
+use Rattle.rkyv_keys.specs.{IsFoundAt, KeyLookup, LookupHashes}
 use Rattle.rkyv_index.specs.{FoundKeyHas, GetsBy, GetsKey, IsFullKeyIn, IsStored, IsStoredIndex, MatchesAt, Part, full_index, full_key_index, full_key_part, full_part, index_of, index_part, part_at}
 use Rattle.rkyv_index.specs.declared.map.ArchivedIndexMap.{ArchivedIndexMap}
 
@@ -20,7 +20,7 @@ module _ {K V H W : Type 0} {ks : Specs K} {vs : Specs V} {wt : Words W} where
     pub key_as : {a : KeyLookup} → GetsKey index_part m a found → IfSome result (part.In m) → part.At m result found → GetsKey part m a result
     key_as got walked at = grind arith
 
-    pub by_as : {hash : ℕ} {key_hash : List ℕ → ℕ → ℕ} {post : View K → Bool → Type 0} → GetsBy index_part m hash key_hash post found → IfSome result (part.In m) → part.At m result found → GetsBy part m hash key_hash post result
+    pub by_as : {hashes : LookupHashes} {post : View K → Bool → Type 0} → GetsBy index_part m hashes post found → IfSome result (part.In m) → part.At m result found → GetsBy part m hashes post result
     by_as got walked at = record {
       walked = walked;
       accepted = (got.accepted.0, subst (part.At m result) got.accepted.1 at, got.accepted.2);
@@ -48,7 +48,7 @@ module _ {K V H W : Type 0} {ks : Specs K} {vs : Specs V} {wt : Words W} where
       pub key_as_part : {a : KeyLookup} → GetsKey index_part m a found → MatchesAt (Related m) result found → GetsKey (part_at Related) m a result
       key_as_part got at = key_as (part_at Related) got (part_is_stored m found result got.walked at) at
 
-      pub by_as_part : {hash : ℕ} {key_hash : List ℕ → ℕ → ℕ} {post : View K → Bool → Type 0} → GetsBy index_part m hash key_hash post found → MatchesAt (Related m) result found → GetsBy (part_at Related) m hash key_hash post result
+      pub by_as_part : {hashes : LookupHashes} {post : View K → Bool → Type 0} → GetsBy index_part m hashes post found → MatchesAt (Related m) result found → GetsBy (part_at Related) m hashes post result
       by_as_part got at = by_as (part_at Related) got (part_is_stored m found result got.walked at) at
 
   -- the clauses on a found index are clauses on `is_found`

@@ -56,7 +56,7 @@ module _ {K V H W P N : Type 0} {ks : Specs K} {vs : Specs V} {ts : Specs P} {wt
     found_there : result ≡ option_map (stored_index w) found
     found_there = read ∙ sym (stored_index_found found got.walked)
 
-    pub gets_index : GetsBy index_part m query_hash key_hash post result
+    pub gets_index : GetsBy index_part m (record { hash = query_hash; key_hash = key_hash }) post result
     gets_index = record {
       walked = subst (λ r. IfSome r (IsStoredIndex m)) (sym found_there) (index_stored found got.walked);
       accepted = (result, refl, subst (λ r. IfSome r (IsAccepted (index_of m) post)) (sym found_there) (index_accepted Post post post_at_key found got.accepted));

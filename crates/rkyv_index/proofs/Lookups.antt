@@ -1,7 +1,7 @@
 -- From a lookup in a table of indices to a lookup in an index map.
 use Rattle.rkyv_base.specs.declared.element.HasSpec.{Ghosts as Specs}
 use Rattle.rkyv_base.specs.declared.width.Word.{Ghosts as Words}
-use Rattle.std.proofs.Common.{arith, ◌≡◌, ℕ, ◌+◌, ◌∙◌, ap, sym, subst, Bool, map, List, Option}
+use Rattle.std.proofs.Common.{arith, ◌≡◌, ℕ, ◌∙◌, ap, sym, subst, Bool, map, List, Option}
 use Rattle.std.proofs.lemmas.Grind.{common_steps}
 use Rattle.std.specs.Borrow.{Bor}
 use Rattle.std.specs.Int.{Width, byte_len}
@@ -11,7 +11,7 @@ use Rattle.rkyv_scan.specs.{generic_kind}
 use Rattle.rkyv_base.specs.{ElementSpec, Encoding, IsAt, IsElement, IsIndexEncoding, IsScalar, bytes_of, entry_spec, number_at, pos_of_found}
 use Rattle.rkyv_base.specs.Lemmas.Entry.{entry_element}
 use Rattle.rkyv_base.specs.declared.view.View.{View}
-use Rattle.rkyv_table.specs.{ComparesBy, CountsEnd, FindsFirst, FindsFound, IsItem, IsUnderHash, IsWalked, WrittenAt, home_positions, item_at, pos_found, probe_length_at, table_bytes, table_pos}
+use Rattle.rkyv_table.specs.{ComparesBy, CountsEnd, FindsFirst, FindsFound, IsItem, IsUnderHash, IsWalked, WrittenAt, count_after, home_positions, item_at, pos_found, probe_length_at, table_bytes, table_pos}
 use Rattle.rkyv_table.specs.declared.table.ArchivedHashTable.{ArchivedHashTable}
 use Rattle.rkyv_index.specs.{AreUnderHash, ComparesKeysBy, IndexWrittenAt, IsIndexOf, IsKeyOf, IsStored, IsWritten, index_archive, index_bytes, index_found, index_len, index_of, index_pos, index_strides, indices_of, key_pos}
 use Rattle.rkyv_index.specs.declared.map.ArchivedIndexMap.{ArchivedIndexMap}
@@ -65,9 +65,11 @@ module _ {K V H W P N : Type 0} {ks : Specs K} {vs : Specs V} {ts : Specs P} {wt
   pub item_index : (h : View P) → IsItem t h → IsIndexOf w m.view h
   item_index h item = grind (arith, common_steps, item_there, index_at_bucket, read_there)
 
-  -- a full bucket of the map has that index
+  -- an item of the table has that index
   pub item_stored : (h : View P) → IsItem t h → IsStored m (number_at w (bytes_of h) h.pos)
-  item_stored h item = grind (arith, common_steps)
+  item_stored h item =
+      let there = item_there h item in
+      (h.pos, (there.0, there.1, there.2), ap (λ (x : List ℕ). number_at w x h.pos) (sym (read_there h item)))
 
   -- the index at the found position is the one that the map finds
   pub index_is : (result : Option (View P)) (hash : ℕ) (accept : ℕ → Bool)
@@ -111,9 +113,9 @@ module _ {K V H W P N : Type 0} {ks : Specs K} {vs : Specs V} {ts : Specs P} {wt
 
     -- it reads as many strides
     pub counts_index : (query_hash before after : ℕ) → hash ≡ query_hash → CountsEnd Post generic_kind t hash before after
-        → after ≡ before + index_strides w (index_bytes m) (index_pos m) query_hash accept
+        → after ≡ count_after before (index_strides w (index_bytes m) (index_pos m) query_hash accept)
     counts_index query_hash before after under counts =
-        counts accept_at items_compare ∙ ap (λ n. before + n) (end_is hash accept_at ∙ ap (λ h. index_strides w (index_bytes m) (index_pos m) h accept) under)
+        counts accept_at items_compare ∙ ap (count_after before) (end_is hash accept_at ∙ ap (λ h. index_strides w (index_bytes m) (index_pos m) h accept) under)
 
     pub finds_first_index : (key_hash : List ℕ → ℕ → ℕ) → AreUnderHash (index_of m) hash key_hash accept → FindsFirst Post t hash (pos_of_found result)
         → (homes : List ℕ) → IsWritten (index_of m) key_hash homes → option_map (number_at w (index_bytes m)) (pos_of_found result) ≡ find accept (indices_of (index_len m))

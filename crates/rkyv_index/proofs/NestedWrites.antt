@@ -1,21 +1,22 @@
 -- A write among the parts of one value keeps the index map, and its list but for that value.
-use Rattle.std.proofs.Common.{◌≡◌, ◌≢◌, ℕ, ◌+◌, ◌-◌, ◌*◌, ◌<◌, ◌≤◌, inl, inr, refl, sym, ap, subst, arith, Bool, true, filter, List, Some}
+use Rattle.std.proofs.Common.{◌≡◌, ◌≢◌, ◌∙◌, ℕ, ◌+◌, ◌-◌, ◌*◌, ◌<◌, ◌≤◌, inl, inr, refl, sym, ap, subst, arith, Bool, true, filter, List, Some}
 use Rattle.std.specs.Prelude.{slice_get, slice_set, unsigned_abs}
 use Rattle.std.specs.Int.{Width, byte_len}
 use Rattle.std.specs.List.{range_with_len}
 use Rattle.std.proofs.lemmas.Bool.{cases_eq}
-use Rattle.rkyv_base.specs.{AgreeOn, ElementSpec, IsArchiveWord, IsElement, RepresentsLocally, StaysValid, Viewable, entry_spec, value_pos}
+use Rattle.rkyv_base.specs.{AgreeOn, ElementSpec, IsArchiveWord, IsElement, RepresentsLocally, StaysValid, Viewable, entry_spec, number_at, value_pos}
 use Rattle.rkyv_base.specs.Lemmas.Bytes.{agree_on_part}
 use Rattle.rkyv_base.specs.Lemmas.Entry.{entry_element}
 use Rattle.rkyv_base.proofs.Sealing.{sealed_wider, viewable_kept}
 use Rattle.rkyv_keys.specs.{HashLocal}
 use Rattle.rkyv_table.specs.{AreValidAt, IsValidBefore, StaysAt, WritesAmongParts, len_at}
+use Rattle.rkyv_table.specs.Lemmas.SameHeader.{item_same}
 use Rattle.rkyv_table.specs.Lemmas.TableLaws.{table_element}
 use Rattle.rkyv_table.specs.Lemmas.ValidItemLaws.{all_between}
 use Rattle.rkyv_table.proofs.NestedEntries.{entry_written, key_of_other, key_of_own, represents_on, value_of_other}
 use Rattle.rkyv_table.proofs.NestedItems.{above_same, items_kept, other_stays, own_before, sealed_parts}
 use Rattle.rkyv_index.specs.{EntriesIn, IndexRepresents, IsValidIndex, KeepsOuterIndexMap, decode_entries, entries_pos, entry_at, index_spec, indices_of, pair_pos, stored_index_spec}
-use Rattle.rkyv_index.specs.Lemmas.IndexLaws.{filter_every, index_again, stored_index_element}
+use Rattle.rkyv_index.specs.Lemmas.IndexLaws.{filter_every, head_same, index_again, stored_index_element}
 use Rattle.rkyv_index.proofs.SameIndex.{controls_same, entry_before, lookup_same, new_value_represents, positions_same, read_same, some_buckets, table_below, written_same}
 
 module _ (w : Width) (kind : IsArchiveWord w) (k v : ElementSpec) (kl : IsElement k) (vl : IsElement v) (b : List ℕ) (p : ℕ) (view : Viewable (index_spec w (entry_spec k v)) b p)
@@ -142,7 +143,10 @@ module _ (w : Width) (kind : IsArchiveWord w) (k v : ElementSpec) (kl : IsElemen
       nested = index_nested;
       header = header_same;
       controls = sym (controls_same w kind k v kl vl b p view c header_same front_same (some_buckets w kind k v kl vl b p view i below));
-      indices = λ j there. sym (read_same w kind k v kl vl b p view c header_same front_same j there);
+      indices = λ q there.
+          ap (number_at w c) (there.2 ∙ item_same w b c p (head_same w b c p header_same) (byte_len w) there.0)
+          ∙ sym (read_same w kind k v kl vl b p view c header_same front_same there.0 there.1)
+          ∙ ap (number_at w b) (sym there.2);
       positions = positions_same w kind k v kl vl b p view c header_same front_same;
       keys = key_stays;
       values = value_stays;

@@ -15,7 +15,7 @@ module _ {K V H W Q State : Type 0} {ks : Specs K} {vs : Specs V} {wt : Words W}
     (hasher : Hasher State) (same : Comparison) (key_calls : List ℕ → ℕ → List HasherCall) (calls : Q → List HasherCall) (fits : Q → List ℕ → ℕ → Bool)
     (query : IsQuery ks.spec same key_calls calls fits) (q : Q) (small : hash_of_calls hasher (calls q) < 2 ^ 64)
     (post : View K → Bool → Type 0) (returns_fits : (key : View K) (r : Bool) → post key r → r ≡ fits q (bytes_of key) (pos_of key)) (result : Option ℕ) where
-  pub query_index : GetsBy index_part m (hash_of hasher calls q) (hash_at hasher key_calls) post result → GetsKey index_part m (query_of hasher key_calls same (calls q) (fits q)) result
+  pub query_index : GetsBy index_part m (record { hash = hash_of hasher calls q; key_hash = hash_at hasher key_calls }) post result → GetsKey index_part m (query_of hasher key_calls same (calls q) (fits q)) result
   query_index got =
       let accept = fits_at (index_of m) (fits q) in
       let compares = compares_fits m (fits q) post returns_fits in

@@ -5,7 +5,7 @@ use Rattle.std.proofs.Common.{◌≡◌, ℕ, ap, Bool, List, Option}
 use Rattle.std.proofs.lemmas.Option.{IfSome_then}
 use Rattle.std.specs.Borrow.{Bor}
 use Rattle.rkyv_base.specs.declared.view.View.{View}
-use Rattle.rkyv_keys.specs.{KeyLookup}
+use Rattle.rkyv_keys.specs.{KeyLookup, LookupHashes}
 use Rattle.rkyv_table.proofs.Moved.{moved}
 use Rattle.rkyv_index.specs.{ComparesKeysBy, FoundByHas, FoundKeyHas, GetsBy, GetsKey, Index, IsKeyAt, IsKeyOf, Part, index_bytes, index_of, index_over, index_pos}
 use Rattle.rkyv_index.specs.declared.map.ArchivedIndexMap.{ArchivedIndexMap}
@@ -31,10 +31,10 @@ module _ {K V H W : Type 0} {ks : Specs K} {vs : Specs V} {wt : Words W} (m : Ar
       pub found_key_read : {a : KeyLookup} → GetsKey part m a result → FoundKeyHas (over b p) a (part.At m result)
       found_key_read {a} got = as_read (λ d q. FoundKeyHas (over d q) a (part.At m result)) (record { finds = got.finds; first = got.first; complete = got.complete })
 
-      pub found_by_read : {hash : ℕ} {key_hash : List ℕ → ℕ → ℕ} {post : View K → Bool → Type 0} → GetsBy part m hash key_hash post result → FoundByHas (over b p) hash key_hash post (part.At m result)
-      found_by_read {hash} {key_hash} {post} got =
+      pub found_by_read : {hashes : LookupHashes} {post : View K → Bool → Type 0} → GetsBy part m hashes post result → FoundByHas (over b p) hashes post (part.At m result)
+      found_by_read {hashes} {post} got =
           let found = got.accepted in
-          as_read (λ d q. FoundByHas (over d q) hash key_hash post (part.At m result)) (record {
+          as_read (λ d q. FoundByHas (over d q) hashes post (part.At m result)) (record {
             accepted = (found.0, found.1, IfSome_then found.0 found.2 (λ i a. (a.0, key_in_bytes i a.0 a.1, a.2)));
             finds = λ accept compares. got.finds accept (compares_in_bytes post accept compares);
             first = λ accept compares. got.first accept (compares_in_bytes post accept compares);

@@ -17,9 +17,9 @@ unfoldable pub use Map.{FindsIndex, FindsKey, IsAccepted, IsFullKeyIn, IsFullRes
 unfoldable pub use Map.{IsIndexOf, IsKeyOf, IsPairAt, IsPairOf, IsStored, IsStoredAt, IsStoredBelow}
 unfoldable pub use Map.{IsStoredIndex, IsValueAt, IsWritten, MatchesAt, ReadsUpTo, ReadsWithinBound}
 unfoldable pub use Map.{fits_at, fits_in, full_index, full_key_index, index_archive, index_bytes}
-unfoldable pub use Map.{index_cap, index_found, index_len, index_of, index_pos, index_strides}
-unfoldable pub use Map.{key_at, key_pos, key_positions, pair_indices, pair_positions, row}
-unfoldable pub use Map.{stored_index}
+unfoldable pub use Map.{index_cap, index_found, index_header, index_len, index_of, index_pos}
+unfoldable pub use Map.{index_strides, index_view, key_at, key_pos, key_positions, pair_indices}
+unfoldable pub use Map.{pair_positions, row, stored_index}
 pub use Map.{FindsIndexIn, Index, IsEntryOf, IsKeyIn, IsValueOf}
 unfoldable pub use Map.IndexLayout.{AreBelow, AreValidEntries, EntriesFail, FirstNotBelow}
 unfoldable pub use Map.IndexLayout.{IndexFails, IndicesBelow, decode_entries, distance_pos}
@@ -33,9 +33,9 @@ unfoldable pub use Map.Row.{WritesRow, WroteRow, row_of}
 pub use Map.Row.{Before, RowInput}
 unfoldable pub use Map.IndexFormat.{CodesReadBack, IndexNext, IndexRepresents, IndexTable}
 unfoldable pub use Map.IndexFormat.{WrittenIndexMaps, element, hashed_indices, index_format}
-unfoldable pub use Map.IndexFormat.{indices, indices_from, row_format}
+unfoldable pub use Map.IndexFormat.{indices, indices_from, key_hashes, row_format}
 pub use Map.IndexFormat.{ArchivedAs, BeforeRow, BeforeZeros, IndexParts, IndexWrittenAt, IndicesAs}
-pub use Map.IndexFormat.{RowRepresents}
+pub use Map.IndexFormat.{KeyHashes, RowRepresents}
 unfoldable pub use Map.ValueWrites.{KeptByWrites, SetsListed, ValueWritesKeepIndexMaps}
 unfoldable pub use Map.ValueWrites.{WritesKeepLookups, WritesRepresent, index_kind, pair_at}
 pub use Map.ValueWrites.{IndexKind, KeepsEntries, KeepsIndexMap}
@@ -59,7 +59,7 @@ unfoldable pub use Map.Lookups.{value_part}
 pub use Map.Lookups.{FoundByHas, FoundKeyHas, GetsBy, GetsKey, Part}
 unfoldable pub use Map.InPlace.{FoundValueByHas, FoundValueHas, RepresentsIn, SetsFirst, SetsFound}
 unfoldable pub use Map.InPlace.{SetsValue, UppercasesFirst, UppercasesFound, UppercasesListed}
-unfoldable pub use Map.InPlace.{UppercasesText, index_over, index_to_texts_over}
+unfoldable pub use Map.InPlace.{UppercasesText, WritesFoundBy, index_over, index_to_texts_over}
 unfoldable pub use Map.InPlace.{index_to_texts_spec, value_pos_of}
 unfoldable pub use Map.ListArchives.{FoundAreListed, index_root}
 pub use Map.ListArchives.{FindsInRoot}

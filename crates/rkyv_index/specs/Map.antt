@@ -32,12 +32,14 @@ use Rattle.rkyv_base.specs.{ElementSpec, IsAt, IsValidView, archive_of, bytes_of
 use Rattle.rkyv_base.specs.{number_at, pos_of, value_offset}
 use Rattle.rkyv_base.specs.declared.entry.Entry.{Entry}
 use Rattle.rkyv_base.specs.declared.view.View.{View}
-use Rattle.rkyv_table.specs.{FindsItem, IsCutAt, IsItem, IsWalked, ReadsWithin, cap_at, item_at}
-use Rattle.rkyv_table.specs.{len_at, pos_found, probe_capacity, probe_length_at}
+use Rattle.rkyv_table.specs.{FindsItem, HasItemAt, IsCutAt, IsItem, ReadsWithin, cap_at}
+use Rattle.rkyv_table.specs.{count_after, item_found, len_at, probe_capacity, probe_length_at}
 use Rattle.rkyv_table.specs.declared.table.ArchivedHashTable.{ArchivedHashTable}
+use Rattle.rkyv_table.specs.declared.table.decoded.Decoded.{Decoded}
 use Rattle.rkyv_index.specs.Map.IndexFormat.{IndexWrittenAt}
 use Rattle.rkyv_index.specs.Map.IndexLayout.{entries_pos, indices_of, pair_pos}
 use Rattle.rkyv_index.specs.declared.map.ArchivedIndexMap.{ArchivedIndexMap}
+use Rattle.rkyv_index.specs.declared.map.IndexMapOf.{IndexMapOf}
 
 -- the positions of `n` values of `size` bytes in a row, from `q` on
 abbrev pub row : ℕ → ℕ → ℕ → List ℕ
@@ -48,12 +50,11 @@ row size q (suc n) = q ∷ row size (q + size) n
 abbrev pub pair_positions : Width → ℕ → List ℕ → ℕ → List ℕ
 pair_positions w size b p = row size (entries_pos w b p) (len_at w b p)
 
--- a full bucket has the index `i`
+-- an item of the table has the index `i`
 abbrev pub IsStoredAt : Width → List ℕ → ℕ → ℕ → Type 0
-IsStoredAt w b p i = (bucket : ℕ) × IsWalked w b p bucket
-    × (number_at w b (item_at w (byte_len w) b p bucket) ≡ i)
+IsStoredAt w b p i = (q : ℕ) × HasItemAt w (byte_len w) b p q × (number_at w b q ≡ i)
 
--- a full bucket has the index `i`, and it is below the length
+-- an item of the table has the index `i`, and it is below the length
 abbrev pub IsStoredBelow : Width → List ℕ → ℕ → ℕ → Type 0
 IsStoredBelow w b p i = IsStoredAt w b p i × (i < len_at w b p)
 
@@ -61,7 +62,7 @@ IsStoredBelow w b p i = IsStoredAt w b p i × (i < len_at w b p)
 abbrev pub index_found : Width → List ℕ → ℕ → ℕ → (ℕ → Bool) → Option ℕ
 index_found w b p hash accept =
     option_map (number_at w b)
-    (pos_found generic_kind w (byte_len w) b p hash (λ q. accept (number_at w b q)))
+    (item_found w (byte_len w) b p hash (λ q. accept (number_at w b q)))
 
 -- the number of strides that a lookup under `hash` reads. `accept i`: the key at index `i`
 -- is accepted
@@ -77,17 +78,25 @@ pub record IsKeyIn {M K : Type 0} (w : Width) (k v : ElementSpec) (m : View M) (
   pub viewable : IsValidView k key
 
 module _ {K V H W : Type 0} {ks : Specs K} {vs : Specs V} {wt : Words W} where
+  -- the view of the map's header
+  abbrev pub index_view : ArchivedIndexMap K V H W ks vs wt → View (IndexMapOf K V H W)
+  index_view m = m.view
+
+  -- the decoded header of the table of indices
+  abbrev pub index_header : ArchivedIndexMap K V H W ks vs wt → Decoded
+  index_header m = m.header
+
   -- the archive of the map
   abbrev pub index_archive : ArchivedIndexMap K V H W ks vs wt → Bor (List ℕ)
-  index_archive m = archive_of m.view
+  index_archive m = archive_of (index_view m)
 
   -- the bytes of the archive
   abbrev pub index_bytes : ArchivedIndexMap K V H W ks vs wt → List ℕ
-  index_bytes m = bytes_of m.view
+  index_bytes m = bytes_of (index_view m)
 
   -- the position of the header
   abbrev pub index_pos : ArchivedIndexMap K V H W ks vs wt → ℕ
-  index_pos m = pos_of m.view
+  index_pos m = pos_of (index_view m)
 
   -- the number of pairs
   abbrev pub index_len : ArchivedIndexMap K V H W ks vs wt → ℕ
@@ -108,7 +117,7 @@ module _ {K V H W : Type 0} {ks : Specs K} {vs : Specs V} {wt : Words W} where
 
   -- `key`: view of the key at index `i`
   abbrev pub IsKeyOf : ArchivedIndexMap K V H W ks vs wt → ℕ → View K → Type 0
-  IsKeyOf m i key = IsKeyIn wt.word ks.spec vs.spec m.view i key
+  IsKeyOf m i key = IsKeyIn wt.word ks.spec vs.spec (index_view m) i key
 
   -- `value`: view of the value at index `i`
   pub record IsValueOf (m : ArchivedIndexMap K V H W ks vs wt) (i : ℕ) (value : View V) : Type 0
@@ -128,19 +137,19 @@ module _ {K V H W : Type 0} {ks : Specs K} {vs : Specs V} {wt : Words W} where
   abbrev pub IsPairOf : ArchivedIndexMap K V H W ks vs wt → ℕ → View K × View V → Type 0
   IsPairOf m i pair = IsKeyOf m i pair.0 × IsValueOf m i pair.1
 
-  -- a full bucket of the map has the index `i`
+  -- an item of the map's table has the index `i`
   abbrev pub IsStored : ArchivedIndexMap K V H W ks vs wt → ℕ → Type 0
   IsStored m i = IsStoredAt wt.word (index_bytes m) (index_pos m) i
 
-  -- a full bucket of the map has the index `i`, and it is below the length
+  -- an item of the map's table has the index `i`, and it is below the length
   abbrev pub IsStoredIndex : ArchivedIndexMap K V H W ks vs wt → ℕ → Type 0
   IsStoredIndex m i = IsStoredBelow wt.word (index_bytes m) (index_pos m) i
 
-  -- `full`: an index in a full bucket, and views of its key and its value
+  -- `full`: an index in the table, and views of its key and its value
   abbrev pub IsFullResult : ArchivedIndexMap K V H W ks vs wt → ℕ × View K × View V → Type 0
   IsFullResult m full = IsStored m full.0 × IsPairOf m full.0 (full.1, full.2)
 
-  -- `full`: an index in a full bucket, and a view of its key
+  -- `full`: an index in the table, and a view of its key
   abbrev pub IsFullKeyIn : ArchivedIndexMap K V H W ks vs wt → ℕ × View K → Type 0
   IsFullKeyIn m full = IsStored m full.0 × IsKeyOf m full.0 full.1
 
@@ -150,9 +159,8 @@ module _ {K V H W : Type 0} {ks : Specs K} {vs : Specs V} {wt : Words W} where
   ReadsWithinBound m before after =
       ReadsWithin (index_len m) (probe_capacity (index_cap m) / 16) before after
 
-  -- No count is lost, at most `limit` strides are counted and those of one more lookup, and
-  -- `result` is `None` if and only if more than `limit` are, or 2^63 in all.
-  -- `before`, `after`: counts of strides
+  -- At most `limit` strides are counted and those of one more lookup, and `result` is `None` if
+  -- and only if more than `limit` are. `before`, `after`: counts of strides
   abbrev pub ReadsUpTo : ArchivedIndexMap K V H W ks vs wt → ℕ → ℕ → ℕ → Option ℕ → Type 0
   ReadsUpTo m limit before after result =
       IsCutAt limit (probe_capacity (cap_at wt.word (index_bytes m) (index_pos m)) / 16) before
@@ -277,12 +285,12 @@ module _ {K : Type 0} (m : Index K) where
   -- of strides
   abbrev pub CountsBy : (View K → Bool → Type 0) → ℕ → ℕ → ℕ → Type 0
   CountsBy post hash before after = (accept : ℕ → Bool) → ComparesKeysBy post accept
-      → after ≡ before + index_strides m.word m.bytes m.pos hash accept
+      → after ≡ count_after before (index_strides m.word m.bytes m.pos hash accept)
 
   -- a lookup of a query reads these strides, under a hash. `fits`: test of the keys
   abbrev pub CountsKey : ℕ → (List ℕ → ℕ → Bool) → ℕ → ℕ → Type 0
   CountsKey hash fits before after =
-      after ≡ before + index_strides m.word m.bytes m.pos hash (fits_at fits)
+      after ≡ count_after before (index_strides m.word m.bytes m.pos hash (fits_at fits))
 
   -- the property applies to the index that a lookup by a comparison finds, if the comparison
   -- depends only on the index of a key

@@ -5,7 +5,7 @@
 //! - `in_place` writes values over the bytes of an archive.
 //! - `laws` has laws that a proof cites.
 ghost use Rattle.std.specs.Prelude.{MatchResult, Ok, ◌≡◌, ⊤};
-ghost use Rattle.rkyv_base.specs.{IsValidView, entry_spec};
+ghost use Rattle.rkyv_base.specs.{IsValidView, bytes_of, entry_spec, pos_of};
 ghost use Rattle.rkyv_base.specs.Lemmas.Entry.{entry_element};
 ghost use Rattle.rkyv_base.specs.Lemmas.ElementSpec.{viewable_prop};
 ghost use Rattle.rkyv_table.specs.{IsDecoded};
@@ -44,9 +44,9 @@ pub struct ArchivedIndexMap<'a, K: HasSpec, V: HasSpec, H = FxHasher64, W: Word 
         (entry_spec K.spec V.spec)) view } by { viewable_prop
             (index_spec W.word (entry_spec K.spec V.spec))
             (index_element W.word W.kind (entry_spec K.spec V.spec)
-            (entry_element K.spec V.spec K.laws V.laws)) view.archive.now view.pos },
-    ghost decoded: { IsDecoded W.word view.archive.now view.pos header },
-    ghost begins: { begin ≡ entries_pos W.word view.archive.now view.pos },
+            (entry_element K.spec V.spec K.laws V.laws)) (bytes_of view) (pos_of view) },
+    ghost decoded: { IsDecoded W.word (bytes_of view) (pos_of view) header },
+    ghost begins: { begin ≡ entries_pos W.word (bytes_of view) (pos_of view) },
 }
 
 impl<'a, K: HasSpec, V: HasSpec, H, W: Word> Clone for ArchivedIndexMap<'a, K, V, H, W> {

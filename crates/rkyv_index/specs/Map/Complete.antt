@@ -25,6 +25,6 @@ module _ (len : ℕ) (fits : ℕ → Bool) where
 abbrev pub FindsOneKey : {K : Type 0} → Index K → (List ℕ → ℕ → ℕ) → Comparison
     → (List ℕ → ℕ → Bool) → (Option ℕ → Type 0) → Type 0
 FindsOneKey m key_hash same fits P =
-    index_misplaced m key_hash same ≡ 0
+    index_misplaced m (record { hash = key_hash; same = same }) ≡ 0
     → (index : Option ℕ) × FindsTheOne (len_at m.word m.bytes m.pos) (fits_at m fits) index
     × P index

@@ -10,9 +10,8 @@ use Rattle.std.specs.Option.{is_some, option_map}
 use Rattle.rkyv_base.specs.{ElementSpec, Encoding, Uppercases, entry_spec, text_spec, value_pos}
 use Rattle.rkyv_base.specs.{with_value}
 use Rattle.rkyv_base.specs.declared.view.View.{View}
-use Rattle.rkyv_keys.specs.{KeyLookup, NativePairs, first_pair, hash_at, list_after_uppercase}
-use Rattle.rkyv_keys.specs.{with_first}
-use Rattle.rkyv_scan.specs.{Hasher, HasherCall, hash_of_calls}
+use Rattle.rkyv_keys.specs.{KeyLookup, LookupHashes, NativePairs, first_pair}
+use Rattle.rkyv_keys.specs.{list_after_uppercase, with_first}
 use Rattle.rkyv_index.specs.Map.{Index, key_at}
 use Rattle.rkyv_index.specs.Map.IndexFormat.{IndexRepresents}
 use Rattle.rkyv_index.specs.Map.IndexLayout.{index_spec}
@@ -33,13 +32,19 @@ value_pos_of m i = value_pos m.key m.value (key_at m i)
 abbrev pub FoundValueHas : {K : Type 0} → Index K → KeyLookup → (Option ℕ → Type 0) → Type 0
 FoundValueHas m a P = FoundKeyHas m a (λ index. P (option_map (value_pos_of m) index))
 
--- The property applies to the position of the value of a key that a comparison accepted, or to
--- `None`. `calls`: hasher calls of the lookup, `key_calls`: those of the key at a position
-abbrev pub FoundValueByHas : {K State : Type 0} → Index K → Hasher State → List HasherCall
-    → (List ℕ → ℕ → List HasherCall) → (View K → Bool → Type 0) → (Option ℕ → Type 0) → Type 0
-FoundValueByHas m hasher calls key_calls post P =
-    FoundByHas m (hash_of_calls hasher calls) (hash_at hasher key_calls) post
-    (λ index. P (option_map (value_pos_of m) index))
+-- the property applies to the position of the value of a key that a comparison accepted, or to
+-- `None`
+abbrev pub FoundValueByHas : {K : Type 0} → Index K → LookupHashes → (View K → Bool → Type 0)
+    → (Option ℕ → Type 0) → Type 0
+FoundValueByHas m hashes post P =
+    FoundByHas m hashes post (λ index. P (option_map (value_pos_of m) index))
+
+-- the value that such a lookup finds is written, if it finds one. `Writes`: relation of the bytes
+-- before, the result, the bytes `c` afterwards and the found position
+abbrev pub WritesFoundBy : {K X : Type 0} → Index K → LookupHashes → (View K → Bool → Type 0)
+    → (List ℕ → X → List ℕ → Option ℕ → Type 0) → X → List ℕ → Type 0
+WritesFoundBy m hashes post Writes result c =
+    FoundValueByHas m hashes post (Writes m.bytes result c)
 
 -- the element of an index map to texts
 abbrev pub index_to_texts_spec : Width → ElementSpec → ElementSpec

@@ -4,6 +4,8 @@ use Rattle.std.specs.Int.{Width, byte_len}
 use Rattle.rkyv_base.specs.{ElementSpec, Encoding, Format, IsFormat, PairRepresents, Step}
 use Rattle.rkyv_base.specs.{entry_spec, number_at, padding, pair_format, piece, scalar_format}
 use Rattle.rkyv_base.specs.{zeros}
+use Rattle.rkyv_keys.specs.{HasherMembers, KeyMembers, archived_hash, native_hash}
+use Rattle.rkyv_keys.specs.declared.hash.KeyHash.{Ghosts as Hashes}
 use Rattle.rkyv_table.specs.{PairsNext, TableParts, TableResolver, WrittenAt, cap_at, capacity}
 use Rattle.rkyv_table.specs.{home_positions, len_at, resolved_capacity}
 use Rattle.rkyv_index.specs.Map.IndexHeader.{IndexOverflows, IndexResolver, IsIndexHeader}
@@ -135,13 +137,24 @@ abbrev pub element : {A R : Type 0} → ElementSpec → (List ℕ → ℕ → A 
     → ArchivedAs A R
 element spec represents format = record { spec = spec; represents = represents; format = format }
 
+-- the hashes of keys. `archived`: hash of the key at a position, `native`: hash of a native key
+pub record KeyHashes (A : Type 0) : Type 0 where
+  pub archived : List ℕ → ℕ → ℕ
+  pub native : A → ℕ
+
+-- the hashes of keys by a hasher, a type of archived keys and a type of native keys
+abbrev pub key_hashes : {State A : Type 0} → HasherMembers State → KeyMembers → Hashes A
+    → KeyHashes A
+key_hashes hasher key native =
+    record { archived = archived_hash hasher key; native = native_hash hasher native }
+
 -- Under each load factor, written bytes of pairs and an aligned header behind them are a valid
 -- index map. It represents the pairs, in any archive that has these bytes.
 abbrev pub WrittenIndexMaps : {P A B R Q : Type 0} → Width → IndicesAs P
-    → ArchivedAs A R → ArchivedAs B Q → (List ℕ → ℕ → ℕ) → (A → ℕ) → Type 0
-WrittenIndexMaps w hashed_indices k v key_hash hash =
+    → ArchivedAs A R → ArchivedAs B Q → KeyHashes A → Type 0
+WrittenIndexMaps w hashed_indices k v hashes =
     (load_factor : ℕ × ℕ)
     → IsFormat (index_spec w (entry_spec k.spec v.spec))
-    (IndexRepresents w k.spec v.spec k.represents v.represents key_hash load_factor)
+    (IndexRepresents w k.spec v.spec k.represents v.represents hashes.archived load_factor)
     (index_format w hashed_indices.spec hashed_indices.encoding k.spec v.spec k.format
-    v.format hash load_factor)
+    v.format hashes.native load_factor)

@@ -8,7 +8,7 @@ use Rattle.std.specs.List.{position}
 use Rattle.rkyv_base.specs.{ElementSpec, IsAt, entry_spec}
 use Rattle.rkyv_base.specs.declared.view.View.{View}
 use Rattle.rkyv_keys.specs.{FoundValues, NativeKeys, first_value}
-use Rattle.rkyv_index.specs.Map.{FindsFirstKey, IsIndex, IsValueAt, index_of}
+use Rattle.rkyv_index.specs.Map.{FindsFirstKey, IsIndex, IsValueAt, index_of, index_view}
 use Rattle.rkyv_index.specs.Map.IndexFormat.{IndexRepresents}
 use Rattle.rkyv_index.specs.Map.IndexLayout.{index_spec}
 use Rattle.rkyv_index.specs.declared.map.ArchivedIndexMap.{ArchivedIndexMap}
@@ -38,7 +38,7 @@ abbrev pub FoundAreListed : {A Q B K V W : Type 0} → (H : Type 0) → Words W 
 FoundAreListed {A} {Q} {B} {K} {V} {W} H wt ks vs keys values =
     (map : ArchivedIndexMap K V H W ks vs wt) (root : View (IndexMapOf K V H W))
     (archive : Bor (List ℕ)) (factor : ℕ × ℕ) (pairs : List (A × B)) (query : Q)
-    → map.view ≡ root → IsAt root archive (index_root wt.word ks.spec vs.spec archive.now)
+    → index_view map ≡ root → IsAt root archive (index_root wt.word ks.spec vs.spec archive.now)
     → IndexRepresents wt.word ks.spec vs.spec keys.represents values.represents keys.key_hash
     factor archive.now (index_root wt.word ks.spec vs.spec archive.now) pairs
     → FindsInRoot keys values map query pairs

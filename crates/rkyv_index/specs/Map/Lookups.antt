@@ -3,7 +3,7 @@ use Rattle.rkyv_base.specs.declared.element.HasSpec.{Ghosts as Specs}
 use Rattle.rkyv_base.specs.declared.width.Word.{Ghosts as Words}
 use Rattle.std.specs.Prelude.{◌≡◌, ℕ, Bool, IfSome, List, Option}
 use Rattle.rkyv_base.specs.declared.view.View.{View}
-use Rattle.rkyv_keys.specs.{KeyLookup}
+use Rattle.rkyv_keys.specs.{KeyLookup, LookupHashes}
 use Rattle.rkyv_index.specs.Map.Complete.{FindsOneKey}
 use Rattle.rkyv_index.specs.Map.{FindsBy, FindsFirstBy, FindsFirstKey, FindsKey, Index, IsAccepted}
 use Rattle.rkyv_index.specs.Map.{IsFullKeyIn, IsFullResult, IsIndex, IsKeyOf, IsPairOf, IsStored}
@@ -19,16 +19,16 @@ pub record FoundKeyHas {K : Type 0} (m : Index K) (a : KeyLookup) (P : Option �
     pub first : FindsFirstKey m a.key_hash a.fits P
     pub complete : FindsOneKey m a.key_hash a.same a.fits P
 
--- `P` is a property of the index that a lookup by a comparison finds, under the hash: of one
--- whose key was accepted, in any map, and in a written map
-pub record FoundByHas {K : Type 0} (m : Index K) (hash : ℕ) (key_hash : List ℕ → ℕ → ℕ)
+-- `P` is a property of the index that a lookup by a comparison finds, under the hash of a query:
+-- of one whose key was accepted, in any map, and in a written map
+pub record FoundByHas {K : Type 0} (m : Index K) (hashes : LookupHashes)
     (post : View K → Bool → Type 0) (P : Option ℕ → Type 0) : Type 0 where
   pub accepted : (index : Option ℕ) × P index × IfSome index (IsAccepted m post)
-  pub finds : FindsBy m post hash P
-  pub first : FindsFirstBy m post hash key_hash P
+  pub finds : FindsBy m post hashes.hash P
+  pub first : FindsFirstBy m post hashes.hash hashes.key_hash P
 
 -- What a lookup in `M` returns of the pair that it finds. `In m x`: `x` is of a pair of `m`
--- whose index a full bucket has, `At m result index`: the result is of the pair at the index,
+-- whose index is in the table, `At m result index`: the result is of the pair at the index,
 -- or there is neither
 pub record Part (M X : Type 0) : Type 1 where
   pub In : M → X → Type 0
@@ -81,12 +81,12 @@ module _ {K V H W : Type 0} {ks : Specs K} {vs : Specs V} {wt : Words W} where
       pub first : FindsFirstKey (index_of m) a.key_hash a.fits (part.At m result)
       pub complete : FindsOneKey (index_of m) a.key_hash a.same a.fits (part.At m result)
 
-    -- `result`: part of the pair that a lookup by a comparison finds, under the hash.
+    -- `result`: part of the pair that a lookup by a comparison finds, under the hash of a query.
     -- `accepted`: the comparison accepted the key of the pair
-    pub record GetsBy (hash : ℕ) (key_hash : List ℕ → ℕ → ℕ) (post : View K → Bool → Type 0)
-        (result : Option X) : Type 0 where
+    pub record GetsBy (hashes : LookupHashes) (post : View K → Bool → Type 0) (result : Option X) :
+        Type 0 where
       pub walked : IfSome result (part.In m)
       pub accepted : (index : Option ℕ) × part.At m result index
           × IfSome index (IsAccepted (index_of m) post)
-      pub finds : FindsBy (index_of m) post hash (part.At m result)
-      pub first : FindsFirstBy (index_of m) post hash key_hash (part.At m result)
+      pub finds : FindsBy (index_of m) post hashes.hash (part.At m result)
+      pub first : FindsFirstBy (index_of m) post hashes.hash hashes.key_hash (part.At m result)

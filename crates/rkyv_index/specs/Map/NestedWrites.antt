@@ -2,8 +2,8 @@
 use Rattle.std.specs.Prelude.{◌≡◌, ◌≢◌, ℕ, ◌+◌, ◌*◌, ◌<◌, ◌^◌, Bool, List}
 use Rattle.std.specs.Int.{Width, byte_len}
 use Rattle.rkyv_base.specs.{AgreeOn, ElementSpec, Viewable, entry_spec, number_at, value_pos}
-use Rattle.rkyv_table.specs.{IsWalked, RestsOnParts, StaysAt, WritesAmongParts, WritesValue}
-use Rattle.rkyv_table.specs.{item_at, len_at, table_controls}
+use Rattle.rkyv_table.specs.{HasItemAt, HasSameControls, RestsOnParts, StaysAt, WritesAmongParts}
+use Rattle.rkyv_table.specs.{WritesValue, len_at}
 use Rattle.rkyv_index.specs.Map.{fits_in, index_found}
 use Rattle.rkyv_index.specs.Map.IndexFormat.{IndexWrittenAt}
 use Rattle.rkyv_index.specs.Map.IndexLayout.{index_spec}
@@ -19,10 +19,8 @@ module _ (w : Width) (k v : ElementSpec) where
     pub valid : Viewable (index_spec w (entry_spec k v)) c p
     pub nested : WritesAmongParts (index_spec w (entry_spec k v)) b c p
     pub header : AgreeOn b c p (p + 4 * byte_len w)
-    pub controls : table_controls w c p ≡ table_controls w b p
-    pub indices : (j : ℕ) → IsWalked w b p j
-        → number_at w c (item_at w (byte_len w) c p j)
-        ≡ number_at w b (item_at w (byte_len w) b p j)
+    pub controls : HasSameControls w b c p
+    pub indices : (q : ℕ) → HasItemAt w (byte_len w) b p q → number_at w c q ≡ number_at w b q
     pub positions : (j : ℕ) → pair_at w k v c p j ≡ pair_at w k v b p j
     pub keys : (j : ℕ) → j < len_at w b p → StaysAt k b c (pair_at w k v b p j)
     pub values : (j : ℕ) → j < len_at w b p → j ≢ i

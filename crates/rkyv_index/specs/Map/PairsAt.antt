@@ -6,7 +6,7 @@ use Rattle.std.specs.Borrow.{Bor}
 use Rattle.rkyv_base.specs.{AtView, IsAt}
 use Rattle.rkyv_base.specs.declared.view.View.{View}
 use Rattle.rkyv_keys.specs.{NativePairs}
-use Rattle.rkyv_index.specs.Map.{IsPairOf, index_len}
+use Rattle.rkyv_index.specs.Map.{IsPairOf, index_len, index_view}
 use Rattle.rkyv_index.specs.Map.IndexFormat.{IndexRepresents}
 use Rattle.rkyv_index.specs.declared.map.ArchivedIndexMap.{ArchivedIndexMap}
 use Rattle.rkyv_index.specs.declared.map.IndexMapOf.{IndexMapOf}
@@ -19,7 +19,7 @@ abbrev pub PairsAtAreListed : {A B K V W : Type 0} → (H : Type 0) → Words W 
 PairsAtAreListed {A} {B} {K} {V} {W} H wt ks vs native =
     (map : ArchivedIndexMap K V H W ks vs wt) (header : View (IndexMapOf K V H W))
     (archive : Bor (List ℕ)) (p : ℕ) (factor : ℕ × ℕ) (pairs : List (A × B)) (index : ℕ)
-    (found : Option (View K × View V)) → map.view ≡ header → IsAt header archive p
+    (found : Option (View K × View V)) → index_view map ≡ header → IsAt header archive p
     → IndexRepresents wt.word ks.spec vs.spec native.key native.value native.key_hash factor
     archive.now p pairs
     → MatchOption found (index_len map ≤ index) (IsPairOf map index)

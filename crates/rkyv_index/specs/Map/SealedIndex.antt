@@ -2,8 +2,8 @@
 use Rattle.std.specs.Prelude.{◌≡◌, ℕ, ◌<◌, List, Option}
 use Rattle.std.specs.Int.{Width}
 use Rattle.std.specs.Option.{option_map}
-use Rattle.rkyv_base.specs.{ElementSpec, IsValidView, SealAt, Viewable, archive_in, bytes_of}
-use Rattle.rkyv_base.specs.{entry_spec, pos_in, pos_of, value_pos}
+use Rattle.rkyv_base.specs.{ElementSpec, IsValidView, SealAt, Viewable, archive_in, archive_ref}
+use Rattle.rkyv_base.specs.{bytes_of, entry_spec, pos_in, pos_of, value_pos}
 use Rattle.rkyv_base.specs.declared.seal.ArchiveSeal.{ArchiveSeal}
 use Rattle.rkyv_base.specs.declared.seal.Seal.{Seal}
 use Rattle.rkyv_base.specs.declared.view.View.{View}
@@ -18,7 +18,7 @@ abbrev pub IsIndexSeal : {K V H W : Type 0} → Width → ElementSpec → Elemen
     → ArchiveSeal (IndexMapOf K V H W) → Type 0
 IsIndexSeal w k v a = Viewable (index_spec w (entry_spec k v)) (archive_in a) (pos_in a)
 
--- a full bucket of the map at the seal `a` has the index `i`, and it is below the length
+-- an item of the table of the map at the seal `a` has the index `i`, and it is below the length
 abbrev pub IsStoredIn : {K V H W : Type 0} → Width → ArchiveSeal (IndexMapOf K V H W) → ℕ → Type 0
 IsStoredIn w a i = IsStoredBelow w (archive_in a) (pos_in a) i
 
@@ -62,12 +62,12 @@ module _ {K V H W : Type 0} (w : Width) (k v : ElementSpec) (a : ArchiveSeal
   abbrev pub IsPairPosIn : ℕ → ℕ → Type 0
   IsPairPosIn i q = IsPairPos w k v (archive_in a) (pos_in a) i q
 
-  -- `full`: an index in a full bucket, the view of its key and the seal of its value
+  -- `full`: an index in the table, the view of its key and the seal of its value
   abbrev pub IsFullSeal : ℕ × View K × Seal V → Type 0
   IsFullSeal full = IsStoredAt w (archive_in a) (pos_in a) full.0
       × LendsPair k v (archive_in a) (IsPairPosIn full.0) (full.1, full.2)
 
-  -- `pair`: view of the key and seal of the value at an index in a full bucket
+  -- `pair`: view of the key and seal of the value at an index in the table
   abbrev pub IsPairSeal : View K × Seal V → Type 0
   IsPairSeal pair = (i : ℕ) × IsStoredAt w (archive_in a) (pos_in a) i
       × LendsPair k v (archive_in a) (IsPairPosIn i) pair
@@ -76,9 +76,9 @@ module _ {K V H W : Type 0} (w : Width) (k v : ElementSpec) (a : ArchiveSeal
   pub record SealsValueAt (i : ℕ) (value : Seal V) : Type 0 where
     pub key : ℕ
     pub at : IsPairPosIn i key
-    pub seal : SealAt value a.archive (value_pos k v key)
+    pub seal : SealAt value (archive_ref a) (value_pos k v key)
 
-  -- `value`: seal of the value at an index in a full bucket
+  -- `value`: seal of the value at an index in the table
   abbrev pub IsValueSeal : Seal V → Type 0
   IsValueSeal value = (i : ℕ) × IsStoredAt w (archive_in a) (pos_in a) i × SealsValueAt i value
 

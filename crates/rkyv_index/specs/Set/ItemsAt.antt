@@ -5,7 +5,7 @@ use Rattle.std.specs.Prelude.{◌≡◌, ℕ, ◌≤◌, List, MatchOption, None
 use Rattle.std.specs.Borrow.{Bor}
 use Rattle.rkyv_base.specs.{AtView, IsAt, archive_of, pos_of}
 use Rattle.rkyv_base.specs.declared.view.View.{View}
-use Rattle.rkyv_index.specs.Map.{index_len}
+use Rattle.rkyv_index.specs.Map.{index_len, index_view}
 use Rattle.rkyv_index.specs.Set.IndexSet.{IsMemberOf, keys_of}
 use Rattle.rkyv_index.specs.Set.SetFormat.{IndexSetRepresents}
 use Rattle.rkyv_index.specs.declared.set.ArchivedIndexSet.{ArchivedIndexSet}
@@ -19,7 +19,7 @@ abbrev pub ItemsAtAreListed : {A K W : Type 0} → (H : Type 0) → Words W → 
 ItemsAtAreListed {A} {K} {W} H wt ks key key_hash =
     (set : ArchivedIndexSet K H W ks wt) (header : View (IndexSetOf K H W)) (archive : Bor (List ℕ))
     (p : ℕ) (factor : ℕ × ℕ) (items : List A) (index : ℕ) (found : Option (View K))
-    → IsAt (keys_of set).view (archive_of header) (pos_of header) → IsAt header archive p
+    → IsAt (index_view (keys_of set)) (archive_of header) (pos_of header) → IsAt header archive p
     → IndexSetRepresents wt.word ks.spec key key_hash factor archive.now p items
     → MatchOption found (index_len (keys_of set) ≤ index) (IsMemberOf set index)
     → MatchOption found (slice_get items index ≡ None)

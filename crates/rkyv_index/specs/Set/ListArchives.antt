@@ -8,7 +8,7 @@ use Rattle.std.specs.List.{list_any, position}
 use Rattle.rkyv_base.specs.{ElementSpec, IsAt, archive_of, pos_of}
 use Rattle.rkyv_base.specs.declared.view.View.{View}
 use Rattle.rkyv_keys.specs.{IsFoundAt, NativeKeys}
-use Rattle.rkyv_index.specs.Map.{FindsFirstKey, IsIndex}
+use Rattle.rkyv_index.specs.Map.{FindsFirstKey, IsIndex, index_view}
 use Rattle.rkyv_index.specs.Set.IndexSet.{index_of_set, index_set_spec, keys_of}
 use Rattle.rkyv_index.specs.Set.SetFormat.{IndexSetRepresents}
 use Rattle.rkyv_index.specs.declared.set.ArchivedIndexSet.{ArchivedIndexSet}
@@ -36,7 +36,7 @@ abbrev pub MembersFoundAreListed : {A Q K W : Type 0} → (H : Type 0) → Words
 MembersFoundAreListed {A} {Q} {K} {W} H wt ks keys =
     (set : ArchivedIndexSet K H W ks wt) (root : View (IndexSetOf K H W)) (archive : Bor (List ℕ))
     (factor : ℕ × ℕ) (items : List A) (query : Q)
-    → IsAt (keys_of set).view (archive_of root) (pos_of root)
+    → IsAt (index_view (keys_of set)) (archive_of root) (pos_of root)
     → IsAt root archive (index_set_root wt.word ks.spec archive.now)
     → IndexSetRepresents wt.word ks.spec keys.represents keys.key_hash factor archive.now
     (index_set_root wt.word ks.spec archive.now) items

@@ -8,7 +8,8 @@ ghost use Rattle.std.specs.Prelude.{IfErr, IfOk, MatchResult, length, ◌%◌, �
 ghost use Rattle.std.specs.Prelude.{true, ◌+◌, ◌-◌, ◌<◌, ◌≡◌, ◌≤◌};
 ghost use Rattle.std.specs.Int.{byte_len};
 ghost use Rattle.rkyv_base.specs.{Viewable};
-ghost use Rattle.rkyv_table.specs.{AreValid, FirstFails, item_positions, len_at, table_spec};
+ghost use Rattle.rkyv_table.specs.{AreValid, FirstFails, decoded_cap, decoded_controls_pos};
+ghost use Rattle.rkyv_table.specs.{item_positions, len_at, table_spec};
 ghost use Rattle.rkyv_index.specs.{AreBelow, EntriesFail, EntriesIn, FirstNotBelow, IndicesBelow};
 ghost use Rattle.rkyv_index.specs.{decode_entries, entry_at, indices_of, stored_index_spec};
 
@@ -20,10 +21,11 @@ use rkyv_table::table::decoded::Decoded;
 /// Returns the position of the last bucket, at which the buckets begin, or 0 without buckets.
 #[inline]
 fn buckets_begin<W: Width>(header: Decoded) -> usize
-    requires { 0 < header.cap → header.cap * byte_len W.word ≤ header.controls_pos }
-    ensures none { header.cap ≡ 0 → result ≡ 0 }
-    ensures some { 0 < header.cap
-        → result ≡ header.controls_pos - header.cap * byte_len W.word }
+    requires { 0 < decoded_cap header
+        → decoded_cap header * byte_len W.word ≤ decoded_controls_pos header }
+    ensures none { decoded_cap header ≡ 0 → result ≡ 0 }
+    ensures some { 0 < decoded_cap header
+        → result ≡ decoded_controls_pos header - decoded_cap header * byte_len W.word }
 {
     if header.capacity() == 0 {
         return 0;

@@ -24,12 +24,12 @@
 //! of the outer one.
 ghost use Rattle.std.specs.Prelude.{IfSome, length, ◌+◌, ◌<◌, ◌≡◌, ◌≤◌};
 ghost use Rattle.rkyv_base.specs.{ScalarRepresents, Viewable, entry_spec, value_pos, with_value};
-ghost use Rattle.rkyv_keys.specs.{hash_at, native_pairs, query_of};
+ghost use Rattle.rkyv_keys.specs.{archived_hash, lookup_hashes, lookup_of, native_pairs};
 ghost use Rattle.rkyv_table.specs.{MayWriteIn, WritesAmongParts, WritesIn, len_at};
 ghost use Rattle.rkyv_index.specs.{CanCompareKeysOf, FoundKeyHas, FoundValueByHas, FoundValueHas};
 ghost use Rattle.rkyv_index.specs.{IndexRepresents, IsIndex};
 ghost use Rattle.rkyv_index.specs.{KeepsIndexMap, SetsFirst, SetsListed, SetsValue, index_kind};
-ghost use Rattle.rkyv_index.specs.{index_over, index_spec, pair_at};
+ghost use Rattle.rkyv_index.specs.{WritesFoundBy, index_over, index_spec, pair_at};
 
 mod sealed;
 pub mod text;
@@ -67,7 +67,7 @@ impl<'a, K: KeyElement, V: Element, H: KeyHasher, W: IndexWidth> ArchivedIndexMa
         ensures inside { IfSome result (λ pos. pos + V.spec.size ≤ length archive.now) }
         ensures viewable { IfSome result (λ pos. Viewable V.spec archive.now pos) }
         ensures finds { FoundValueHas (index_over W.Word K.HasSpec V.HasSpec archive.now root)
-            (query_of H.hasher K.key_calls K.same (Q.calls key.now) (Q.fits key.now))
+            (lookup_of H.KeyHasher K.KeyElement Q.Query key.now)
             (λ pos. result ≡ pos) }
     {
         let map = ArchivedIndexMap::<K, V, H, W>::of(View::new(archive, root));
@@ -89,7 +89,7 @@ impl<'a, K: KeyElement, V: Element, H: KeyHasher, W: IndexWidth> ArchivedIndexMa
         ensures inside { IfSome result (λ pos. pos + V.spec.size ≤ length archive.now) }
         ensures viewable { IfSome result (λ pos. Viewable V.spec archive.now pos) }
         ensures finds { FoundValueByHas (index_over W.Word K.HasSpec V.HasSpec archive.now root)
-            H.hasher (Q.calls key.now) K.key_calls
+            (lookup_hashes H.KeyHasher K.KeyElement Q.KeyHash key.now)
             (F.post cmp key.entry) (λ pos. result ≡ pos) }
     {
         let map = ArchivedIndexMap::<K, V, H, W>::of(View::new(archive, root));
@@ -102,7 +102,7 @@ impl<'a, K: KeyElement, V: Element, H: KeyHasher, W: IndexWidth> ArchivedIndexMa
         requires map { Viewable (index_spec W.word (entry_spec K.spec V.spec)) archive.now root }
         ensures below { IfSome result (λ index. index < len_at W.word archive.now root) }
         ensures finds { FoundKeyHas (index_over W.Word K.HasSpec V.HasSpec archive.now root)
-            (query_of H.hasher K.key_calls K.same (Q.calls key.now) (Q.fits key.now))
+            (lookup_of H.KeyHasher K.KeyElement Q.Query key.now)
             (IsIndex result) }
     {
         ArchivedIndexMap::<K, V, H, W>::of(View::new(archive, root)).get_index_of(key)
@@ -141,7 +141,7 @@ impl<'a, K: KeyElement, V: Element, H: KeyHasher, W: IndexWidth> ArchivedIndexMa
         requires map { Viewable (index_spec W.word (entry_spec K.spec V.spec)) archive.old root }
         requires callable { MayWriteIn F.pre V.spec write archive.old }
         ensures { FoundValueHas (index_over W.Word K.HasSpec V.HasSpec archive.old root)
-            (query_of H.hasher K.key_calls K.same (Q.calls key.now) (Q.fits key.now))
+            (lookup_of H.KeyHasher K.KeyElement Q.Query key.now)
             (WritesIn F.post write archive.old result archive.new) }
     {
         let pos = Self::value_pos_in(&*archive, root, key)?;
@@ -172,9 +172,9 @@ impl<'a, K: KeyElement, V: Element, H: KeyHasher, W: IndexWidth> ArchivedIndexMa
         requires callable { CanCompareKeysOf
             (index_over W.Word K.HasSpec V.HasSpec archive.old root) (F.pre cmp key) }
         requires writable { MayWriteIn G.pre V.spec write archive.old }
-        ensures { FoundValueByHas (index_over W.Word K.HasSpec V.HasSpec archive.old root)
-            H.hasher (Q.calls key.now) K.key_calls
-            (F.post cmp key.entry) (WritesIn G.post write archive.old result archive.new) }
+        ensures { WritesFoundBy (index_over W.Word K.HasSpec V.HasSpec archive.old root)
+            (lookup_hashes H.KeyHasher K.KeyElement Q.KeyHash key.now) (F.post cmp key.entry)
+            (WritesIn G.post write) result archive.new }
     {
         let pos = Self::value_pos_by(&*archive, root, key, cmp)?;
         Some(write(archive, pos))
@@ -217,11 +217,11 @@ pub fn set_value_at<A, K: KeyElement + Represents<A>, N: Scalar, H: KeyHasher, W
         (value_pos K.spec N.spec
         (pair_at W.word K.spec N.spec archive.old root index)) value }
     ensures kept { KeepsIndexMap
-        (index_kind W.word K.spec N.spec (hash_at H.hasher K.key_calls))
+        (index_kind W.word K.spec N.spec (archived_hash H.KeyHasher K.KeyElement))
         archive.old archive.new root index }
     ensures listed { SetsListed
         (IndexRepresents W.word K.spec N.spec K.represents (ScalarRepresents N.encoding)
-        (hash_at H.hasher K.key_calls)) archive.old archive.new root index value }
+        (archived_hash H.KeyHasher K.KeyElement)) archive.old archive.new root index value }
     ensures parts { WritesAmongParts (index_spec W.word (entry_spec K.spec N.spec))
         archive.old archive.new root }
 {
@@ -261,7 +261,7 @@ pub fn set_value_of<
 >(archive: &mut [u8], root: u64, key: &A, value: N) -> bool
     requires map { Viewable (index_spec W.word (entry_spec K.spec N.spec)) archive.old root }
     ensures sets { SetsValue (index_over W.Word K.HasSpec N.HasSpec archive.old root)
-        (query_of H.hasher K.key_calls K.same (A.calls key.now) (A.fits key.now))
+        (lookup_of H.KeyHasher K.KeyElement A.Query key.now)
         N.encoding value result archive.new }
     ensures listed { SetsFirst (index_over W.Word K.HasSpec N.HasSpec archive.old root)
         (native_pairs K.represents (ScalarRepresents N.encoding) H.hasher K.key_calls)

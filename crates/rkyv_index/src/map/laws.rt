@@ -8,7 +8,8 @@ ghost use Rattle.std.specs.Cmp.Lexicographic.{pointwise};
 ghost use Rattle.std.specs.Int.{w32};
 ghost use Rattle.std.specs.Prelude.{◌↔◌, ◌≡◌};
 ghost use Rattle.rkyv_base.specs.{SameSpec, SameValues, entry_spec};
-ghost use Rattle.rkyv_keys.specs.{SameComparison, hash_at, hash_of, native_pairs, query_of};
+ghost use Rattle.rkyv_keys.specs.{SameComparison, archived_hash, lookup_of, native_hash};
+ghost use Rattle.rkyv_keys.specs.{native_pairs};
 ghost use Rattle.rkyv_table.specs.{CountsPositions, ItemsLeft, SameSteps, YieldsKey, YieldsPair};
 ghost use Rattle.rkyv_table.specs.{WritesValue, YieldsValue};
 ghost use Rattle.rkyv_index.specs.{ComparedAlike, FindsMatchedKeys, LookupsFindListed};
@@ -38,7 +39,7 @@ use rkyv_scan::{FxHasher64, KeyHasher};
 /// - A written index map is still one.
 pub fn value_writes_keep_index_maps<K: KeyElement, V: Element, H: KeyHasher, W: IndexWidth>()
     ensures { ValueWritesKeepIndexMaps W.word K.spec V.spec
-        (hash_at H.hasher K.key_calls) }
+        (archived_hash H.KeyHasher K.KeyElement) }
 {}
 
 /// States that each query finds the same index after a write of one value that keeps it valid.
@@ -50,7 +51,7 @@ pub fn value_writes_keep_lookups<
     W: IndexWidth,
 >()
     ensures { (q : _) → WritesKeepLookups W.word K.spec V.spec
-        (WritesValue K.spec V.spec) (hash_of H.hasher Q.calls q) (Q.fits q) }
+        (WritesValue K.spec V.spec) (native_hash H.KeyHasher Q.KeyHash q) (Q.fits q) }
 {}
 
 /// States that a write of one value in place replaces it in the represented list of pairs.
@@ -80,13 +81,13 @@ pub fn pairs_read_back_are_listed<
     W: IndexWidth,
 >()
     ensures { PairsReadBackAreListed W.word (reads_as K.spec K.represents A.eq)
-        (reads_as V.spec V.represents B.eq) (hash_at H.hasher K.key_calls) }
+        (reads_as V.spec V.represents B.eq) (archived_hash H.KeyHasher K.KeyElement) }
 {}
 
 /// States that both hashers look up alike in an index map whose keys hash no `usize` or `isize`.
 ///
 /// `FxHasher64` and `FxHasher64Wide` differ in the calls for `usize` and `isize` alone.
-/// A `FixedKey` makes none of them, and all keys of `rkyv_keys` implement it.
+/// A `FixedKey` makes none of them, and all keys of `rkyv_keys` but byte strings implement it.
 ///
 /// - `written`: an index map that was written under one hasher was written under the other.
 /// - `compared`: in any index map, a comparison finds the same index under both, if the query
@@ -167,7 +168,7 @@ pub fn lookups_find_listed<
 /// The found key is not after it. If no two keys of the index map are the same, it is that key.
 pub fn matched_keys_are_found<Q: Query<K>, K: KeyElement, V: Element, H: KeyHasher, W: IndexWidth>()
     ensures { FindsMatchedKeys H W.Word K.HasSpec V.HasSpec
-        (λ q. query_of H.hasher K.key_calls K.same (Q.calls q) (Q.fits q)) }
+        (lookup_of H.KeyHasher K.KeyElement Q.Query) }
 {}
 
 /// States that `get_index` returns the pair of the represented list at its index.

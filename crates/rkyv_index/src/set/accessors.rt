@@ -12,8 +12,8 @@ ghost use Rattle.rkyv_table.specs.{AllValid};
 ghost use Rattle.rkyv_index.specs.{FoundKeyHas, GetsKey, IsKeyOf, IsMemberAt, IsStoredIndex};
 ghost use Rattle.rkyv_index.specs.{WalksAll, full_key_part, index_archive, index_cap, index_len};
 ghost use Rattle.rkyv_index.specs.{index_of_set, index_part, index_set_spec, key_part};
-ghost use Rattle.rkyv_index.specs.{key_positions, keys_of};
-ghost use Rattle.rkyv_keys.specs.{IsFoundAt, query_of};
+ghost use Rattle.rkyv_index.specs.{index_view, key_positions, keys_of};
+ghost use Rattle.rkyv_keys.specs.{IsFoundAt, lookup_of};
 
 use crate::map::read::iter::Keys;
 use crate::map::{ArchivedIndexMap, IndexMapOf};
@@ -42,7 +42,8 @@ impl<'a, K: Element, H, W: IndexWidth> ArchivedIndexSet<'a, K, H, W> {
     #[inline]
     pub fn of(view: View<'a, IndexSetOf<K, H, W>>) -> ArchivedIndexSet<'a, K, H, W>
         requires { IsValidView (index_set_spec W.word K.spec) view }
-        ensures at { IsAt (keys_of result).view (archive_of view.entry) (pos_of view.entry) }
+        ensures at { IsAt (index_view (keys_of result)) (archive_of view.entry)
+            (pos_of view.entry) }
     {
         ArchivedIndexSet {
             map: ArchivedIndexMap::of(view.at::<IndexMapOf<K, (), H, W>>(view.pos())),
@@ -197,7 +198,7 @@ impl<'a, K: KeyElement, H: KeyHasher, W: IndexWidth> ArchivedIndexSet<'a, K, H, 
     #[inline]
     pub fn get_full<Q: Query<K>>(self, key: &Q) -> Option<(usize, View<'a, K>)>
         ensures { GetsKey full_key_part (keys_of self.entry)
-            (query_of H.hasher K.key_calls K.same (Q.calls key.now) (Q.fits key.now)) result }
+            (lookup_of H.KeyHasher K.KeyElement Q.Query key.now) result }
     {
         let (index, stored, _) = self.map.get_full(key)?;
         Some((index, stored))
@@ -221,7 +222,7 @@ impl<'a, K: KeyElement, H: KeyHasher, W: IndexWidth> ArchivedIndexSet<'a, K, H, 
     #[inline]
     pub fn get<Q: Query<K>>(self, key: &Q) -> Option<View<'a, K>>
         ensures { GetsKey key_part (keys_of self.entry)
-            (query_of H.hasher K.key_calls K.same (Q.calls key.now) (Q.fits key.now)) result }
+            (lookup_of H.KeyHasher K.KeyElement Q.Query key.now) result }
     {
         self.key_of(self.map.find_key(key))
     }
@@ -253,7 +254,7 @@ impl<'a, K: KeyElement, H: KeyHasher, W: IndexWidth> ArchivedIndexSet<'a, K, H, 
     #[inline]
     pub fn get_index_of<Q: Query<K>>(self, key: &Q) -> Option<usize>
         ensures { GetsKey index_part (keys_of self.entry)
-            (query_of H.hasher K.key_calls K.same (Q.calls key.now) (Q.fits key.now)) result }
+            (lookup_of H.KeyHasher K.KeyElement Q.Query key.now) result }
     {
         self.map.get_index_of(key)
     }
@@ -264,7 +265,7 @@ impl<'a, K: KeyElement, H: KeyHasher, W: IndexWidth> ArchivedIndexSet<'a, K, H, 
     #[inline]
     pub fn contains<Q: Query<K>>(self, key: &Q) -> bool
         ensures { FoundKeyHas (index_of_set self.entry)
-            (query_of H.hasher K.key_calls K.same (Q.calls key.now) (Q.fits key.now))
+            (lookup_of H.KeyHasher K.KeyElement Q.Query key.now)
             (IsFoundAt result) }
     {
         self.map.contains_key(key)

@@ -6,7 +6,7 @@ ghost use Rattle.rkyv_base.specs.Lemmas.Empty.{unit_element};
 ghost use Rattle.rkyv_base.specs.Lemmas.Entry.{entry_element};
 ghost use Rattle.rkyv_keys.specs.Lemmas.OfEntries.{entry_equivalence};
 ghost use Rattle.rkyv_keys.specs.Lemmas.OfUnits.{unit_equivalence};
-ghost use Rattle.rkyv_keys.specs.{at_views, hash_at};
+ghost use Rattle.rkyv_keys.specs.{archived_keys, at_views};
 ghost use Rattle.rkyv_index.specs.Lemmas.EqualLaws.{index_equivalence};
 ghost use Rattle.rkyv_index.specs.{CountsRepeated, CountsUpTo, index_misplaced, index_of_set};
 ghost use Rattle.rkyv_index.specs.{index_set_equal, index_set_spec, index_sets_equal};
@@ -41,9 +41,9 @@ impl<'a, K: KeyElement, H: KeyHasher, W: IndexWidth> ArchivedIndexSet<'a, K, H, 
     /// `FxHasher64` takes no secret key, so chosen keys can share one.
     pub fn misplaced(self) -> usize
         ensures exact { result ≡ index_misplaced (index_of_set self.entry)
-            (hash_at H.hasher K.key_calls) K.same }
+            (archived_keys H.KeyHasher K.KeyElement) }
         ensures repeated { CountsRepeated (index_of_set self.entry)
-            (hash_at H.hasher K.key_calls) K.same result }
+            (archived_keys H.KeyHasher K.KeyElement) result }
     {
         self.map.misplaced()
     }
@@ -53,14 +53,14 @@ impl<'a, K: KeyElement, H: KeyHasher, W: IndexWidth> ArchivedIndexSet<'a, K, H, 
     /// The number is the result of `misplaced`.
     ///
     /// The result is `None` if and only if the lookups of all keys read more than `limit` strides
-    /// of sixteen control bytes, or more than 2^63.
+    /// of sixteen control bytes.
     ///
     /// By its code alone, it reads at most `limit` strides and those of one more lookup, so its
     /// cost on an untrusted set is bounded. The contract of `misplaced_up_to_counted` of index maps
     /// also says so.
     pub fn misplaced_up_to(self, limit: u64) -> Option<usize>
-        ensures { CountsUpTo (index_of_set self.entry) (hash_at H.hasher K.key_calls) K.same limit 0
-            result }
+        ensures { CountsUpTo (index_of_set self.entry) (archived_keys H.KeyHasher K.KeyElement)
+            limit result }
     {
         self.map.misplaced_up_to(limit)
     }

@@ -6,8 +6,8 @@
 ghost use Rattle.std.specs.Cmp.Lexicographic.{pointwise};
 ghost use Rattle.std.specs.Int.{w32};
 ghost use Rattle.std.specs.Prelude.{◌↔◌, ◌≡◌};
-ghost use Rattle.rkyv_keys.specs.{SameComparison, fx_key_format, hash_at, native_key_format};
-ghost use Rattle.rkyv_keys.specs.{native_keys};
+ghost use Rattle.rkyv_keys.specs.{SameComparison, archived_hash, fx_key_format};
+ghost use Rattle.rkyv_keys.specs.{native_key_format, native_keys};
 ghost use Rattle.rkyv_index.specs.{ComparedAlike, ItemsAtAreListed, ItemsReadBackAreListed};
 ghost use Rattle.rkyv_index.specs.{MembersFoundAreListed, QueriedAlike, SameFormats};
 ghost use Rattle.rkyv_index.specs.{SetWalksVisitInOrder, WalksAll, WrittenAlike};
@@ -41,7 +41,7 @@ pub fn items_read_back_are_listed<
     W: IndexWidth,
 >()
     ensures { ItemsReadBackAreListed W.word K.spec K.represents
-        (hash_at H.hasher K.key_calls) A.eq }
+        (archived_hash H.KeyHasher K.KeyElement) A.eq }
 {}
 
 /// States that lookups in a root index set find the first key of the list that equals a native key.
@@ -58,7 +58,7 @@ pub fn members_found_are_listed<
     W: IndexWidth,
 >()
     ensures { MembersFoundAreListed H W.Word K.HasSpec
-        (native_keys K.represents (hash_at H.hasher K.key_calls) Q.fits Q.equals) }
+        (native_keys K.represents (archived_hash H.KeyHasher K.KeyElement) Q.fits Q.equals) }
 {}
 
 /// States that `get_index` returns the key of the represented list at its index.
@@ -66,14 +66,16 @@ pub fn members_found_are_listed<
 /// It returns `None` if and only if the list has no key there. The header of the index set may be
 /// anywhere in the archive.
 pub fn items_at_are_listed<A, K: KeyElement + Represents<A>, H: KeyHasher, W: IndexWidth>()
-    ensures { ItemsAtAreListed H W.Word K.HasSpec K.represents (hash_at H.hasher K.key_calls) }
+    ensures { ItemsAtAreListed H W.Word K.HasSpec K.represents
+        (archived_hash H.KeyHasher K.KeyElement) }
 {}
 
 /// States that `iter` returns the keys of the list that an index set represents, in order.
 ///
 /// The n-th position of a walk has the n-th key of the list, and there are no others.
 pub fn walks_visit_in_order<A, K: KeyElement + Represents<A>, H: KeyHasher, W: IndexWidth>()
-    ensures { SetWalksVisitInOrder W.word K.spec K.represents (hash_at H.hasher K.key_calls) }
+    ensures { SetWalksVisitInOrder W.word K.spec K.represents
+        (archived_hash H.KeyHasher K.KeyElement) }
 {}
 
 /// States that both hashers look up alike in an index set whose keys hash no `usize` or `isize`.

@@ -13,7 +13,7 @@
 ghost use Rattle.std.specs.Prelude.{IfSome, length, ◌+◌, ◌<◌, ◌≡◌, ◌≤◌};
 ghost use Rattle.rkyv_base.specs.{IsValidView, LiesIn, SealAt, Viewable, archive_in, bytes_in};
 ghost use Rattle.rkyv_base.specs.{entry_spec, pos_in, seal_pos, value_pos};
-ghost use Rattle.rkyv_keys.specs.{hash_at, hash_of, query_of};
+ghost use Rattle.rkyv_keys.specs.{lookup_hashes, lookup_of};
 ghost use Rattle.rkyv_table.specs.{LendsPair, len_at};
 ghost use Rattle.rkyv_index.specs.{CanCompareKeysOf, FoundByHas, FoundKeyHas, IsFullSeal};
 ghost use Rattle.rkyv_index.specs.{IsFullSealAt, IsIndex, IsIndexSeal, IsPairPosIn, IsPairSeal};
@@ -55,7 +55,7 @@ impl<'a, K: KeyElement, V: Element, H: KeyHasher, W: IndexWidth> ArchivedIndexMa
             (F.pre cmp key) }
         ensures stored { IfSome result (IsStoredIn W.word this.now) }
         ensures finds { FoundByHas (index_in W.word K.spec V.spec this.now)
-            (hash_of H.hasher Q.calls key.now) (hash_at H.hasher K.key_calls)
+            (lookup_hashes H.KeyHasher K.KeyElement Q.KeyHash key.now)
             (F.post cmp key.entry) (IsIndex result) }
     {
         Self::read(this).find(key, cmp, &mut Strides::new())
@@ -70,7 +70,7 @@ impl<'a, K: KeyElement, V: Element, H: KeyHasher, W: IndexWidth> ArchivedIndexMa
         requires map { IsIndexSeal W.word K.spec V.spec this.now }
         ensures stored { IfSome result (IsStoredIn W.word this.now) }
         ensures finds { FoundKeyHas (index_in W.word K.spec V.spec this.now)
-            (query_of H.hasher K.key_calls K.same (Q.calls key.now) (Q.fits key.now))
+            (lookup_of H.KeyHasher K.KeyElement Q.Query key.now)
             (IsIndex result) }
     {
         Self::read(this).find_key(key)
@@ -198,7 +198,7 @@ impl<'a, K: KeyElement, V: Element, H: KeyHasher, W: IndexWidth> ArchivedIndexMa
         ensures viewable { IfSome result (λ full. IsValidView K.spec full.1) }
         ensures walked { IfSome result (IsFullSeal W.word K.spec V.spec this.entry) }
         ensures finds { FoundByHas (index_in W.word K.spec V.spec this.entry)
-            (hash_of H.hasher Q.calls key.now) (hash_at H.hasher K.key_calls)
+            (lookup_hashes H.KeyHasher K.KeyElement Q.KeyHash key.now)
             (F.post cmp key.entry) (IsFullSealAt result) }
     {
         let index = Self::find_in(&this, key, cmp);
@@ -245,7 +245,7 @@ impl<'a, K: KeyElement, V: Element, H: KeyHasher, W: IndexWidth> ArchivedIndexMa
         ensures viewable { IfSome result (λ full. IsValidView K.spec full.1) }
         ensures walked { IfSome result (IsFullSeal W.word K.spec V.spec this.entry) }
         ensures finds { FoundKeyHas (index_in W.word K.spec V.spec this.entry)
-            (query_of H.hasher K.key_calls K.same (Q.calls key.now) (Q.fits key.now))
+            (lookup_of H.KeyHasher K.KeyElement Q.Query key.now)
             (IsFullSealAt result) }
     {
         let index = Self::find_key_in(&this, key);
@@ -280,7 +280,7 @@ impl<'a, K: KeyElement, V: Element, H: KeyHasher, W: IndexWidth> ArchivedIndexMa
         ensures viewable { IfSome result (λ pair. IsValidView K.spec pair.0) }
         ensures walked { IfSome result (IsPairSeal W.word K.spec V.spec this.entry) }
         ensures finds { FoundByHas (index_in W.word K.spec V.spec this.entry)
-            (hash_of H.hasher Q.calls key.now) (hash_at H.hasher K.key_calls)
+            (lookup_hashes H.KeyHasher K.KeyElement Q.KeyHash key.now)
             (F.post cmp key.entry) (SealsPair W.word K.spec V.spec this.entry result) }
     {
         let index = Self::find_in(&this, key, cmp);
@@ -311,7 +311,7 @@ impl<'a, K: KeyElement, V: Element, H: KeyHasher, W: IndexWidth> ArchivedIndexMa
         ensures viewable { IfSome result (λ pair. IsValidView K.spec pair.0) }
         ensures walked { IfSome result (IsPairSeal W.word K.spec V.spec this.entry) }
         ensures finds { FoundKeyHas (index_in W.word K.spec V.spec this.entry)
-            (query_of H.hasher K.key_calls K.same (Q.calls key.now) (Q.fits key.now))
+            (lookup_of H.KeyHasher K.KeyElement Q.Query key.now)
             (SealsPair W.word K.spec V.spec this.entry result) }
     {
         let index = Self::find_key_in(&this, key);
@@ -344,7 +344,7 @@ impl<'a, K: KeyElement, V: Element, H: KeyHasher, W: IndexWidth> ArchivedIndexMa
             (seal_pos value)) }
         ensures walked { IfSome result (IsValueSeal W.word K.spec V.spec this.entry) }
         ensures finds { FoundByHas (index_in W.word K.spec V.spec this.entry)
-            (hash_of H.hasher Q.calls key.now) (hash_at H.hasher K.key_calls)
+            (lookup_hashes H.KeyHasher K.KeyElement Q.KeyHash key.now)
             (F.post cmp key.entry) (SealsValue W.word K.spec V.spec this.entry result) }
     {
         let index = Self::find_in(&this, key, cmp);
@@ -389,7 +389,7 @@ impl<'a, K: KeyElement, V: Element, H: KeyHasher, W: IndexWidth> ArchivedIndexMa
             (seal_pos value)) }
         ensures walked { IfSome result (IsValueSeal W.word K.spec V.spec this.entry) }
         ensures finds { FoundKeyHas (index_in W.word K.spec V.spec this.entry)
-            (query_of H.hasher K.key_calls K.same (Q.calls key.now) (Q.fits key.now))
+            (lookup_of H.KeyHasher K.KeyElement Q.Query key.now)
             (SealsValue W.word K.spec V.spec this.entry result) }
     {
         let index = Self::find_key_in(&this, key);

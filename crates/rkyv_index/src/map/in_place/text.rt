@@ -3,7 +3,7 @@
 //! `map::in_place` has a table of all calls that write values.
 ghost use Rattle.std.specs.Prelude.{◌<◌};
 ghost use Rattle.rkyv_base.specs.{IsTextOf, Uppercases, Viewable, text_spec, value_pos};
-ghost use Rattle.rkyv_keys.specs.{hash_at, native_pairs, query_of};
+ghost use Rattle.rkyv_keys.specs.{archived_hash, lookup_of, native_pairs};
 ghost use Rattle.rkyv_table.specs.{WritesAmongParts, len_at};
 ghost use Rattle.rkyv_index.specs.{IndexRepresents, KeepsIndexMap, UppercasesFirst};
 ghost use Rattle.rkyv_index.specs.{UppercasesListed, UppercasesText, index_kind};
@@ -46,11 +46,11 @@ pub fn make_ascii_uppercase_at<A, K: KeyElement + Represents<A>, H: KeyHasher, W
     ensures uppercases { Uppercases W.word archive.old (value_pos K.spec (text_spec W.word)
         (pair_at W.word K.spec (text_spec W.word) archive.old root index)) archive.new result }
     ensures kept { KeepsIndexMap
-        (index_kind W.word K.spec (text_spec W.word) (hash_at H.hasher K.key_calls))
+        (index_kind W.word K.spec (text_spec W.word) (archived_hash H.KeyHasher K.KeyElement))
         archive.old archive.new root index }
     ensures listed { UppercasesListed
         (IndexRepresents W.word K.spec (text_spec W.word) K.represents
-        (IsTextOf W.word (λ text. text.now)) (hash_at H.hasher K.key_calls))
+        (IsTextOf W.word (λ text. text.now)) (archived_hash H.KeyHasher K.KeyElement))
         archive.old archive.new root index result }
     ensures parts { WritesAmongParts (index_to_texts_spec W.word K.spec) archive.old archive.new
         root }
@@ -91,7 +91,7 @@ pub fn make_ascii_uppercase_of<
 >(archive: &mut [u8], root: u64, key: &A) -> Option<bool>
     requires map { Viewable (index_to_texts_spec W.word K.spec) archive.old root }
     ensures uppercases { UppercasesText (index_to_texts_over W.Word K.HasSpec archive.old root)
-        (query_of H.hasher K.key_calls K.same (A.calls key.now) (A.fits key.now))
+        (lookup_of H.KeyHasher K.KeyElement A.Query key.now)
         result archive.new }
     ensures listed { UppercasesFirst (index_to_texts_over W.Word K.HasSpec archive.old root)
         (native_pairs K.represents (IsTextOf W.word (λ text. text.now)) H.hasher K.key_calls)

@@ -6,7 +6,8 @@
 //! - `index`: `get_index_of` finds its index in the list.
 //! - `value`: `get` finds its value.
 ghost use Rattle.rkyv_index.specs.{FoundAreListed};
-ghost use Rattle.rkyv_keys.specs.{found_scalars, found_texts, found_views, hash_at, native_keys};
+ghost use Rattle.rkyv_keys.specs.{archived_hash, found_scalars, found_texts, found_views};
+ghost use Rattle.rkyv_keys.specs.{native_keys};
 
 use crate::width::IndexWidth;
 use rkyv_base::{HasSpec, Represents, Scalar, Text};
@@ -26,7 +27,7 @@ pub fn values_found_are_listed<
     W: IndexWidth,
 >()
     ensures { FoundAreListed H W.Word K.HasSpec V.HasSpec
-        (native_keys K.represents (hash_at H.hasher K.key_calls) Q.fits Q.equals)
+        (native_keys K.represents (archived_hash H.KeyHasher K.KeyElement) Q.fits Q.equals)
         (found_views V.represents) }
 {}
 
@@ -42,7 +43,7 @@ pub fn scalars_found_are_listed<
     W: IndexWidth,
 >()
     ensures { FoundAreListed H W.Word K.HasSpec N.HasSpec
-        (native_keys K.represents (hash_at H.hasher K.key_calls) Q.fits Q.equals)
+        (native_keys K.represents (archived_hash H.KeyHasher K.KeyElement) Q.fits Q.equals)
         (found_scalars N.encoding) }
 {}
 
@@ -57,6 +58,6 @@ pub fn texts_found_are_listed<
     W: IndexWidth,
 >()
     ensures { FoundAreListed H W.Word K.HasSpec ⟦<Text<W> as HasSpec>⟧
-        (native_keys K.represents (hash_at H.hasher K.key_calls) Q.fits Q.equals)
+        (native_keys K.represents (archived_hash H.KeyHasher K.KeyElement) Q.fits Q.equals)
         (found_texts W.word) }
 {}

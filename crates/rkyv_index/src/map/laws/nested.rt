@@ -1,6 +1,6 @@
 //! Laws of writes among the parts of a value, as to a map that is the value of an index map.
 ghost use Rattle.rkyv_base.specs.{value_pos};
-ghost use Rattle.rkyv_keys.specs.{hash_at, hash_of, native_pairs};
+ghost use Rattle.rkyv_keys.specs.{archived_hash, native_hash, native_pairs};
 ghost use Rattle.rkyv_table.specs.{WritesAmongParts};
 ghost use Rattle.rkyv_index.specs.{NestedWritesKeepIndexMaps, ValueWritesAreNested};
 ghost use Rattle.rkyv_index.specs.{WritesKeepLookups, WritesRepresent};
@@ -24,7 +24,8 @@ pub fn value_writes_are_nested<K: KeyElement, V: Element, W: IndexWidth>()
 /// - A written index map is still one.
 /// - The write is one among the parts of the index map.
 pub fn nested_writes_keep_index_maps<K: KeyElement, V: Element, H: KeyHasher, W: IndexWidth>()
-    ensures { NestedWritesKeepIndexMaps W.word K.spec V.spec (hash_at H.hasher K.key_calls) }
+    ensures { NestedWritesKeepIndexMaps W.word K.spec V.spec
+        (archived_hash H.KeyHasher K.KeyElement) }
 {}
 
 /// States that each query finds the same index after a write among the parts of a value.
@@ -37,7 +38,7 @@ pub fn nested_writes_keep_lookups<
 >()
     ensures { (q : _) → WritesKeepLookups W.word K.spec V.spec
         (λ b c at. WritesAmongParts V.spec b c (value_pos K.spec V.spec at))
-        (hash_of H.hasher Q.calls q) (Q.fits q) }
+        (native_hash H.KeyHasher Q.KeyHash q) (Q.fits q) }
 {}
 
 /// States that a write among the parts of the value at an index replaces it in the list.

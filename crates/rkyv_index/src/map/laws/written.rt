@@ -1,9 +1,9 @@
 //! Laws of written index maps, in any archive that contains their bytes, and of lists of pairs.
 
 ghost use Rattle.rkyv_base.specs.{SameFormat};
-ghost use Rattle.rkyv_keys.specs.{fx_format, hash_at, hash_of, native_format};
+ghost use Rattle.rkyv_keys.specs.{fx_format, native_format};
 ghost use Rattle.rkyv_index.specs.{SameFormats, WrittenIndexMaps, element, index_map_format};
-ghost use Rattle.rkyv_index.specs.{indices, ordered_pairs_format};
+ghost use Rattle.rkyv_index.specs.{indices, key_hashes, ordered_pairs_format};
 
 use crate::lists::OrderedPairs;
 use crate::map::IndexMapOf;
@@ -28,7 +28,7 @@ pub fn written_index_maps_represent<
 >()
     ensures { WrittenIndexMaps W.word (indices W.Index.spec W.Index.encoding)
         (element K.spec K.represents A.format) (element V.spec V.represents B.format)
-        (hash_at H.hasher K.key_calls) (hash_of H.hasher A.calls) }
+        (key_hashes H.KeyHasher K.KeyElement A.KeyHash) }
 {}
 
 /// States that `serialize_from_iter` writes a list of pairs as the index map of these pairs.

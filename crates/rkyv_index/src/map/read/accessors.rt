@@ -5,8 +5,8 @@ ghost use Rattle.std.specs.Prelude.{IsTrue, MatchOption, pos as int, unsigned_ab
 ghost use Rattle.std.specs.Prelude.{◌-◌, ◌↔◌, ◌≡◌, ◌≤◌};
 ghost use Rattle.rkyv_base.specs.{IsValidView, bytes_of, entry_spec, pos_of};
 ghost use Rattle.rkyv_table.specs.{IsDecoded};
-ghost use Rattle.rkyv_index.specs.{IsPairOf, entries_pos, index_bytes, index_cap, index_len};
-ghost use Rattle.rkyv_index.specs.{index_pos, index_spec};
+ghost use Rattle.rkyv_index.specs.{IsPairOf, entries_pos, index_bytes, index_cap, index_header};
+ghost use Rattle.rkyv_index.specs.{index_len, index_pos, index_spec, index_view};
 
 use crate::map::check::decode_entries;
 use crate::map::{ArchivedIndexMap, IndexMapOf};
@@ -75,7 +75,7 @@ impl<'a, K: Element, V: Element, H, W: IndexWidth> ArchivedIndexMap<'a, K, V, H,
     #[inline]
     pub fn of(view: View<'a, IndexMapOf<K, V, H, W>>) -> ArchivedIndexMap<'a, K, V, H, W>
         requires { IsValidView (index_spec W.word (entry_spec K.spec V.spec)) view }
-        ensures view { result.view ≡ view.entry }
+        ensures view { index_view result ≡ view.entry }
     {
         ArchivedIndexMap::with_header(view, decode(view))
     }
@@ -93,8 +93,8 @@ impl<'a, K: Element, V: Element, H, W: IndexWidth> ArchivedIndexMap<'a, K, V, H,
     ) -> ArchivedIndexMap<'a, K, V, H, W>
         requires view { IsValidView (index_spec W.word (entry_spec K.spec V.spec)) view }
         requires header { IsDecoded W.word (bytes_of view) (pos_of view) header }
-        ensures view { result.view ≡ view.entry }
-        ensures header { result.header ≡ header }
+        ensures view { index_view result ≡ view.entry }
+        ensures header { index_header result ≡ header }
     {
         ArchivedIndexMap {
             view,

@@ -2,7 +2,7 @@
 ghost use Rattle.std.specs.Prelude.{length, ◌*◌, ◌+◌, ◌<◌, ◌^◌, ◌≡◌, ◌≤◌};
 ghost use Rattle.std.specs.Int.{byte_len};
 ghost use Rattle.rkyv_base.specs.{IsAt, IsValidView, archive_of, bytes_of, entry_spec, pos_of};
-ghost use Rattle.rkyv_table.specs.{CountsStrides, len_at};
+ghost use Rattle.rkyv_table.specs.{CountsStrides, len_at, table_view};
 ghost use Rattle.rkyv_scan.specs.{generic_kind};
 ghost use Rattle.rkyv_index.specs.{CanCompareIndex, CanCompareIndices, ComparesIndexBy};
 ghost use Rattle.rkyv_index.specs.{FindsIndexIn, IsEntryOf, IsKeyIn, IsPairOf, entries_pos};
@@ -46,7 +46,7 @@ impl<'a, K: Element, V: Element, H, W: IndexWidth> ArchivedIndexMap<'a, K, V, H,
     /// Returns the table of the indices.
     #[inline]
     pub(crate) fn table(self) -> ArchivedHashTable<'a, W::Index, W>
-        ensures at { IsAt result.view (index_archive self.entry) (index_pos self.entry) }
+        ensures at { IsAt (table_view result) (index_archive self.entry) (index_pos self.entry) }
     {
         let view = self.view.at::<TableOf<W::Index, W>>(self.view.pos());
         ArchivedHashTable::with_header(view, self.header)
@@ -106,7 +106,6 @@ pub(crate) fn find_index<W: IndexWidth, F: Fn(usize) -> bool>(
     accepts: F,
     strides: &mut Strides,
 ) -> Option<usize>
-    requires room { strides.old ≤ 2 ^ 63 }
     requires callable { CanCompareIndices (F.pre accepts) table }
     ensures found { FindsIndexIn (F.post accepts) table.entry hash result }
     ensures counts { CountsStrides (ComparesIndexBy W.word (F.post accepts)) generic_kind

@@ -10,12 +10,12 @@
 //!
 //! A lookup in an untrusted map may read all of its control bytes.
 //! `FxHasher64` takes no secret key, so it doesn't protect from chosen input.
-ghost use Rattle.std.specs.Prelude.{IfSome, IsSome, Some, ◌<◌, ◌^◌, ◌≡◌, ◌≤◌};
+ghost use Rattle.std.specs.Prelude.{IfSome, IsSome, Some, ◌<◌, ◌^◌, ◌≡◌};
 ghost use Rattle.rkyv_base.specs.{IsValidView, bytes_of, entry_spec, pos_of};
 ghost use Rattle.rkyv_scan.specs.{hash_of_calls};
 ghost use Rattle.rkyv_base.specs.declared.view.View.{View};
 ghost use Rattle.rkyv_table.specs.{len_at};
-ghost use Rattle.rkyv_keys.specs.{IsFoundAt, hash_at, hash_of, query_of};
+ghost use Rattle.rkyv_keys.specs.{IsFoundAt, lookup_hashes, lookup_of, native_hash};
 ghost use Rattle.rkyv_index.specs.{CanCompareKeys, CanCompareKeysIn, CountsBy, CountsKey};
 ghost use Rattle.rkyv_index.specs.{FindsKey, FoundKeyHas, GetsBy, GetsKey, IsKeyIn, IsPairAt};
 ghost use Rattle.rkyv_index.specs.{IsStoredIndex};
@@ -40,14 +40,14 @@ impl<'a, K: KeyElement, V: Element, H: KeyHasher, W: IndexWidth> ArchivedIndexMa
     pub(crate) fn find<Q: KeyHash, F>(self, key: &Q, cmp: F, strides: &mut Strides) -> Option<usize>
     where
         F: Fn(&Q, View<'a, K>) -> bool,
-        requires room { strides.old ≤ 2 ^ 63 }
         requires callable { CanCompareKeys self (F.pre cmp key) }
-        ensures found { GetsBy index_part self.entry (hash_of H.hasher Q.calls key.now)
-            (hash_at H.hasher K.key_calls) (F.post cmp key.entry) result }
+        ensures found { GetsBy index_part self.entry
+            (lookup_hashes H.KeyHasher K.KeyElement Q.KeyHash key.now) (F.post cmp key.entry)
+            result }
         ensures hash { hash_of_calls H.hasher (Q.calls key.now) < 2 ^ 64 }
         ensures bounded { ReadsWithinBound self.entry strides.old strides.new }
         ensures counted { CountsBy (index_of self.entry) (F.post cmp key.entry)
-            (hash_of H.hasher Q.calls key.now) strides.old strides.new }
+            (native_hash H.KeyHasher Q.KeyHash key.now) strides.old strides.new }
     {
         let hash = hash_value::<Q, H>(key);
         let table = self.table();
@@ -91,8 +91,9 @@ impl<'a, K: KeyElement, V: Element, H: KeyHasher, W: IndexWidth> ArchivedIndexMa
     where
         F: Fn(&Q, View<'a, K>) -> bool,
         requires callable { CanCompareKeys self (F.pre cmp key) }
-        ensures { GetsBy full_part self.entry (hash_of H.hasher Q.calls key.now)
-            (hash_at H.hasher K.key_calls) (F.post cmp key.entry) result }
+        ensures { GetsBy full_part self.entry
+            (lookup_hashes H.KeyHasher K.KeyElement Q.KeyHash key.now) (F.post cmp key.entry)
+            result }
     {
         let index = self.find(key, cmp, &mut Strides::new())?;
         let entry = self.entry(index);
@@ -102,18 +103,18 @@ impl<'a, K: KeyElement, V: Element, H: KeyHasher, W: IndexWidth> ArchivedIndexMa
     /// Returns the index of the key that the query finds, and counts the strides it reads.
     #[inline]
     pub(crate) fn find_counted<Q: Query<K>>(self, key: &Q, strides: &mut Strides) -> Option<usize>
-        requires room { strides.old ≤ 2 ^ 63 }
         ensures found { GetsKey index_part self.entry
-            (query_of H.hasher K.key_calls K.same (Q.calls key.now) (Q.fits key.now)) result }
+            (lookup_of H.KeyHasher K.KeyElement Q.Query key.now) result }
         ensures bounded { ReadsWithinBound self.entry strides.old strides.new }
-        ensures counted { CountsKey (index_of self.entry) (hash_of H.hasher Q.calls key.now)
-            (Q.fits key.now) strides.old strides.new }
+        ensures counted { CountsKey (index_of self.entry)
+            (native_hash H.KeyHasher Q.KeyHash key.now) (Q.fits key.now) strides.old strides.new }
     {
         self.find(
             key,
             |key, stored|
                 requires { IsValidView K.spec stored }
-                ensures { result ≡ Q.fits key.entry.now stored.entry.archive.now stored.entry.pos }
+                ensures { result ≡ Q.fits key.entry.now (bytes_of stored.entry)
+                    (pos_of stored.entry) }
             { key.same(stored) },
             strides,
         )
@@ -123,7 +124,7 @@ impl<'a, K: KeyElement, V: Element, H: KeyHasher, W: IndexWidth> ArchivedIndexMa
     #[inline]
     pub(crate) fn find_key<Q: Query<K>>(self, key: &Q) -> Option<usize>
         ensures { GetsKey index_part self.entry
-            (query_of H.hasher K.key_calls K.same (Q.calls key.now) (Q.fits key.now)) result }
+            (lookup_of H.KeyHasher K.KeyElement Q.Query key.now) result }
     {
         self.find_counted(key, &mut Strides::new())
     }
@@ -154,7 +155,7 @@ impl<'a, K: KeyElement, V: Element, H: KeyHasher, W: IndexWidth> ArchivedIndexMa
     #[inline]
     pub fn get_full<Q: Query<K>>(self, key: &Q) -> Option<(usize, View<'a, K>, View<'a, V>)>
         ensures { GetsKey full_part self.entry
-            (query_of H.hasher K.key_calls K.same (Q.calls key.now) (Q.fits key.now)) result }
+            (lookup_of H.KeyHasher K.KeyElement Q.Query key.now) result }
     {
         let index = self.find_key(key)?;
         let entry = self.entry(index);
@@ -193,8 +194,9 @@ impl<'a, K: KeyElement, V: Element, H: KeyHasher, W: IndexWidth> ArchivedIndexMa
     where
         F: Fn(&Q, View<'a, K>) -> bool,
         requires callable { CanCompareKeys self (F.pre cmp key) }
-        ensures { GetsBy pair_part self.entry (hash_of H.hasher Q.calls key.now)
-            (hash_at H.hasher K.key_calls) (F.post cmp key.entry) result }
+        ensures { GetsBy pair_part self.entry
+            (lookup_hashes H.KeyHasher K.KeyElement Q.KeyHash key.now) (F.post cmp key.entry)
+            result }
     {
         self.pair_of(self.find(key, cmp, &mut Strides::new()))
     }
@@ -207,7 +209,7 @@ impl<'a, K: KeyElement, V: Element, H: KeyHasher, W: IndexWidth> ArchivedIndexMa
     #[inline]
     pub fn get_key_value<Q: Query<K>>(self, key: &Q) -> Option<PairView<'a, K, V>>
         ensures { GetsKey pair_part self.entry
-            (query_of H.hasher K.key_calls K.same (Q.calls key.now) (Q.fits key.now)) result }
+            (lookup_of H.KeyHasher K.KeyElement Q.Query key.now) result }
     {
         self.pair_of(self.find_key(key))
     }
@@ -226,8 +228,9 @@ impl<'a, K: KeyElement, V: Element, H: KeyHasher, W: IndexWidth> ArchivedIndexMa
     where
         F: Fn(&Q, View<'a, K>) -> bool,
         requires callable { CanCompareKeys self (F.pre cmp key) }
-        ensures { GetsBy value_part self.entry (hash_of H.hasher Q.calls key.now)
-            (hash_at H.hasher K.key_calls) (F.post cmp key.entry) result }
+        ensures { GetsBy value_part self.entry
+            (lookup_hashes H.KeyHasher K.KeyElement Q.KeyHash key.now) (F.post cmp key.entry)
+            result }
     {
         self.value_of(self.find(key, cmp, &mut Strides::new()))
     }
@@ -252,7 +255,7 @@ impl<'a, K: KeyElement, V: Element, H: KeyHasher, W: IndexWidth> ArchivedIndexMa
     #[inline]
     pub fn get<Q: Query<K>>(self, key: &Q) -> Option<View<'a, V>>
         ensures { GetsKey value_part self.entry
-            (query_of H.hasher K.key_calls K.same (Q.calls key.now) (Q.fits key.now)) result }
+            (lookup_of H.KeyHasher K.KeyElement Q.Query key.now) result }
     {
         self.value_of(self.find_key(key))
     }
@@ -271,8 +274,9 @@ impl<'a, K: KeyElement, V: Element, H: KeyHasher, W: IndexWidth> ArchivedIndexMa
     where
         F: Fn(&Q, View<'a, K>) -> bool,
         requires callable { CanCompareKeys self (F.pre cmp key) }
-        ensures { GetsBy index_part self.entry (hash_of H.hasher Q.calls key.now)
-            (hash_at H.hasher K.key_calls) (F.post cmp key.entry) result }
+        ensures { GetsBy index_part self.entry
+            (lookup_hashes H.KeyHasher K.KeyElement Q.KeyHash key.now) (F.post cmp key.entry)
+            result }
     {
         self.find(key, cmp, &mut Strides::new())
     }
@@ -283,11 +287,10 @@ impl<'a, K: KeyElement, V: Element, H: KeyHasher, W: IndexWidth> ArchivedIndexMa
     ///
     /// It reads no stride in an empty map, else at least one and at most ceil(n / 16),
     /// where n is the number of buckets. The number is exact if the comparison depends only
-    /// on the index of a key.
+    /// on the index of a key. The count ends at 2^64 - 1.
     ///
     /// # Requires
     ///
-    /// - `strides` has at most 2^63 strides.
     /// - The comparison can be called with `key` and each key of the map.
     ///
     /// # Examples
@@ -306,13 +309,13 @@ impl<'a, K: KeyElement, V: Element, H: KeyHasher, W: IndexWidth> ArchivedIndexMa
     ) -> Option<usize>
     where
         F: Fn(&Q, View<'a, K>) -> bool,
-        requires room { strides.old ≤ 2 ^ 63 }
         requires callable { CanCompareKeys self (F.pre cmp key) }
-        ensures found { GetsBy index_part self.entry (hash_of H.hasher Q.calls key.now)
-            (hash_at H.hasher K.key_calls) (F.post cmp key.entry) result }
+        ensures found { GetsBy index_part self.entry
+            (lookup_hashes H.KeyHasher K.KeyElement Q.KeyHash key.now) (F.post cmp key.entry)
+            result }
         ensures bounded { ReadsWithinBound self.entry strides.old strides.new }
         ensures counted { CountsBy (index_of self.entry) (F.post cmp key.entry)
-            (hash_of H.hasher Q.calls key.now) strides.old strides.new }
+            (native_hash H.KeyHasher Q.KeyHash key.now) strides.old strides.new }
     {
         self.find(key, cmp, strides)
     }
@@ -325,7 +328,7 @@ impl<'a, K: KeyElement, V: Element, H: KeyHasher, W: IndexWidth> ArchivedIndexMa
     #[inline]
     pub fn get_index_of<Q: Query<K>>(self, key: &Q) -> Option<usize>
         ensures { GetsKey index_part self.entry
-            (query_of H.hasher K.key_calls K.same (Q.calls key.now) (Q.fits key.now)) result }
+            (lookup_of H.KeyHasher K.KeyElement Q.Query key.now) result }
     {
         self.find_key(key)
     }
@@ -336,7 +339,7 @@ impl<'a, K: KeyElement, V: Element, H: KeyHasher, W: IndexWidth> ArchivedIndexMa
     #[inline]
     pub fn contains_key<Q: Query<K>>(self, key: &Q) -> bool
         ensures { FoundKeyHas (index_of self.entry)
-            (query_of H.hasher K.key_calls K.same (Q.calls key.now) (Q.fits key.now))
+            (lookup_of H.KeyHasher K.KeyElement Q.Query key.now)
             (IsFoundAt result) }
     {
         self.find_key(key).is_some()
@@ -365,10 +368,10 @@ impl<'a, K: KeyElement, V: Element, H: KeyHasher, W: IndexWidth> ArchivedIndexMa
     /// ```
     #[inline]
     pub fn index<Q: Query<K>>(self, key: &Q) -> View<'a, V>
-        requires found { FindsKey (index_of self) (hash_of H.hasher Q.calls key.now)
+        requires found { FindsKey (index_of self) (native_hash H.KeyHasher Q.KeyHash key.now)
             (Q.fits key.now) IsSome }
         ensures { GetsKey value_part self.entry
-            (query_of H.hasher K.key_calls K.same (Q.calls key.now) (Q.fits key.now))
+            (lookup_of H.KeyHasher K.KeyElement Q.Query key.now)
             (Some result) }
     {
         self.entry(self.find_key(key).unwrap()).value()

@@ -2,8 +2,9 @@
 //!
 //! - `misplaced` looks up each key. Its cost on an untrusted map may be quadratic.
 //! - `misplaced_up_to` ends at a limit on the strides that are read.
-ghost use Rattle.std.specs.Prelude.{◌+◌, ◌<◌, ◌^◌, ◌≡◌, ◌≤◌};
-ghost use Rattle.rkyv_keys.specs.{hash_at};
+ghost use Rattle.std.specs.Prelude.{◌<◌, ◌≡◌};
+ghost use Rattle.rkyv_keys.specs.{archived_keys};
+ghost use Rattle.rkyv_table.specs.{count_after};
 ghost use Rattle.rkyv_index.specs.{CountsAllStrides, CountsRepeated, CountsUpTo, ReadsUpTo};
 ghost use Rattle.rkyv_index.specs.{ReadsWithinBound, ReturnsRepeated, index_len, index_misplaced};
 ghost use Rattle.rkyv_index.specs.{index_of, is_misplaced, own_strides};
@@ -14,7 +15,7 @@ use rkyv_base::Element;
 use rkyv_keys::{KeyElement, KeyView};
 use rkyv_scan::KeyHasher;
 use rkyv_table::Strides;
-use rkyv_table::table::misplaced::{finds_another_or_none, is_past};
+use rkyv_table::table::misplaced::finds_another_or_none;
 
 impl<'a, K: KeyElement, V: Element, H: KeyHasher, W: IndexWidth> ArchivedIndexMap<'a, K, V, H, W> {
     // Returns `true` if and only if a lookup of the key at `index` doesn't find `index`.
@@ -22,14 +23,13 @@ impl<'a, K: KeyElement, V: Element, H: KeyHasher, W: IndexWidth> ArchivedIndexMa
     #[inline]
     fn is_misplaced(self, index: usize, strides: &mut Strides) -> bool
         requires below { index < index_len self }
-        requires room { strides.old ≤ 2 ^ 63 }
         ensures exact { result ≡ is_misplaced (index_of self.entry)
-            (hash_at H.hasher K.key_calls) K.same index }
+            (archived_keys H.KeyHasher K.KeyElement) index }
         ensures repeated { ReturnsRepeated (index_of self.entry)
-            (hash_at H.hasher K.key_calls) K.same index result }
+            (archived_keys H.KeyHasher K.KeyElement) index result }
         ensures bounded { ReadsWithinBound self.entry strides.old strides.new }
-        ensures counted { strides.new ≡ strides.old + own_strides (index_of self.entry)
-            (hash_at H.hasher K.key_calls) K.same index }
+        ensures counted { strides.new ≡ count_after strides.old (own_strides
+            (index_of self.entry) (archived_keys H.KeyHasher K.KeyElement) index) }
     {
         let key = KeyView::of(self.entry(index).key());
         finds_another_or_none(index, self.find_counted(&key, strides))
@@ -59,9 +59,9 @@ impl<'a, K: KeyElement, V: Element, H: KeyHasher, W: IndexWidth> ArchivedIndexMa
     /// ```
     pub fn misplaced(self) -> usize
         ensures exact { result ≡ index_misplaced (index_of self.entry)
-            (hash_at H.hasher K.key_calls) K.same }
+            (archived_keys H.KeyHasher K.KeyElement) }
         ensures repeated { CountsRepeated (index_of self.entry)
-            (hash_at H.hasher K.key_calls) K.same result }
+            (archived_keys H.KeyHasher K.KeyElement) result }
     {
         let mut count = 0;
         for index in 0..self.len() {
@@ -77,7 +77,7 @@ impl<'a, K: KeyElement, V: Element, H: KeyHasher, W: IndexWidth> ArchivedIndexMa
     /// The number is the result of `misplaced`.
     ///
     /// The result is `None` if and only if the lookups of all keys read more than `limit` strides
-    /// of sixteen control bytes, or more than 2^63.
+    /// of sixteen control bytes.
     ///
     /// By its code alone, it reads at most `limit` strides and those of one more lookup, so its
     /// cost on an untrusted map is bounded. The contract of `misplaced_up_to_counted` also says so.
@@ -92,7 +92,7 @@ impl<'a, K: KeyElement, V: Element, H: KeyHasher, W: IndexWidth> ArchivedIndexMa
     /// }
     /// ```
     pub fn misplaced_up_to(self, limit: u64) -> Option<usize>
-        ensures { CountsUpTo (index_of self.entry) (hash_at H.hasher K.key_calls) K.same limit 0
+        ensures { CountsUpTo (index_of self.entry) (archived_keys H.KeyHasher K.KeyElement) limit
             result }
     {
         self.misplaced_up_to_counted(limit, &mut Strides::new())
@@ -100,15 +100,11 @@ impl<'a, K: KeyElement, V: Element, H: KeyHasher, W: IndexWidth> ArchivedIndexMa
 
     /// Returns the number of misplaced keys, or `None` at a limit, and counts the strides it reads.
     ///
-    /// It counts as `misplaced_up_to` does. The result is also `None` if `strides` would count more
-    /// than 2^63.
+    /// It counts as `misplaced_up_to` does. The strides are added to `strides`, whose count ends at
+    /// 2^64 - 1.
     ///
     /// It counts at most `limit` strides and those of one more lookup, which are at most
     /// ceil(n / 16), where n is the number of buckets.
-    ///
-    /// # Requires
-    ///
-    /// - `strides` has at most 2^63 strides.
     ///
     /// # Examples
     ///
@@ -118,20 +114,23 @@ impl<'a, K: KeyElement, V: Element, H: KeyHasher, W: IndexWidth> ArchivedIndexMa
     /// let misplaced = map.misplaced_up_to_counted(limit, &mut strides);
     /// ```
     pub fn misplaced_up_to_counted(self, limit: u64, strides: &mut Strides) -> Option<usize>
-        requires room { strides.old ≤ 2 ^ 63 }
-        ensures counts { CountsUpTo (index_of self.entry) (hash_at H.hasher K.key_calls) K.same
-            limit strides.old result }
-        ensures counted { CountsAllStrides (index_of self.entry) (hash_at H.hasher K.key_calls)
-            K.same strides.old strides.new result }
+        ensures counts { CountsUpTo (index_of self.entry) (archived_keys H.KeyHasher K.KeyElement)
+            limit result }
+        ensures counted { CountsAllStrides (index_of self.entry)
+            (archived_keys H.KeyHasher K.KeyElement) strides.old strides.new result }
         ensures bounded { ReadsUpTo self.entry limit strides.old strides.new result }
     {
-        let before = strides.count();
+        let mut left = limit;
         let mut count = 0;
         for index in 0..self.len() {
-            let is_misplaced = self.is_misplaced(index, strides);
-            if is_past(before, strides.count(), limit) {
+            let mut own = Strides::new();
+            let is_misplaced = self.is_misplaced(index, &mut own);
+            let read = own.count();
+            strides.add(read);
+            if read > left {
                 return None;
             }
+            left -= read;
             if is_misplaced {
                 count += 1;
             }

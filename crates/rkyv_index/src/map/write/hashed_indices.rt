@@ -3,7 +3,7 @@
 ghost use Rattle.std.specs.Prelude.{ℕ, ◌≡◌, ◌+◌, ◌≤◌, length};
 ghost use Rattle.std.specs.Iterator.{YieldsFirst, at_most};
 ghost use Rattle.std.specs.Slice.Iter.{iter_rest};
-ghost use Rattle.rkyv_keys.specs.{hash_of};
+ghost use Rattle.rkyv_keys.specs.{native_hash};
 ghost use Rattle.rkyv_index.specs.{indices_from};
 
 use crate::width::IndexWidth;
@@ -24,7 +24,7 @@ pub(crate) trait HashedEntry<H> {
 
 // The hash of an entry is that of its key.
 impl<BK: Lend<A>, BV, A: KeyHash, B, H: KeyHasher> HashedEntry<H> for EntryAdapter<BK, BV, A, B> {
-    ghost hash = { λ entry. hash_of H.hasher A.calls (BK.lent entry.key) };
+    ghost hash = { λ entry. native_hash H.KeyHasher A.KeyHash (BK.lent entry.key) };
 
     #[inline]
     fn hash(&self) -> u64 {

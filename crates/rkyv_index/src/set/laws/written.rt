@@ -1,6 +1,6 @@
 //! The law of written index sets, in any archive that contains their bytes.
 
-ghost use Rattle.rkyv_keys.specs.{hash_at, hash_of};
+ghost use Rattle.rkyv_keys.specs.{archived_hash, native_hash};
 ghost use Rattle.rkyv_index.specs.{WrittenIndexSets, element, indices};
 
 use crate::width::IndexWidth;
@@ -21,5 +21,5 @@ pub fn written_index_sets_represent<
 >()
     ensures { WrittenIndexSets W.word (indices W.Index.spec W.Index.encoding)
         (element K.spec K.represents A.format)
-        (hash_at H.hasher K.key_calls) (hash_of H.hasher A.calls) }
+        (archived_hash H.KeyHasher K.KeyElement) (native_hash H.KeyHasher A.KeyHash) }
 {}

@@ -9,7 +9,6 @@ pub find_index-requires : goal.find_index-requires
 find_index-requires g c κs =
     let m = c.args.self in
     record {
-      room = c.requires.room;
       callable = λ item is_item.
           let there = item_index m g.W.Index.Scalar.encoding g.met.W.Index.Scalar.laws g.met.W.IndexWidth.index c.table-table.result c.table-table.ensures.at item is_item in (
             there.0,

@@ -1,6 +1,6 @@
 use Rattle.std.proofs.Common.{◌≡◌, ◌<◌, ◌∙◌, arith, sym, Bool, ℕ}
 use Rattle.std.proofs.lemmas.Grind.{common_steps}
-use Rattle.rkyv_keys.specs.{hash_at}
+use Rattle.rkyv_keys.specs.{ArchivedKeys, hash_at}
 use Rattle.rkyv_index.specs.{index_len, index_of, is_misplaced, is_repeated}
 use Rattle.rkyv_index.proofs.Counted.{count_is_all, left_first, none_more, one_more}
 use Rattle.rkyv_index.proofs.map.ArchivedIndexMap.misplaced.Goals.{else-is_misplaced, then-is_misplaced}
@@ -13,10 +13,9 @@ pub loop-index-preserved : goal.loop-index-preserved
 loop-index-preserved g c =
     let m = index_of c.args.self in
     let n : ℕ = index_len c.args.self in
-    let key_hash = hash_at g.H.KeyHasher.hasher g.K.KeyElement.key_calls in
-    let same = g.K.ElementEq.same in
-    let P : ℕ → Bool = is_misplaced m key_hash same in
-    let R : ℕ → Bool = is_repeated m key_hash same in
+    let keys : ArchivedKeys = record { hash = hash_at g.H.KeyHasher.hasher g.K.KeyElement.key_calls; same = g.K.ElementEq.same } in
+    let P : ℕ → Bool = is_misplaced m keys in
+    let R : ℕ → Bool = is_repeated m keys in
     let i : ℕ = c.loop-index.index in
     let end : c.len-index-end.result ≡ n = c.len-index-end.ensures in
     let test = c.loop-index-test.true in

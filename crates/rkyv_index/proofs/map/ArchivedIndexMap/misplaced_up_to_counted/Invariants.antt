@@ -1,6 +1,7 @@
-use Rattle.std.proofs.Common.{ℕ, ◌≡◌, ◌≤◌, ◌+◌, ◌-◌, ◌^◌, filter, length}
+use Rattle.std.proofs.Common.{ℕ, ◌≡◌, ◌≤◌, ◌+◌, ◌-◌, filter, length}
 use Rattle.std.specs.List.{range_with_len, sum_by}
-use Rattle.rkyv_keys.specs.{hash_at}
+use Rattle.rkyv_keys.specs.{ArchivedKeys, hash_at}
+use Rattle.rkyv_table.specs.{count_after}
 use Rattle.rkyv_index.specs.{index_len, index_misplaced, index_of, is_misplaced, keys_strides, own_strides}
 use Rattle.rkyv_index.proofs.map.ArchivedIndexMap.misplaced_up_to_counted.Given as goal
 
@@ -10,11 +11,11 @@ abbrev pub invariant-loop-index : goal.invariant-loop-index
 invariant-loop-index g l =
     let m = index_of l.fn.self in
     let n : ℕ = index_len l.fn.self in
-    let key_hash = hash_at g.H.KeyHasher.hasher g.K.KeyElement.key_calls in
-    let same = g.K.ElementEq.same in
+    let keys : ArchivedKeys = record { hash = hash_at g.H.KeyHasher.hasher g.K.KeyElement.key_calls; same = g.K.ElementEq.same } in
     record {
       few : l.count ≤ l.index;
-      exact : l.count + length (filter (is_misplaced m key_hash same) (range_with_len l.index (n - l.index))) ≡ index_misplaced m key_hash same;
-      spent : l.before + keys_strides m key_hash same ≡ l.strides + sum_by (own_strides m key_hash same) (range_with_len l.index (n - l.index));
-      within : (l.before ≤ l.strides) × (l.strides ≤ l.before + l.limit) × (l.strides ≤ 2 ^ 63);
+      exact : l.count + length (filter (is_misplaced m keys) (range_with_len l.index (n - l.index))) ≡ index_misplaced m keys;
+      spent : keys_strides m keys ≡ l.limit - l.left + sum_by (own_strides m keys) (range_with_len l.index (n - l.index));
+      within : l.left ≤ l.limit;
+      read : l.strides ≡ count_after l.initial.strides (l.limit - l.left);
     }
