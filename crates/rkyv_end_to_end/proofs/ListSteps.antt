@@ -5,7 +5,7 @@ use Rattle.std.proofs.lemmas.List.{length-replicate}
 use Rattle.rkyv_base.specs.{Appends, Format, Only, Output, Step, Within, WriteFails, end_of, padding, piece, round_up, zeros}
 use Rattle.rkyv_base.specs.declared.errors.WriteError.{WriteError}
 use Rattle.rkyv_base.specs.declared.errors.WriteError.TheVariants.{DistanceTooLarge}
-use Rattle.rkyv_base.proofs.WritingSteps.{appends_after, end-appends, fails_after, fails_under, grows}
+use Rattle.rkyv_base.specs.Lemmas.Writing.{appends_after, end-appends, fails_after, fails_under, grows}
 use Rattle.rkyv_table.specs.{TableResolver, WriteItemsFails}
 use Rattle.rkyv_end_to_end.specs.{ListInput, ListNext, WriteListFails, list_format}
 
@@ -62,5 +62,5 @@ module _ (F : Type 0) {X : Type 0} (limit align : ℕ) (f : Format (List (ℕ ×
       record {
         front = part ++ z;
         kept = grows o o2 (part ++ z) all;
-        cause = (inr fits, all.failures, inr (inr (part, r, made, ap (λ (x : List ℕ). part ++ x) same_zeros, inr (subst (λ n. f.overflow pairs r n) (header_at b) overflow, refl))));
+        cause = ((inr fits, all.failures, inr (inr (part, r, made, ap (λ (x : List ℕ). part ++ x) same_zeros, inr (subst (λ n. f.overflow pairs r n) (header_at b) overflow, refl)))), fits);
       }

@@ -1,8 +1,9 @@
 -- Writing a list with its header, step by step, and the written list.
-use Rattle.std.proofs.Common.{◌≡◌, ℕ, ◌+◌, ◌-◌, ◌*◌, ◌%◌, ◌≤◌, ◌∙◌, inl, inr, refl, sym, ap, subst, arith, append_assoc, length-append, length-take, Bool, List, [], ◌++◌, ◌^◌, ◌<◌, length, take}
+use Rattle.std.proofs.Common.{◌≡◌, ℕ, ◌+◌, ◌-◌, ◌*◌, ◌%◌, ◌≤◌, ◌∙◌, inl, inr, refl, sym, ap, subst, arith, append_assoc, length-append, length-take, Bool, List, [], ◌++◌, ◌^◌, ◌<◌, length, take, Err, Ok, Result}
 use Rattle.std.specs.Int.{Width, byte_len}
-use Rattle.std.proofs.lemmas.List.{length-map, length-replicate, take_all}
-use Rattle.rkyv_base.specs.{Appends, ElementMembers, ElementSpec, Fails, Format, IsArchiveWord, IsElement, IsFormat, ModifiesOnly, OccursAt, Output, RepresentsLocally, StaysValid, Viewable, WidthMembers, end_of, padding, round_up, zeros}
+use Rattle.std.proofs.lemmas.List.{length-map, length-replicate, length-set, take_all}
+use Rattle.std.proofs.lemmas.List.Elements.{Contains-get_or}
+use Rattle.rkyv_base.specs.{Appends, ElementMembers, ElementSpec, Fails, Format, IsArchiveWord, IsElement, IsFormat, ModifiesOnly, OccursAt, Output, StaysValid, Viewable, WidthMembers, end_of, padding, round_up, zeros}
 use Rattle.rkyv_base.specs.Lemmas.Bytes.{occurs_back, occurs_front}
 use Rattle.rkyv_base.specs.Lemmas.Entry.{round_up-multiple}
 use Rattle.rkyv_base.specs.Lemmas.Text.{by_archive_word}
@@ -13,17 +14,15 @@ use Rattle.rkyv_base.specs.declared.element.Represents.{Ghosts as Related}
 use Rattle.rkyv_base.specs.declared.view.View.{View}
 use Rattle.rkyv_base.specs.declared.width.Width.{Ghosts as Widths}
 use Rattle.rkyv_base.specs.declared.width.Word.{Ghosts as Words}
-use Rattle.rkyv_base.proofs.WritingSteps.{appends_after, end-appends}
+use Rattle.rkyv_base.specs.Lemmas.Writing.{appends_after, end-appends}
 use Rattle.rkyv_scan.specs.{generic_kind}
 use Rattle.rkyv_scan.specs.Lemmas.KindLaws.{word_lawful}
 use Rattle.std.specs.Prelude.{slice_set, slice_index}
 use Rattle.std.proofs.lemmas.Option.{slice_get_within}
-use Rattle.rkyv_table.proofs.NewItems.{items_written, same_hashes}
-use Rattle.rkyv_table.proofs.SealedTable.{table_kept}
-use Rattle.rkyv_table.proofs.WrittenTables.{home_count, home_pos, home_walked}
+use Rattle.rkyv_table.specs.Lemmas.Homes.{home_count, home_pos}
 use Rattle.rkyv_table.specs.Lemmas.TableLaws.{table_element}
-use Rattle.rkyv_table.specs.{IsFirstOf, IsHeader, IsValidAround, IsWrittenOf, LookupFindsFirst, RepresentedWereWritten, TableIn, TableRepresents, TableResolver, VisitsHomes, WalkVisitsHomes, WrittenTablesPass, cap_at, capacity, hashes_of, item_at, items_of, len_at, resolved_capacity, table_controls, table_format, table_spec}
-use Rattle.rkyv_end_to_end.specs.{Encoding, IsWrittenList, ItemsAreReplaced, ListBytes, ListInput, ListsAreValid, LookOverFails, LookupsFindListed, ReportsList, ReportsTable, VisitsItems, WriteAndFindFails, WroteList, table_of}
+use Rattle.rkyv_table.specs.{IsFirstOf, IsHeader, IsValidAround, IsWalked, IsWrittenOf, ItemsWrittenRepresent, KeptByWrites, LookupFindsFirst, RepresentedWereWritten, TableIn, TableRepresents, TableResolver, VisitsHomes, WalkVisitsHomes, WalkedAreFull, WrittenTablesPass, cap_at, capacity, hashes_of, item_at, items_of, len_at, resolved_capacity, table_controls, table_format, table_spec}
+use Rattle.rkyv_end_to_end.specs.{Encoding, HasListBytes, IsWrittenList, ItemsAreReplaced, ListBytes, ListInput, ListsAreFound, ListsAreValid, LookOverFails, LooksOver, LooksOverList, LookupsFindListed, ReportsList, ReportsTable, VisitsItems, WriteAndFindFails, WroteList, table_of, table_with}
 use Rattle.rkyv_end_to_end.specs.declared.looking.LookError.{LookError}
 use Rattle.rkyv_end_to_end.specs.declared.looking.LookError.TheVariants.{Memory, Verify}
 use Rattle.rkyv_end_to_end.specs.declared.looking.TableReport.{TableReport}
@@ -114,10 +113,33 @@ module _ {X R : Type 0} (w : Width) (items : Encoding X R) (load_factor : ℕ ×
     (none_visits : (controls : List ℕ) → VisitsHomes 0 [] controls) (kind : IsArchiveWord w) (law : IsElement items.spec)
     (format : IsFormat (table_spec w items.spec) (TableRepresents w items.spec items.represents load_factor) (table_format w items.spec items.format load_factor))
     (passing : WrittenTablesPass w items.spec items.format load_factor) where
+  -- a list that was written as a table, with its header behind it, is valid in each archive that has their bytes
+  pub tables_valid : (pairs : List (ℕ × X)) (begin end p : ℕ) (c : List ℕ) → HasListBytes (byte_len w) (table_format w items.spec items.format load_factor) pairs begin end p c
+      → IsWrittenList (table_with w items c p) items.represents load_factor begin end pairs
+  tables_valid pairs begin end p c l =
+      let s : ElementSpec = items.spec in
+      let whole : length l.header ≡ 3 * byte_len w = format.size_exact pairs l.resolver p l.header l.image in
+      let up : begin + length l.part ≤ p = omega (arith, l.ends, l.behind) in
+      let sound = format.sound pairs l.resolver c begin p l.part l.header l.parts l.image l.has_table l.has_header up l.aligned in
+      let table_represents : TableRepresents w s items.represents load_factor c p pairs = sound.2 in
+      let around = passing pairs l.resolver c begin p l.part l.header l.parts l.image l.has_table l.has_header up l.aligned in
+      record {
+        holds = record {
+          behind = (omega (arith, l.ends), l.behind);
+          inside = omega (arith, whole, l.has_header.inside);
+          aligned = l.aligned;
+          passes = subst (IsValidAround (table_spec w s) c p begin) (sym l.ends) around;
+          items = items_visited w s items.represents visits c p pairs (were c p pairs table_represents) (λ none.
+              let count = length-map pairs (λ (x : ℕ × X). x.0) in
+              let n : length pairs ≡ 0 = omega (arith, ap length none, count) in
+              subst (λ m. VisitsHomes m [] (table_controls w c p)) (sym (table_represents.cap ∙ rw n refl)) (none_visits (table_controls w c p)));
+        };
+        table_represents = table_represents;
+      }
+
   -- a written list is valid in each archive that has its bytes
   pub lists_valid : ListsAreValid w items load_factor
   lists_valid pairs begin end p bytes c l sits =
-      let s : ElementSpec = items.spec in
       let part : List ℕ = l.part in
       let out : List ℕ = l.header in
       let z : List ℕ = zeros (padding (byte_len w) end) in
@@ -127,30 +149,25 @@ module _ {X R : Type 0} (w : Width) (items : Encoding X R) (load_factor : ℕ ×
       let sp : OccursAt c begin part = occurs_front c begin part (z ++ out) sb in
       let at : begin + length part + length z ≡ p = omega (arith, n, l.at, l.ends) in
       let so : OccursAt c p out = subst (λ q. OccursAt c q out) at (occurs_back c (begin + length part) z out (occurs_back c begin part (z ++ out) sb)) in
-      let aligned : p % byte_len w ≡ 0 = subst (λ q. q % byte_len w ≡ 0) (sym l.at) (round_up-multiple end (byte_len w) (table_element w kind s law).align_is) in
-      let up : begin + length part ≤ p = omega (arith, l.at, l.ends) in
-      let sound = format.sound pairs l.resolver c begin p part out l.parts l.image sp so up aligned in
-      let table_represents : TableRepresents w s items.represents load_factor c p pairs = sound.2 in
-      let around = passing pairs l.resolver c begin p part out l.parts l.image sp so up aligned in
-      let len : length bytes ≡ length part + (length z + length out) = ap length l.is ∙ length-append part (z ++ out) ∙ ap (λ k. length part + k) (length-append z out) in (
-        record {
-          holds = record {
-            behind = (omega (arith, l.ends), omega (arith, l.at));
-            inside = omega (arith, whole, so.inside);
-            aligned = aligned;
-            passes = subst (IsValidAround (table_spec w s) c p begin) (sym l.ends) around;
-            items = items_visited w s items.represents visits c p pairs (were c p pairs table_represents) (λ none.
-                let count = length-map pairs (λ (x : ℕ × X). x.0) in
-                let n : length pairs ≡ 0 = omega (arith, ap length none, count) in
-                subst (λ m. VisitsHomes m [] (table_controls w c p)) (sym (table_represents.cap ∙ rw n refl)) (none_visits (table_controls w c p)));
-          };
-          table_represents = table_represents;
-        },
-        omega (arith, len, whole, at),
-      )
+      let aligned : p % byte_len w ≡ 0 = subst (λ q. q % byte_len w ≡ 0) (sym l.at) (round_up-multiple end (byte_len w) (table_element w kind items.spec law).align_is) in
+      let len : length bytes ≡ length part + (length z + length out) = ap length l.is ∙ length-append part (z ++ out) ∙ ap (λ k. length part + k) (length-append z out) in
+      let has : HasListBytes (byte_len w) (table_format w items.spec items.format load_factor) pairs begin end p c = record {
+        part = part;
+        resolver = l.resolver;
+        header = out;
+        parts = l.parts;
+        image = l.image;
+        ends = l.ends;
+        behind = omega (arith, l.at);
+        aligned = aligned;
+        has_table = sp;
+        has_header = so;
+      } in
+      (tables_valid pairs begin end p c has, omega (arith, len, whole, at))
 
 -- after a write of one item in place, the table holds the list with the new item
-module _ {X R : Type 0} (w : Width) (items : Encoding X R) (visits : WalkVisitsHomes) (kind : IsArchiveWord w) (law : IsElement items.spec) (local : RepresentsLocally items.spec items.represents) where
+module _ {X R : Type 0} (w : Width) (items : Encoding X R) (visits : WalkVisitsHomes) (full : WalkedAreFull) (keep : (b : List ℕ) (p i : ℕ) → Viewable (table_spec w items.spec) b p → IsWalked w b p i → KeptByWrites w items.spec b p i)
+    (written : ItemsWrittenRepresent w items.spec items.represents) (kind : IsArchiveWord w) (law : IsElement items.spec) where
   pub items_replaced : ItemsAreReplaced w items
   items_replaced b c p begin end n hash pairs old new list at_n sealed keeps one =
       let s : ElementSpec = items.spec in
@@ -164,11 +181,11 @@ module _ {X R : Type 0} (w : Width) (items : Encoding X R) (visits : WalkVisitsH
       let one_at : items.represents c q new = subst (λ r. items.represents c r new) at one in
       let valid = list.passes 0 p (omega arith) list.behind.1 in
       let view : Viewable (table_spec w s) b p = record { inside = list.inside; aligned = list.aligned; valid = (valid.0, valid.1) } in
-      let walked = home_walked w b p (hashes_of pairs) homes list.items.written n less in
-      let kept = table_kept w s law b p (slice_index homes n) view walked c sealed_at keeps_at in
+      let walked = (full (cap_at w b p) (slice_index homes n) (table_controls w b p)).0 ((list.items.visits.members (slice_index homes n)).1 (Contains-get_or homes n 0 less)) in
+      let kept = keep b p (slice_index homes n) view walked c sealed_at keeps_at in
       let of : IsWrittenOf w s.size items.represents b p pairs = record { homes = homes; written = list.items.written; at = list.items.at } in
-      let is = items_written w s law items.represents local b c p n hash pairs old new view of at_n sealed_at keeps_at one_at in
-      let same = same_hashes pairs n hash old new at_n in
+      let is = written b c p n hash pairs old new view of at_n sealed_at keeps_at one_at in
+      let same = length-map (slice_set pairs n (hash, new)) (λ (x : ℕ × X). x.0) ∙ length-set pairs n (hash, new) ∙ sym (length-map pairs (λ (x : ℕ × X). x.0)) in
       record {
         behind = list.behind;
         inside = omega (arith, list.inside, sealed.same_length);
@@ -177,7 +194,7 @@ module _ {X R : Type 0} (w : Width) (items : Encoding X R) (visits : WalkVisitsH
             let was = list.passes lo end low (omega arith) in
             let there = kept.is_valid lo end was.0 (omega (arith, low, list.behind.0)) list.behind.1 was.1 in
             (was.0, (table_element w kind s law).widen_hi c p lo end hi was.0 high there, was.2, was.3);
-        items = items_visited w s items.represents visits c p (slice_set pairs n (hash, new)) is (λ none. absurd (omega (arith, less, count, ap length (sym same ∙ none))));
+        items = items_visited w s items.represents visits c p (slice_set pairs n (hash, new)) is (λ none. absurd (omega (arith, less, count, same, ap length none)));
       }
 
 -- the lookup of a report on a table that holds a list finds the first accepted item
@@ -213,11 +230,25 @@ module _ {T X R : Type 0} (list : ListInput X R) (post : View T → Bool → Typ
 
 -- the bytes of a written list do not fail
 pub written_never_fails : (w : Width) → IsArchiveWord w → (s : ElementSpec) → IsElement s → (c b : List ℕ) (p begin end : ℕ) → IsValidAround (table_spec w s) c p begin end → b ≡ c → (range : PartRange)
-    → range.lo ≡ begin → range.hi ≡ end → (e : VerifyError) → Fails (table_spec w s) b p range e → ⊥
+    → range.lo ≤ begin → end ≤ range.hi → (e : VerifyError) → Fails (table_spec w s) b p range e → ⊥
 written_never_fails w kind s law c b p begin end around same range low high e fails =
     let there = subst (λ (x : List ℕ). (table_spec w s).fails x p range.lo range.hi e) same fails in
-    let holds = around range.lo range.hi (omega (arith, low)) (omega (arith, high)) in
+    let holds = around range.lo range.hi low high in
     (table_element w kind s law).exclusive c p range.lo range.hi holds.0 e holds.1 there
+
+-- validation, walk and lookup of a list that was written as a table
+module _ {T X R : Type 0} (w : Width) (items : Encoding X R) (load_factor : ℕ × ℕ) (post : View T → Bool → Type 0) (first : LookupFindsFirst w items.spec items.represents) (kind : IsArchiveWord w) (law : IsElement items.spec) where
+  looked_over : (pairs : List (ℕ × X)) (begin end p : ℕ) (c : List ℕ) (written : IsWrittenList (table_with w items c p) items.represents load_factor begin end pairs)
+      (range : PartRange) (hash : ℕ) (result : Result TableReport LookError) → range.lo ≤ begin → end ≤ range.hi → hash < 2 ^ 64
+      → LooksOver (table_with w items c p) range post hash result → LooksOverList written post hash result
+  looked_over pairs begin end p c written range hash (Ok report) low high fits over = (over.2, lookups_listed w items post first c p begin end hash pairs report written.holds fits over.2)
+  looked_over pairs begin end p c written range hash (Err (Verify e)) low high fits over =
+      absurd (written_never_fails w kind items.spec law c c p begin end written.holds.passes refl range low high e over)
+  looked_over pairs begin end p c written range hash (Err Memory) low high fits over = (refl, omega (arith, written.table_represents.len, over.0))
+
+  pub lists_found : ((pairs : List (ℕ × X)) (begin end p : ℕ) (c : List ℕ) → HasListBytes (byte_len w) (table_format w items.spec items.format load_factor) pairs begin end p c
+      → IsWrittenList (table_with w items c p) items.represents load_factor begin end pairs) → ListsAreFound w items load_factor post
+  lists_found valid pairs begin end p c has = let written = valid pairs begin end p c has in (written, looked_over pairs begin end p c written)
 
 -- after a list is written, the one error is that an allocation fails
 pub look_fails : {X R : Type 0} (list : ListInput X R) (o o' : Output) (t : TableIn) (end p : ℕ) (range : PartRange) → WroteList list o o' end p

@@ -1,7 +1,7 @@
 -- Validation, walk and lookup of a table, step by step.
 use Rattle.rkyv_base.specs.declared.element.HasSpec.{Ghosts as Specs}
 use Rattle.rkyv_base.specs.declared.width.Word.{Ghosts as Words}
-use Rattle.std.proofs.Common.{◌≡◌, ℕ, ◌+◌, ◌*◌, ◌/◌, ◌%◌, ◌≤◌, ◌∙◌, refl, sym, ap, subst, arith, Bool, true, List, length, map, Option, Some, None}
+use Rattle.std.proofs.Common.{◌≡◌, ℕ, ◌+◌, ◌*◌, ◌/◌, ◌%◌, ◌≤◌, ◌∙◌, sym, ap, subst, arith, Bool, List, length, map, Option, Some, None}
 use Rattle.std.specs.Prelude.{IfSome}
 use Rattle.std.specs.Int.{Width, byte_len}
 use Rattle.std.specs.List.{All, Contains}
@@ -11,10 +11,9 @@ use Rattle.rkyv_base.specs.Lemmas.ElementSpec.{valid_at}
 use Rattle.rkyv_base.specs.declared.element.PartRange.{PartRange}
 use Rattle.rkyv_base.specs.declared.view.View.{View}
 use Rattle.rkyv_scan.specs.{generic_kind}
-use Rattle.rkyv_table.specs.{AcceptedOf, CountsWithin, FindsFirst, FindsFound, IsItem, LooksUp, ReadsExactly, ReadsWithin, WalkedAreFull, cap_at, item_at, item_positions, len_at, probe_capacity, table_controls, table_spec, walk}
+use Rattle.rkyv_table.specs.{AcceptedOf, CountsStrides, CountsWithin, FindsItem, LooksUp, LooksUpInBytes, ReadsExactly, ReadsWithin, WalkedAreFull, cap_at, count_after, item_at, item_positions, len_at, probe_capacity, table_controls, table_spec, walk}
 use Rattle.rkyv_table.specs.Lemmas.TableLaws.{table_element}
 use Rattle.rkyv_table.specs.declared.table.ArchivedHashTable.{ArchivedHashTable}
-use Rattle.rkyv_table.proofs.Bare.{looks_up_none, looks_up_some}
 use Rattle.rkyv_end_to_end.specs.{ReadsWithinBound, ReportsTable}
 use Rattle.rkyv_end_to_end.specs.declared.looking.TableReport.{TableReport}
 
@@ -57,12 +56,19 @@ module _ {T : Type 0} (post : View T → Bool → Type 0) (w : Width) (s : Eleme
     exact = exact;
   }
 
--- the result of a lookup in the table is its result in the bytes
-pub looks_found : {T W : Type 0} {ts : Specs T} {wt : Words W} (post : View T → Bool → Type 0) (b : List ℕ) (p : ℕ) (t : ArchivedHashTable T W ts wt) → t.view.archive.now ≡ b → t.view.pos ≡ p
-    → (hash : ℕ) (found : Option (View T)) → IfSome found (IsItem t) → IfSome found (λ v. post v true) → FindsFound post generic_kind t hash (pos_of_found found)
-    → FindsFirst post t hash (pos_of_found found) → LooksUp post generic_kind wt.word ts.spec b p hash (pos_of_found found)
-looks_found post b p t bytes pos hash None walked accepted finds first = looks_up_none b p t bytes pos post generic_kind hash finds first
-looks_found post b p t bytes pos hash (Some v) walked accepted finds first = looks_up_some b p t bytes pos post generic_kind hash v.pos finds first (v, walked, refl, accepted)
+-- the result of a lookup in the table is its result in the bytes, and so are its strides
+module _ {T W : Type 0} {ts : Specs T} {wt : Words W} (post : View T → Bool → Type 0) (law : LooksUpInBytes ts wt post) (b : List ℕ) (p : ℕ)
+    (t : ArchivedHashTable T W ts wt) (bytes : t.view.archive.now ≡ b) (pos : t.view.pos ≡ p) (hash : ℕ) where
+  pub looks_found : (found : Option (View T)) → FindsItem post generic_kind t hash found → LooksUp post generic_kind wt.word ts.spec b p hash (pos_of_found found)
+  looks_found found is =
+      let P = λ (c : List ℕ) (q : ℕ). LooksUp post generic_kind wt.word ts.spec c q hash (pos_of_found found) in
+      subst (P b) pos (subst (λ (c : List ℕ). P c t.view.pos) bytes (law.found generic_kind t hash found is))
+
+  pub read_exactly : (before after : ℕ) → before ≡ 0 → CountsStrides post generic_kind t hash before after → ReadsExactly post generic_kind wt.word ts.spec b p hash after
+  read_exactly before after none counts =
+      let P = λ (c : List ℕ) (q : ℕ). ReadsExactly post generic_kind wt.word ts.spec c q hash after in
+      let from_0 = subst (λ n. CountsStrides post generic_kind t hash n after) none counts in
+      subst (P b) pos (subst (λ (c : List ℕ). P c t.view.pos) bytes (law.strides generic_kind t hash after from_0))
 
 -- the strides that a lookup in the table reads are those of the bytes
 pub read_within_bound : {T W : Type 0} {ts : Specs T} {wt : Words W} (b : List ℕ) (p : ℕ) (t : ArchivedHashTable T W ts wt) → t.view.archive.now ≡ b → t.view.pos ≡ p
@@ -73,6 +79,6 @@ read_within_bound {wt = wt} b p t bytes pos before after none within =
     let most = there.most in
     record {
       none = λ h. there.none h ∙ none;
-      some = λ h. let less = there.some h in omega arith;
+      some = λ h. subst (λ n. count_after n 1 ≤ after) none (there.some h);
       most = omega arith;
     }

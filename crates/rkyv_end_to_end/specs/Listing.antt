@@ -8,6 +8,7 @@ use Rattle.rkyv_base.specs.{ModifiesOnly, OccursAt, Output, RepresentsAs, StaysV
 use Rattle.rkyv_base.specs.{ValueStep, WidthMembers, WriteFails}
 use Rattle.rkyv_base.specs.{end_of, padding, piece, round_up, vec_output, written_as, zeros}
 use Rattle.rkyv_base.specs.declared.archive.Archive.{Ghosts as Archives}
+use Rattle.rkyv_base.specs.declared.element.PartRange.{PartRange}
 use Rattle.rkyv_base.specs.declared.errors.WriteError.{WriteError}
 use Rattle.rkyv_base.specs.declared.lend.Lend.{Ghosts as Lends}
 use Rattle.rkyv_base.specs.declared.view.View.{View}
@@ -16,7 +17,8 @@ use Rattle.rkyv_table.specs.{IsValidAround, OwnCause, TableIn, TableRepresents, 
 use Rattle.rkyv_table.specs.{VisitsHomes, WrittenAt, YieldsExactly, cap_at, from_both, hashes_of}
 use Rattle.rkyv_table.specs.{first_pos, home_positions, items_of, table_controls, table_format}
 use Rattle.rkyv_table.specs.{table_spec}
-use Rattle.rkyv_end_to_end.specs.Report.{ReportsTable}
+use Rattle.rkyv_end_to_end.specs.Report.{LooksOver, ReportsTable}
+use Rattle.rkyv_end_to_end.specs.declared.looking.LookError.{LookError}
 use Rattle.rkyv_end_to_end.specs.declared.looking.LookError.TheVariants.{Memory, Verify}
 use Rattle.rkyv_end_to_end.specs.declared.looking.TableReport.{TableReport}
 use Rattle.rkyv_end_to_end.specs.declared.whole.ListError.{ListError}
@@ -84,6 +86,21 @@ pub record ListBytes {X : Type 0} (align : ℕ) (f : Format (List (ℕ × X)) Ta
   pub ends : end ≡ begin + length part
   pub at : p ≡ round_up end align
   pub is : bytes ≡ part ++ (zeros (padding align end) ++ header)
+
+-- the archive `c` has the bytes of a list. They are the table from `begin` to `end`, and behind it
+-- the header at `p`, which is aligned. There may be any bytes in between
+pub record HasListBytes {X : Type 0} (align : ℕ) (f : Format (List (ℕ × X)) TableResolver)
+    (pairs : List (ℕ × X)) (begin end p : ℕ) (c : List ℕ) : Type 0 where
+  pub part : List ℕ
+  pub resolver : TableResolver
+  pub header : List ℕ
+  pub parts : f.parts pairs begin part resolver
+  pub image : f.image pairs resolver p header
+  pub ends : end ≡ begin + length part
+  pub behind : end ≤ p
+  pub aligned : p % align ≡ 0
+  pub has_table : OccursAt c begin part
+  pub has_header : OccursAt c p header
 
 module _ {X : Type 0} (align : ℕ) (f : Format (List (ℕ × X)) TableResolver)
     (pairs : List (ℕ × X)) (begin : ℕ) where
@@ -213,6 +230,33 @@ LookupsFindListed {X = X} w items post =
     → (list : HoldsList (table_with w items b p) items.represents begin end pairs)
     → hash < 2 ^ 64 → ReportsTable (table_with w items b p) post hash report
     → FindsFirstItem list.items post hash report.found
+
+-- `result`: the items and one lookup of a list that was written as a table, or memory could not be
+-- allocated for the positions of its items. The lookup finds the first accepted item
+abbrev pub LooksOverList : {T X : Type 0} {t : TableIn} {represents : List ℕ → ℕ → X → Type 0}
+    {load_factor : ℕ × ℕ} {begin end : ℕ} {pairs : List (ℕ × X)}
+    → IsWrittenList t represents load_factor begin end pairs → (View T → Bool → Type 0) → ℕ
+    → Result TableReport LookError → Type 0
+LooksOverList {t = t} {pairs = pairs} written post hash result = MatchResult result
+    (λ report. ReportsTable t post hash report
+    × FindsFirstItem written.holds.items post hash report.found)
+    (λ e. (e ≡ Memory) × (0 < length pairs))
+
+-- each list that was written as a table, with its header anywhere behind it, is valid in each
+-- archive that has their bytes. The lookup of each call of `look_over`, with a range around
+-- the table, finds the first accepted item
+abbrev pub ListsAreFound : {T X R : Type 0} → Width → Encoding X R → ℕ × ℕ
+    → (View T → Bool → Type 0) → Type 0
+ListsAreFound {X = X} w items load_factor post =
+    (pairs : List (ℕ × X)) (begin end p : ℕ) (c : List ℕ)
+    → HasListBytes (byte_len w) (table_format w items.spec items.format load_factor) pairs begin
+    end p c
+    → (written : IsWrittenList (table_with w items c p) items.represents load_factor begin end
+    pairs)
+    × ((range : PartRange) (hash : ℕ) (result : Result TableReport LookError)
+    → range.lo ≤ begin → end ≤ range.hi → hash < 2 ^ 64
+    → LooksOver (table_with w items c p) range post hash result
+    → LooksOverList written post hash result)
 
 -- the table of the list in the output `o`, with its header at `p`
 abbrev pub table_of : {X R : Type 0} → ListInput X R → Output → ℕ → TableIn

@@ -2,14 +2,16 @@
 //!
 //! Those of lists hold after writes of items in place too.
 ghost use Rattle.std.specs.Prelude.{ℕ, ◌≡◌, ◌↔◌};
-ghost use Rattle.rkyv_end_to_end.specs.{ItemsAreReplaced, ListsAreValid, LookupsFindListed};
-ghost use Rattle.rkyv_end_to_end.specs.{encoding};
+ghost use Rattle.rkyv_end_to_end.specs.{ItemsAreReplaced, ListsAreFound, ListsAreValid};
+ghost use Rattle.rkyv_end_to_end.specs.{LookupsFindListed, encoding};
 ghost use Rattle.rkyv_end_to_end.specs.declared.looking.LookError.TheVariants.{Memory, Verify};
 ghost use Rattle.rkyv_end_to_end.specs.declared.whole.ListError.TheVariants.{Look, Write};
 
 use crate::looking::LookError;
 use crate::whole::ListError;
 use rkyv_base::{Archive, Lend, NoMemory, VerifyError, View, Width, WriteError};
+use rkyv_table::controls::laws::walked_are_full;
+use rkyv_table::table::laws::in_place::{lent_items_written_represent, writes_keep_the_table};
 use rkyv_table::table::laws::written::{
     represented_lists_were_written, written_tables_pass, written_tables_represent,
 };
@@ -42,6 +44,30 @@ pub fn written_lists_represent<W: Width, U: Archive<W>, X: Lend<U>>()
     walk_visits_homes();
 }
 
+/// States that a written list is valid and found with its header anywhere behind its table.
+///
+/// The header must be at an aligned position, and have the words that `resolve` writes for this
+/// position. There may be any bytes between the table and the header.
+///
+/// Each item is in its home bucket, and the walk visits these buckets and no others. With a range
+/// around the table, `look_over` never returns `Verify`. Its lookup finds the first accepted item,
+/// within the bound. The conditions on the comparison are those of `write_and_look_over`.
+pub fn written_lists_are_found<
+    W: Width,
+    U: Archive<W>,
+    X: Lend<U>,
+    F: Fn(View<'_, U::Archived>) -> bool,
+>()
+    ensures { (load_factor : ℕ × ℕ) (cmp : _) → ListsAreFound W.word
+        (encoding U.Archived.Represents U.Archive X.Lend) load_factor (F.post cmp) }
+{
+    written_tables_represent::<W, U, X>();
+    written_tables_pass::<W, U, X>();
+    represented_lists_were_written::<W, U, X>();
+    walk_visits_homes();
+    lookups_find_the_first::<W, U, X>();
+}
+
 /// States that a write of one item in place puts the new item into the list of the table.
 ///
 /// The write must change the bytes of this item alone and keep it valid, and they must represent
@@ -51,6 +77,9 @@ pub fn written_items_are_replaced<W: Width, U: Archive<W>, X: Lend<U>>()
     ensures { ItemsAreReplaced W.word (encoding U.Archived.Represents U.Archive X.Lend) }
 {
     walk_visits_homes();
+    walked_are_full();
+    writes_keep_the_table::<U::Archived, W>();
+    lent_items_written_represent::<W, U, X>();
 }
 
 /// States that the lookup of `look_over` in a table of a list finds the first accepted item.

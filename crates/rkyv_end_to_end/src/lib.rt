@@ -11,7 +11,8 @@ mod whole;
 mod writing;
 
 pub use laws::{
-    errors_are_converted, lookups_find_listed, written_items_are_replaced, written_lists_represent,
+    errors_are_converted, lookups_find_listed, written_items_are_replaced, written_lists_are_found,
+    written_lists_represent,
 };
 pub use looking::{LookError, TableReport, look_over};
 pub use whole::{ListError, write_and_look_over};

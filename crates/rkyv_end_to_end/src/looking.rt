@@ -11,6 +11,7 @@ ghost use Rattle.rkyv_end_to_end.specs.declared.looking.LookError.TheVariants.{M
 
 use rkyv_base::{Element, PartRange, VerifyError, View, Width, found_pos};
 use rkyv_table::controls::laws::walked_are_full;
+use rkyv_table::table::laws::in_bytes::lookups_are_in_bytes;
 use rkyv_table::{ArchivedHashTable, Strides};
 use std::alloc::{AllocError, Global};
 use thiserror::Error;
@@ -93,6 +94,7 @@ fn look_up<W: Width, T: Element, F: Fn(View<'_, T>) -> bool>(
     ensures exact { ReadsExactlyIn (table_in W.Word T.HasSpec bytes.now pos) (F.post cmp) hash
         result.strides }
 {
+    lookups_are_in_bytes::<T, W, F>();
     let table = ArchivedHashTable::<T, W>::of(View::new(bytes, pos));
     let mut strides = Strides::new();
     let found = found_pos(table.get_counted(hash, cmp, &mut strides));

@@ -1,4 +1,4 @@
-use Rattle.std.proofs.Common.{ℕ, List, ◌≡◌, ◌∙◌, ap, refl}
+use Rattle.std.proofs.Common.{ℕ, List, ◌≡◌, ◌∙◌, ap, arith, refl}
 use Rattle.std.proofs.lemmas.Result.{err_from_is_err_and}
 use Rattle.rkyv_base.specs.{end_of, vec_output}
 use Rattle.rkyv_base.specs.declared.element.PartRange.{PartRange}
@@ -36,5 +36,5 @@ returns-in_err-report g c =
     ap (λ (b : List ℕ). len_at g.W.Word.word b at.pos) c.bytes-bytes.ensures ∙ valid.0.table_represents.len ∙ wrote.3.0.1 in
     let p = err_from_is_err_and c.from_residual-in_err-report.result c.from_residual-in_err-report.ensures.1 in
     rw (p.1, p.2) (look_fails list o o' (table_in g.W.Word g.U.Archived.HasSpec c.bytes-bytes.result.now at.pos) at.end at.pos range wrote
-    (written_never_fails g.W.Word.word g.met.W.Width.layout.kind g.U.Archived.HasSpec.spec g.U.Archived.HasSpec.laws o'.bytes c.bytes-bytes.result.now at.pos (end_of o) at.end valid.0.holds.passes c.bytes-bytes.ensures range c.pos-begin.ensures refl)
+    (written_never_fails g.W.Word.word g.met.W.Width.layout.kind g.U.Archived.HasSpec.spec g.U.Archived.HasSpec.laws o'.bytes c.bytes-bytes.result.now at.pos (end_of o) at.end valid.0.holds.passes c.bytes-bytes.ensures range (omega (arith, c.pos-begin.ensures)) (omega arith))
     count c.in_err-report.field-0.0 c.in_err-report.ensures)
