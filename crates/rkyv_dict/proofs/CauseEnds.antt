@@ -41,7 +41,7 @@ module _ (limit : ℕ) (next : List ℕ → Step → Type 0) where
     text_of_cause (IteratorLengthMismatch x) m h = text_of_reached (mismatch x.expected x.actual) _ (λ e. cc) h refl
     text_of_cause (CapacityTooLarge n) m h = text_of_reached (capacity n) _ (λ e. cc) h refl
     text_of_cause PositionTooLarge m h = inr (front, h.0, h.1.2, omega (arith, h.2, ends_at), refl)
-    text_of_cause DistanceTooLarge m h = text_of_reached distance _ (λ e. cc) h refl
+    text_of_cause DistanceTooLarge m h = text_of_reached distance _ (λ e. cc) h.0 refl
     text_of_cause TextTooLong m h = text_of_reached long_text _ (λ e. cc) h refl
     text_of_cause (Writer x) m h = absurd cc
     text_of_cause Memory m h = absurd cc

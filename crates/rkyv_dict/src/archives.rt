@@ -8,7 +8,7 @@ ghost use Rattle.std.specs.List.{flat_map};
 ghost use Rattle.std.specs.Option.{option_map};
 ghost use Rattle.rkyv_base.specs.{IsAt, IsValidView};
 ghost use Rattle.rkyv_keys.specs.{at_view};
-ghost use Rattle.rkyv_collections.specs.{key_positions, map_bytes};
+ghost use Rattle.rkyv_collections.specs.{key_positions, map_bytes, map_view};
 ghost use Rattle.rkyv_dict.specs.{AppendsText, Builds, FindsFirstValue, IsArchive, IsMapArchive};
 ghost use Rattle.rkyv_dict.specs.{MakesArchive, MapValidationFails, Pairs, RootRepresents};
 ghost use Rattle.rkyv_dict.specs.{ValidationFails, entry_count, first_value_text, form_of_pairs};
@@ -49,7 +49,7 @@ fn map_of<'a, P: Printable, W: Width>(bytes: &'a [u8]) -> ArchivedHashMap<'a, P,
     requires { let m = parts_by W.word W.LIMIT P.spec P.text P.same P.key_calls in
         IsMapArchive m bytes.now }
     ensures at { let m = parts_by W.word W.LIMIT P.spec P.text P.same P.key_calls in
-        IsAt result.view bytes.entry (root m bytes.now) }
+        IsAt (map_view result) bytes.entry (root m bytes.now) }
 {
     ArchivedHashMap::of(access_unchecked(bytes))
 }

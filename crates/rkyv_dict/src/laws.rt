@@ -1,9 +1,10 @@
-//! Laws of scripts and of errors, each a function whose contract is the statement.
+//! Laws of scripts, errors, forms and keys, each a function whose contract is the statement.
 ghost use Rattle.rkyv_dict.specs.{BuildsAreOne, BuildsHaveResult, ChecksAreOne, ChecksHaveResult};
-ghost use Rattle.rkyv_dict.specs.{ScriptsAreOne, ScriptsHaveOutput, message_of};
+ghost use Rattle.rkyv_dict.specs.{ScriptsAreOne, ScriptsHaveOutput, lookup_key, message_of};
 ghost use Rattle.rkyv_dict.specs.declared.run.RunError.TheVariants.{Memory};
-ghost use Rattle.std.specs.Prelude.{Some, ◌≡◌, ◌↔◌};
+ghost use Rattle.std.specs.Prelude.{Some, true, ◌≡◌, ◌↔◌};
 
+use crate::form::{ArchiveWidth, Form, Key, Kind};
 use crate::run::RunError;
 use std::alloc::AllocError;
 use std::fmt;
@@ -46,4 +47,28 @@ pub fn errors_are_converted()
 /// States the texts that `Display` writes for the errors of a run.
 pub fn errors_are_displayed()
     ensures { (e : RunError) → ⟦<RunError as fmt::Display>⟧.output e ≡ Some (message_of e) }
+{}
+
+/// States that two values are equal by `==` if and only if they are the same.
+///
+/// Two keys are equal if and only if they are the same number or the same text.
+pub fn equal_are_the_same<'a>()
+    ensures kind { (a b : Kind) → (⟦<Kind as PartialEq>⟧.eq a b ≡ true) ↔ (a ≡ b) }
+    ensures width { (a b : ArchiveWidth) → (⟦<ArchiveWidth as PartialEq>⟧.eq a b ≡ true) ↔ (a ≡ b) }
+    ensures form { (a b : Form) → (⟦<Form as PartialEq>⟧.eq a b ≡ true) ↔ (a ≡ b) }
+    ensures key { (a b : _) → (⟦<Key<'a> as PartialEq>⟧.eq a b ≡ true)
+        ↔ (lookup_key a ≡ lookup_key b) }
+{}
+
+/// States that a clone is the value itself, and that cloning can't fail.
+pub fn clones_are_the_same<'a>()
+    ensures kind { (a clone : Kind) → ⟦<Kind as Clone>⟧.is_clone a clone ↔ (clone ≡ a) }
+    ensures width { (a clone : ArchiveWidth) → ⟦<ArchiveWidth as Clone>⟧.is_clone a clone
+        ↔ (clone ≡ a) }
+    ensures form { (a clone : Form) → ⟦<Form as Clone>⟧.is_clone a clone ↔ (clone ≡ a) }
+    ensures key { (a clone : _) → ⟦<Key<'a> as Clone>⟧.is_clone a clone ↔ (clone ≡ a) }
+    ensures infallible_kind { (a : Kind) → ⟦<Kind as Clone>⟧.is_infallible a }
+    ensures infallible_width { (a : ArchiveWidth) → ⟦<ArchiveWidth as Clone>⟧.is_infallible a }
+    ensures infallible_form { (a : Form) → ⟦<Form as Clone>⟧.is_infallible a }
+    ensures infallible_key { (a : _) → ⟦<Key<'a> as Clone>⟧.is_infallible a }
 {}

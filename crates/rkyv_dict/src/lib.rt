@@ -3,7 +3,8 @@
 //! - `run` reads a script from a reader and writes its output to a writer.
 //! - `dict` executes one line at a time; `script` and `words` parse it.
 //! - `archives` writes, validates and reads the archives.
-//! - `laws` states that builds, checks and scripts have one result each.
+//! - `laws` states that builds, checks and scripts have one result each, and what `==` and clones
+//!   are.
 #![tactic(auto)]
 
 pub mod archives;
