@@ -4,6 +4,7 @@ pub mod Fields
 pub mod Histogram
 pub mod Inspections
 pub mod Lemmas
+pub mod Printing
 pub mod Regions
 pub mod Summaries
 unfoldable pub use Collections.{collection_fields, fx_keys, is_key_type, is_value_type, keys_of}
@@ -17,6 +18,8 @@ pub use Histogram.{IsHistogram}
 unfoldable pub use Inspections.{Inspects, InspectsContents, InspectsKeys, InspectsValues, IsFault}
 unfoldable pub use Inspections.{IsSummaryAt, IsSummaryOf, pairs_with, target}
 pub use Inspections.{IsInspection, Target}
+unfoldable pub use Printing.{drawn_inspection, drawn_len, is_printed_in_color, printed_archive}
+unfoldable pub use Printing.{printed_inspection}
 unfoldable pub use Regions.{AddsEach, AddsPair, Covers, PairFits, at_table, bucket_field}
 unfoldable pub use Regions.{bucket_kind, buckets_begin, buckets_below, control_at, control_fields}
 unfoldable pub use Regions.{entry_field, entry_size, field, fields_of, header_fields, index_fields}

@@ -1,5 +1,5 @@
 -- The numbers of an archived map, and the lookups of all its keys.
-use Rattle.std.specs.Prelude.{◌≡◌, ℕ, ◌/◌, ◌==◌, ◌<◌, ◌≤◌, ◌^◌, ◌⊎◌, Bool, List, MatchOption}
+use Rattle.std.specs.Prelude.{◌≡◌, ℕ, ◌/◌, ◌==◌, ◌<◌, ◌≤◌, Bool, List, MatchOption}
 use Rattle.std.specs.Prelude.{None, Option, Some, cond, filter, length, not}
 use Rattle.std.specs.Int.{Width}
 use Rattle.std.specs.List.{sum_by}
@@ -48,10 +48,10 @@ pub record AreLookups (misplaced most : ℕ) (reads : ℕ → ℕ) (keys : List 
   pub strides_are : IsHistogram most reads keys lookups.strides.items
 
 -- `result` has the property `P`, or is `None` if the lookups of all items, which read `all`
--- strides, read more than `limit`, or more than 2^63
+-- strides, read more than `limit`
 abbrev pub UpTo : ℕ → ℕ → (Lookups → Type 0) → Option Lookups → Type 0
-UpTo limit all P result = MatchOption result ((limit < all) ⊎ (2 ^ 63 < all))
-    (λ lookups. (all ≤ limit) × (all ≤ 2 ^ 63) × P lookups)
+UpTo limit all P result = MatchOption result (limit < all)
+    (λ lookups. (all ≤ limit) × P lookups)
 
 -- the position of the control bytes, if there are `cap` buckets
 abbrev pub some_controls : ℕ → ℕ → Option ℕ

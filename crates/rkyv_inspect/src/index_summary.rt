@@ -91,7 +91,7 @@ fn index_lookups<K: KeyElement, V: Element, H: KeyHasher, W: IndexWidth>(
 
 /// Returns the numbers of the index map at a view of its header.
 ///
-/// Each key is looked up, unless the lookups read more than `limit` strides, or more than 2^63.
+/// Each key is looked up, unless the lookups read more than `limit` strides.
 ///
 /// # Requires
 ///

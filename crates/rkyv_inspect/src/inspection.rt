@@ -130,8 +130,8 @@ fn inspect_width<W: IndexWidth>(
 /// Validates an archive, and returns its numbers, the lookups of all keys, and its regions.
 ///
 /// `limit` is a number of strides of sixteen control bytes. `lookups` is `None` if the lookups of
-/// all keys read more, or more than 2^63. They stop then, so the time is bounded in an untrusted
-/// archive too. That they stop is no part of the contract.
+/// all keys read more. They stop then, so the time is bounded in an untrusted archive too. That
+/// they stop is no part of the contract.
 ///
 /// # Errors
 ///

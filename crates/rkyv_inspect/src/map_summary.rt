@@ -3,7 +3,7 @@ ghost use Rattle.std.specs.Prelude.{IfOk, ◌/◌, ◌≡◌, ◌≤◌};
 ghost use Rattle.rkyv_base.specs.{IsValidView, archive_of, bytes_of, entry_spec, pos_of};
 ghost use Rattle.rkyv_keys.specs.{hash_at};
 ghost use Rattle.rkyv_collections.specs.{map_spec};
-ghost use Rattle.rkyv_table.specs.{cap_at, probe_capacity, table_bytes, table_pos};
+ghost use Rattle.rkyv_table.specs.{cap_at, probe_capacity, table_archive, table_bytes, table_pos};
 ghost use Rattle.rkyv_inspect.specs.{CountsKeyStrides, IsMapSummary, LooksUpKeys, key_strides};
 ghost use Rattle.rkyv_inspect.specs.{key_type, keyed_map, some_controls};
 
@@ -22,7 +22,7 @@ fn strides_of<'a, K: KeyElement, V: Element, H: KeyHasher, W: Width>(
     key: View<'a, K>,
 ) -> usize
     requires key { IsValidView K.spec key }
-    requires archive { archive_of key ≡ archive_of table.view }
+    requires archive { archive_of key ≡ table_archive table }
     ensures reads { let keys = key_type K.spec K.same (hash_at H.hasher K.key_calls) in
         let m = keyed_map W.word keys V.spec (table_bytes table.entry) (table_pos table.entry) in
         result ≡ key_strides m (pos_of key.entry) }
@@ -96,7 +96,7 @@ pub(crate) fn controls_of(capacity: usize, pos: usize) -> Option<usize>
 
 /// Returns the numbers of the hash map at a view of its header.
 ///
-/// Each key is looked up, unless the lookups read more than `limit` strides, or more than 2^63.
+/// Each key is looked up, unless the lookups read more than `limit` strides.
 ///
 /// # Requires
 ///

@@ -1,5 +1,6 @@
 //! The text of an inspection: its numbers, and a line for each region.
 ghost use Rattle.std.specs.Prelude.{◌≡◌};
+ghost use Rattle.rkyv_inspect.specs.{is_printed_in_color, printed_archive, printed_inspection};
 
 use crate::inspection::Inspection;
 use crate::regions::{Region, RegionKind, bytes_in};
@@ -155,9 +156,9 @@ pub struct Printed<'a> {
 impl<'a> Printed<'a> {
     /// Returns the text of an inspection of an archive, in the colours of a terminal or not.
     pub fn new(archive: &'a [u8], inspection: &'a Inspection, color: bool) -> Printed<'a>
-        ensures archive { result.archive ≡ archive.entry }
-        ensures inspection { result.inspection ≡ inspection.entry }
-        ensures color { result.color ≡ color }
+        ensures archive { printed_archive result ≡ archive.entry }
+        ensures inspection { printed_inspection result ≡ inspection.entry }
+        ensures color { is_printed_in_color result ≡ color }
     {
         Printed {
             archive,

@@ -22,6 +22,6 @@ pub struct Summary {
     pub header_pos: u64,
     /// The position of the first control byte, or `None` if there are no buckets.
     pub controls_pos: Option<usize>,
-    /// The lookups of all keys, or `None` if they read more strides than a limit, or than 2^63.
+    /// The lookups of all keys, or `None` if they read more strides than a limit.
     pub lookups: Option<Lookups>,
 }
