@@ -1,9 +1,9 @@
 //! Laws of `PairEntry` and `TupleEntry`.
 //!
-//! They say by which parts a value is archived, represented, compared and hashed, and with which
-//! errors it fails to deserialize.
+//! They say by which parts a value is archived, represented, compared and hashed, with which errors
+//! it fails to deserialize, and what its clones are.
 
-ghost use Rattle.std.specs.Prelude.{◌&&◌, ◌++◌, ◌≡◌};
+ghost use Rattle.std.specs.Prelude.{◌&&◌, ◌++◌, ◌↔◌, ◌≡◌};
 ghost use Rattle.rkyv_base.specs.{SameFormat, SameValues, pair_format, written_as};
 ghost use Rattle.rkyv_keys.specs.{SameErrors, entry_deserialize_fails};
 ghost use Rattle.rkyv_user_types.specs.{RepresentsAsPair, equals_as};
@@ -124,4 +124,19 @@ pub fn tuples_fail_as_their_parts<
 >()
     ensures { SameErrors ⟦<Entry<K, V> as Deserialize<TupleEntry<T>>>⟧.deserialize_fails
         (entry_deserialize_fails K.Deserialize V.Deserialize) }
+{}
+
+/// States that a `PairEntry` is cloned as its value, and fails to clone only if that does.
+pub fn pairs_are_cloned<T: Clone>()
+    ensures clone { (x clone : _) → ⟦<PairEntry<T> as Clone>⟧.is_clone x clone
+        ↔ T.is_clone x.0 clone.0 }
+    ensures infallible { (x : _) → ⟦<PairEntry<T> as Clone>⟧.is_infallible x ↔ T.is_infallible x.0 }
+{}
+
+/// States that a `TupleEntry` is cloned as its value, and fails to clone only if that does.
+pub fn tuples_are_cloned<T: Clone>()
+    ensures clone { (x clone : _) → ⟦<TupleEntry<T> as Clone>⟧.is_clone x clone
+        ↔ T.is_clone x.0 clone.0 }
+    ensures infallible { (x : _) → ⟦<TupleEntry<T> as Clone>⟧.is_infallible x
+        ↔ T.is_infallible x.0 }
 {}
