@@ -12,4 +12,3 @@ pub mod IndexPairs
 pub mod IndexFound
 pub mod IndexWriting
 pub mod StoredArchive
-pub mod Counting

@@ -1,17 +1,13 @@
 -- Results of the calls for maps of numbers, and for maps of texts.
 use Rattle.std.specs.Prelude.{◌≡◌, ℕ, ◌⊎◌, List, Option}
-use Rattle.std.specs.Borrow.{Bor}
 use Rattle.std.specs.Str.{IsUtf8}
-use Rattle.rkyv_base.specs.{ScalarRepresents, text_at}
+use Rattle.rkyv_base.specs.{text_at}
 use Rattle.rkyv_keys.specs.{one_call, same_bytes, scalar_fits, text_calls}
 use Rattle.ffi_calls.specs.Archives.{Overwrites, ReturnsAt, numbers_in, texts_in, value_encoding}
 use Rattle.ffi_calls.specs.Archives.{value_found, word_of}
 use Rattle.ffi_calls.specs.Keys.{NumberKey, NumbersAt}
-use Rattle.ffi_calls.specs.Reading.{ReadsText, ReadsWord}
-use Rattle.ffi_calls.specs.Walking.{StoresNextPairs}
+use Rattle.ffi_calls.specs.Reading.{ReadsWord}
 use Rattle.ffi_calls.specs.declared.form.Form.{Form}
-use Rattle.ffi_calls.specs.declared.pairs.Pair.{Pair}
-use Rattle.ffi_calls.specs.declared.pairs.Step.{Step}
 
 module _ {A : Type 0} (k : NumberKey A) (form : Form) (b : List ℕ) where
   -- the position of the value that a lookup of the number `key` finds
@@ -29,12 +25,6 @@ module _ {A : Type 0} (m : NumbersAt A) where
   abbrev pub SetsNumber : A → ℕ → ℕ → List ℕ → Type 0
   SetsNumber key = Overwrites (value_encoding m.form) m.bytes
       (number_found m.key m.form m.bytes key)
-
-  -- the result of steps to the next pairs of a map of numbers
-  abbrev pub StoresNextNumbers : ℕ → List (Step (Pair A ℕ)) → ℕ → List (Step (Pair A ℕ)) → Type 0
-  StoresNextNumbers =
-      StoresNextPairs (numbers_in m.key m.form m.bytes) (ScalarRepresents m.key.encoding)
-      (ReadsWord (word_of m.form.long_values))
 
 -- the position of the value that a lookup of the text `key` finds
 abbrev pub text_found : Form → List ℕ → List ℕ → Option ℕ
@@ -56,9 +46,3 @@ abbrev pub SetsText : Form → List ℕ → List ℕ → ℕ → ℕ → List �
 SetsText form b key value status c =
     ((IsUtf8 key → ⊥) × (status ≡ 4) × (c ≡ b))
     ⊎ (IsUtf8 key × Overwrites (value_encoding form) b (text_found form b key) value status c)
-
--- the result of steps to the next pairs of a map of texts
-abbrev pub StoresNextTexts : Form → List ℕ → ℕ → List (Step (Pair (Bor (List ℕ)) ℕ)) → ℕ
-    → List (Step (Pair (Bor (List ℕ)) ℕ)) → Type 0
-StoresNextTexts form b = StoresNextPairs (texts_in form b) (ReadsText (word_of form.wide))
-    (ReadsWord (word_of form.long_values))

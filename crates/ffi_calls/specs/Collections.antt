@@ -1,15 +1,15 @@
 -- Archived collections, by the codes of their contents.
 use Rattle.std.specs.Prelude.{◌≡◌, ℕ, ◌-◌, ◌==◌, Bool, true, false, IfSome, IsSomeAnd, List}
 use Rattle.std.specs.Prelude.{MatchOption, None, Option, Some, cond, length, pos as int}
-use Rattle.std.specs.Int.{Width, w32, w64}
+use Rattle.std.specs.Int.{Width}
 use Rattle.std.specs.Option.{option_map, option_zip}
-use Rattle.rkyv_base.specs.{ElementSpec, IsValidArchive, scalar_spec, text_spec, unit_spec}
-use Rattle.rkyv_base.specs.{unsigned}
+use Rattle.rkyv_base.specs.{ElementSpec, IsValidArchive}
 use Rattle.rkyv_collections.specs.{MapAt, map_spec}
 use Rattle.rkyv_table.specs.declared.table.decoded.Decoded.{Decoded}
 use Rattle.ffi_calls.specs.Archives.{IsHeaderOf, Opens, limit_of, word_of}
 use Rattle.ffi_calls.specs.Explanation.{Explains, explained}
 use Rattle.ffi_calls.specs.IndexArchives.{index_map}
+use Rattle.ffi_calls.specs.TypesOf.{key_type_of, value_type_of}
 use Rattle.ffi_calls.specs.declared.collection.Collection.{Collection}
 use Rattle.ffi_calls.specs.declared.collection.KeyType.{KeyType}
 use Rattle.ffi_calls.specs.declared.collection.KeyType.TheVariants as key
@@ -18,10 +18,10 @@ use Rattle.ffi_calls.specs.declared.collection.ValueType.TheVariants as value
 use Rattle.ffi_calls.specs.declared.containers.Codes.{Codes}
 use Rattle.ffi_calls.specs.declared.explanation.Explanation.{Explanation}
 
--- whether the kind with the code is an index map, or `None` if no collection has it
+-- whether the kind with the code is an index map or an index set, or `None` if no kind has it
 abbrev pub index_flag : ℕ → Option Bool
 index_flag kind = cond (kind == 1) (Some false) (cond (kind == 2) (Some false)
-    (cond (kind == 3) (Some true) None))
+    (cond (kind == 3) (Some true) (cond (kind == 4) (Some true) None)))
 
 -- the type of keys with the code, or `None` if no collection has such keys
 abbrev pub key_type : ℕ → Option KeyType
@@ -29,11 +29,12 @@ key_type code = cond (code == 0x14) (Some key.U32) (cond (code == 0x18) (Some ke
     (cond (code == 0x04) (Some key.Text) None))
 
 -- the type of values with the code, or `None` if no collection of the kind has such values.
--- Those of a set are units alone.
+-- Those of sets are units only.
 abbrev pub value_type : ℕ → ℕ → Option ValueType
-value_type kind code = cond (kind == 2) (cond (code == 0x01) (Some value.Unit) None)
+value_type kind code = let unit = cond (code == 0x01) (Some value.Unit) None in
+    cond (kind == 2) unit (cond (kind == 4) unit
     (cond (code == 0x14) (Some value.U32) (cond (code == 0x18) (Some value.U64)
-    (cond (code == 0x04) (Some value.Text) None)))
+    (cond (code == 0x04) (Some value.Text) None))))
 
 -- whether the width with the code is wide, or `None` if no width has it
 abbrev pub wide_flag : ℕ → Option Bool
@@ -51,19 +52,14 @@ collection_of codes = option_map collection_by
 
 -- the spec of a key of the type in an archive of the word
 abbrev pub key_type_spec : Width → KeyType → ElementSpec
-key_type_spec w key.U32 = scalar_spec (unsigned w32)
-key_type_spec w key.U64 = scalar_spec (unsigned w64)
-key_type_spec w key.Text = text_spec w
+key_type_spec w of = (key_type_of w of).spec
 
 -- the spec of a value of the type in an archive of the word
 abbrev pub value_type_spec : Width → ValueType → ElementSpec
-value_type_spec w value.U32 = scalar_spec (unsigned w32)
-value_type_spec w value.U64 = scalar_spec (unsigned w64)
-value_type_spec w value.Text = text_spec w
-value_type_spec w value.Unit = unit_spec
+value_type_spec w of = (value_type_of w of).spec
 
 -- the spec of the header of a hash map with keys of spec `k` and values of spec `v`, or of an
--- index map if the flag is `true`. A hash set is a hash map to units.
+-- index map if the flag is `true`. A set is a map to units.
 abbrev pub root_spec : Bool → Width → ElementSpec → ElementSpec → ElementSpec
 root_spec false w k v = map_spec w k v
 root_spec true w k v = index_map w k v

@@ -1,13 +1,12 @@
--- The archives of index maps: validity, lookups, and pairs by their index.
+-- The archives of index maps: validity, lookups, and items by their index.
 use Rattle.rkyv_base.specs.declared.element.HasSpec.{Ghosts as Specs}
 use Rattle.rkyv_base.specs.declared.width.Word.{Ghosts as Words}
 use Rattle.std.specs.Prelude.{◌≡◌, ℕ, ◌+◌, ◌-◌, ◌<◌, ◌≤◌, ◌⊎◌, Bool, List, MatchOption}
 use Rattle.std.specs.Prelude.{Option, Some, drop, length, min, slice_get}
-use Rattle.std.specs.Borrow.{Bor}
 use Rattle.std.specs.Int.{Width}
 use Rattle.std.specs.Str.{IsUtf8}
 use Rattle.rkyv_scan.specs.{HasherCall}
-use Rattle.rkyv_base.specs.{ElementSpec, IsValidArchive, ScalarRepresents, entry_spec, text_at}
+use Rattle.rkyv_base.specs.{ElementSpec, IsValidArchive, entry_spec, text_at}
 use Rattle.rkyv_base.specs.{value_pos}
 use Rattle.rkyv_keys.specs.{one_call, same_bytes, scalar_fits, text_calls}
 use Rattle.rkyv_table.specs.{len_at}
@@ -18,9 +17,10 @@ use Rattle.ffi_calls.specs.Archives.{hash_by, limit_of, text_key, value_spec}
 use Rattle.ffi_calls.specs.Archives.{word_of}
 use Rattle.ffi_calls.specs.Keys.{NumberKey, NumbersAt}
 use Rattle.ffi_calls.specs.declared.form.Form.{Form}
-use Rattle.ffi_calls.specs.Reading.{ReadsText, ReadsWord}
+use Rattle.ffi_calls.specs.Reading.{ReadsWord}
 use Rattle.ffi_calls.specs.declared.pairs.Indexed.{Indexed}
-use Rattle.ffi_calls.specs.declared.pairs.Pair.{Pair}
+use Rattle.ffi_calls.specs.declared.any_value.AnyItem.{AnyItem}
+use Rattle.ffi_calls.specs.declared.any_value.AnyValue.{AnyValue}
 
 -- the spec of the header of an index map with keys of spec `k` and values of spec `v`
 abbrev pub index_map : Width → ElementSpec → ElementSpec → ElementSpec
@@ -100,29 +100,27 @@ ReturnsIndexed m value at before status after =
     MatchOption at ((status ≡ 1) × (after ≡ before))
     (λ i. (status ≡ 0) × (after.index ≡ i) × value m.bytes (value_pos_at m i) after.value)
 
--- the key and the value of the pair are those at index `i`. `key` and `value`: the stored key and
--- the stored value at a position
-abbrev pub IsIndexPair : {X Y : Type 0} → MapAt → (List ℕ → ℕ → X → Type 0) → (List ℕ → ℕ → Y
-    → Type 0)
-    → ℕ → Pair X Y → Type 0
-IsIndexPair m key value i pair =
-    key m.bytes (pair_pos_at m i) pair.key × value m.bytes (value_pos_at m i) pair.value
+module _ (m : MapAt) (key value : List ℕ → ℕ → AnyValue → Type 0) where
+  -- `item` is that at index `i`, and its `next` is the next index. `key` and `value`: the stored
+  -- key and the stored value at a position
+  abbrev pub IsIndexItem : ℕ → AnyItem → Type 0
+  IsIndexItem i item = (item.next ≡ i + 1) × key m.bytes (pair_pos_at m i) item.key
+      × value m.bytes (value_pos_at m i) item.value
 
--- `result` is the pair at index `i`, or `None` if the map has no such index.
--- `IsPair i pair`: `pair` is the pair at index `i`
-abbrev pub IsPairAtIndex : {P : Type 0} → MapAt → (ℕ → P → Type 0) → ℕ → Option P → Type 0
-IsPairAtIndex m IsPair i result =
-    MatchOption result (pair_count m ≤ i) (λ pair. (i < pair_count m) × IsPair i pair)
+  -- `after` begins with the items from index `from` on, at most as many as `before` has.
+  -- Their number is `count`, and the rest is unchanged.
+  pub record StoresItemsFrom (from : ℕ) (before : List AnyItem) (count : ℕ) (after : List AnyItem)
+      : Type 0 where
+    pub number : count ≡ min (length before) (pair_count m - from)
+    pub items : (i : ℕ) (item : AnyItem) → i < count → slice_get after i ≡ Some item
+        → IsIndexItem (from + i) item
+    pub rest : drop count after ≡ drop count before
 
--- `after` begins with the pairs from index `from` on, at most as many as `before` has.
--- Their number is `count`, and the rest is unchanged.
-pub record StoresPairs {X Y : Type 0} (m : MapAt) (key : List ℕ → ℕ → X → Type 0)
-    (value : List ℕ → ℕ → Y → Type 0) (from : ℕ) (before : List (Pair X Y)) (count : ℕ)
-    (after : List (Pair X Y)) : Type 0 where
-  pub number : count ≡ min (length before) (pair_count m - from)
-  pub pairs : (i : ℕ) (pair : Pair X Y) → i < count → slice_get after i ≡ Some pair
-      → IsIndexPair m key value (from + i) pair
-  pub rest : drop count after ≡ drop count before
+-- `result` is the item at index `i`, or `None` if the map has no such index.
+-- `IsItem i item`: `item` is the item at index `i`
+abbrev pub IsItemAtIndex : MapAt → (ℕ → AnyItem → Type 0) → ℕ → Option AnyItem → Type 0
+IsItemAtIndex m IsItem i result =
+    MatchOption result (pair_count m ≤ i) (λ item. (i < pair_count m) × IsItem i item)
 
 module _ {A : Type 0} (k : NumberKey A) (form : Form) (b : List ℕ) where
   -- the index that a lookup of the number `key` finds
@@ -135,12 +133,6 @@ module _ {A : Type 0} (m : NumbersAt A) where
   abbrev pub ReturnsIndexedNumber : A → Indexed ℕ → ℕ → Indexed ℕ → Type 0
   ReturnsIndexedNumber key = ReturnsIndexed (number_index_in m.key m.form m.bytes)
       (ReadsWord (word_of m.form.long_values)) (number_index_found m.key m.form m.bytes key)
-
-  -- the result of reading the pairs of numbers from an index on
-  abbrev pub StoresNumbers : ℕ → List (Pair A ℕ) → ℕ → List (Pair A ℕ) → Type 0
-  StoresNumbers =
-      StoresPairs (number_index_in m.key m.form m.bytes) (ScalarRepresents m.key.encoding)
-      (ReadsWord (word_of m.form.long_values))
 
 -- the index that a lookup of the text `key` finds
 abbrev pub text_index_found : Form → List ℕ → List ℕ → Option ℕ
@@ -158,9 +150,3 @@ abbrev pub ReturnsIndexedBytes : Form → List ℕ → List ℕ → Indexed ℕ 
 ReturnsIndexedBytes form b key before status after =
     ((IsUtf8 key → ⊥) × (status ≡ 4) × (after ≡ before))
     ⊎ (IsUtf8 key × ReturnsIndexedText form b key before status after)
-
--- the result of reading the pairs of texts and numbers from an index on
-abbrev pub StoresTexts : Form → List ℕ → ℕ → List (Pair (Bor (List ℕ)) ℕ) → ℕ
-    → List (Pair (Bor (List ℕ)) ℕ) → Type 0
-StoresTexts form b = StoresPairs (text_index_in form b) (ReadsText (word_of form.wide))
-    (ReadsWord (word_of form.long_values))

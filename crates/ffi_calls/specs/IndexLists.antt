@@ -1,7 +1,6 @@
 -- Index maps that represent lists of pairs, in terms of the lists alone.
 use Rattle.std.specs.Prelude.{◌≡◌, ℕ, ◌+◌, ◌-◌, ◌<◌, ◌⊎◌, List, None, Some, length}
 use Rattle.std.specs.Prelude.{min, slice_get}
-use Rattle.std.specs.Borrow.{Bor}
 use Rattle.rkyv_base.specs.{ScalarRepresents}
 use Rattle.rkyv_keys.specs.{NativePairs}
 use Rattle.rkyv_collections.specs.{MapAt, ValueQuery}
@@ -9,12 +8,13 @@ use Rattle.rkyv_index.specs.{IndexRepresents, IsFirst}
 use Rattle.ffi_calls.specs.Archives.{value_encoding, word_of}
 use Rattle.ffi_calls.specs.IndexArchives.{number_index_in, text_index_in}
 use Rattle.ffi_calls.specs.Keys.{NumbersAt}
-use Rattle.ffi_calls.specs.Listed.{number_natives, query_of_number, query_of_text, text_natives}
+use Rattle.ffi_calls.specs.Listed.{query_of_number, query_of_text}
 use Rattle.ffi_calls.specs.Lists.{query_pairs}
+use Rattle.ffi_calls.specs.declared.any_value.AnyItem.{AnyItem}
+use Rattle.ffi_calls.specs.declared.any_value.AnyValue.{AnyValue}
 use Rattle.ffi_calls.specs.declared.form.Form.{Form}
-use Rattle.ffi_calls.specs.Reading.{HasBytesOf, IsNumberOf, IsSame}
+use Rattle.ffi_calls.specs.Reading.{IsNumberOf}
 use Rattle.ffi_calls.specs.declared.pairs.Indexed.{Indexed}
-use Rattle.ffi_calls.specs.declared.pairs.Pair.{Pair}
 
 -- the index map represents the pairs, in this order, under the load factor
 abbrev pub IndexRepresentsPairs : {A N : Type 0} → MapAt → NativePairs A N → ℕ × ℕ → List (A × N)
@@ -41,13 +41,13 @@ ReturnsFirstIndexed {A} {B} m a value is_of before status after =
 
 -- `after` begins with the pairs from index `from` of the list on, at most as many as `before` has,
 -- and `count` is their number. `key` and `value`: a stored key or value is that of a native one
-abbrev pub StoresListed : {A B X Y : Type 0} → MapAt → NativePairs A B → (X → A → Type 0)
-    → (Y → B → Type 0) → ℕ → List (Pair X Y) → ℕ → List (Pair X Y) → Type 0
-StoresListed {A} {B} {X} {Y} m native key value from before count after =
+abbrev pub StoresListed : {A B : Type 0} → MapAt → NativePairs A B → (AnyValue → A → Type 0)
+    → (AnyValue → B → Type 0) → ℕ → List AnyItem → ℕ → List AnyItem → Type 0
+StoresListed {A} {B} m native key value from before count after =
     (factor : ℕ × ℕ) (pairs : List (A × B)) → IndexRepresentsPairs m native factor pairs
     → (count ≡ min (length before) (length pairs - from))
-    × ((i : ℕ) (pair : A × B) (stored : Pair X Y) → i < count → slice_get after i ≡ Some stored
-    → slice_get pairs (from + i) ≡ Some pair → key stored.key pair.0 × value stored.value pair.1)
+    × ((i : ℕ) (pair : A × B) (item : AnyItem) → i < count → slice_get after i ≡ Some item
+    → slice_get pairs (from + i) ≡ Some pair → key item.key pair.0 × value item.value pair.1)
 
 module _ {A : Type 0} (m : NumbersAt A) where
   -- the result of a lookup of `key` is of the first pair with the number
@@ -56,21 +56,8 @@ module _ {A : Type 0} (m : NumbersAt A) where
       ReturnsFirstIndexed (number_index_in m.key m.form m.bytes) (query_of_number m.key key)
       (ScalarRepresents e) (IsNumberOf e)
 
-  -- the pairs of numbers that are read from an index on are those of the list
-  abbrev pub StoresListedNumbers : ℕ → List (Pair A ℕ) → ℕ → List (Pair A ℕ) → Type 0
-  StoresListedNumbers = let e = value_encoding m.form in
-      StoresListed (number_index_in m.key m.form m.bytes) (number_natives m.key e) IsSame
-      (IsNumberOf e)
-
 -- the result of a lookup of `key` is of the first pair with the text
 abbrev pub ReturnsFirstIndexedText : Form → List ℕ → List ℕ → Indexed ℕ → ℕ → Indexed ℕ → Type 0
 ReturnsFirstIndexedText form b key = let e = value_encoding form in
     ReturnsFirstIndexed (text_index_in form b) (query_of_text (word_of form.wide) key)
     (ScalarRepresents e) (IsNumberOf e)
-
--- the pairs of texts and numbers that are read from an index on are those of the list
-abbrev pub StoresListedTexts : Form → List ℕ → ℕ → List (Pair (Bor (List ℕ)) ℕ) → ℕ
-    → List (Pair (Bor (List ℕ)) ℕ) → Type 0
-StoresListedTexts form b = let e = value_encoding form in
-    StoresListed (text_index_in form b) (text_natives (word_of form.wide) e) HasBytesOf
-    (IsNumberOf e)

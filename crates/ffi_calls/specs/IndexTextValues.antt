@@ -3,7 +3,7 @@ use Rattle.std.specs.Prelude.{◌≡◌, ℕ, ◌⊎◌, Bool, List, MatchResult
 use Rattle.std.specs.Borrow.{Bor}
 use Rattle.std.specs.Str.{IsUtf8}
 use Rattle.std.specs.declared.vec.Vec.{Vec}
-use Rattle.rkyv_base.specs.{ElementSpec, IsValidArchive, ScalarRepresents, scalar_spec, text_at}
+use Rattle.rkyv_base.specs.{ElementSpec, IsValidArchive, scalar_spec, text_at}
 use Rattle.rkyv_base.specs.{unsigned}
 use Rattle.rkyv_base.specs.declared.errors.WriteError.{WriteError}
 use Rattle.rkyv_base.specs.declared.writer.NoMemory.{NoMemory}
@@ -11,13 +11,13 @@ use Rattle.rkyv_keys.specs.{NativePairs, PairFormat, one_call, same_bytes, scala
 use Rattle.rkyv_collections.specs.{MapAt, ValueQuery}
 use Rattle.rkyv_index.specs.{indices}
 use Rattle.ffi_calls.specs.Archives.{limit_of, word_of}
-use Rattle.ffi_calls.specs.IndexArchives.{ReturnsIndexed, StoresPairs, found_index, index_in}
+use Rattle.ffi_calls.specs.IndexArchives.{ReturnsIndexed, found_index, index_in}
 use Rattle.ffi_calls.specs.IndexArchives.{index_map}
 use Rattle.ffi_calls.specs.IndexItems.{IndexFails, IndexWidth, IsIndexOf}
-use Rattle.ffi_calls.specs.IndexLists.{ReturnsFirstIndexed, StoresListed}
+use Rattle.ffi_calls.specs.IndexLists.{ReturnsFirstIndexed}
 use Rattle.ffi_calls.specs.Keys.{NumberKey, NumberKeysAt}
 use Rattle.ffi_calls.specs.Listed.{TextRepresents, query_of_number, query_of_text}
-use Rattle.ffi_calls.specs.Reading.{HasBytesOf, IsSame, ReadsText}
+use Rattle.ffi_calls.specs.Reading.{HasBytesOf, ReadsText}
 use Rattle.ffi_calls.specs.Status.{write_status}
 use Rattle.ffi_calls.specs.TextItems.{AreNumberTexts, AreTextTexts, NumberTextsFail, TextTextsFail}
 use Rattle.ffi_calls.specs.TextItems.{number_texts_format, number_texts_natives, text_texts_format}
@@ -66,19 +66,6 @@ module _ {A : Type 0} (m : NumberKeysAt A) where
       ReturnsFirstIndexedTextAt m.wide (number_text_index_in m.key m.wide m.bytes)
       (query_of_number m.key key)
 
-  -- the result of reading the pairs of numbers and texts from an index on
-  abbrev pub StoresNumberTexts : ℕ → List (Pair A (Bor (List ℕ))) → ℕ
-      → List (Pair A (Bor (List ℕ))) → Type 0
-  StoresNumberTexts =
-      StoresPairs (number_text_index_in m.key m.wide m.bytes) (ScalarRepresents m.key.encoding)
-      (ReadsText (word_of m.wide))
-
-  -- the pairs of numbers and texts that are read from an index on are those of the list
-  abbrev pub StoresListedNumberTexts : ℕ → List (Pair A (Bor (List ℕ))) → ℕ
-      → List (Pair A (Bor (List ℕ))) → Type 0
-  StoresListedNumberTexts = StoresListed (number_text_index_in m.key m.wide m.bytes)
-      (number_texts_natives m.key (width_by m.wide)) IsSame HasBytesOf
-
 module _ (wide : Bool) where
   -- the spec of the header of an index map of texts to texts, narrow or wide
   abbrev pub text_text_index : ElementSpec
@@ -112,18 +99,6 @@ module _ (wide : Bool) where
       → Indexed (Bor (List ℕ)) → Type 0
   ReturnsFirstIndexedTextOfText b key =
       ReturnsFirstIndexedTextAt wide (text_text_index_in b) (query_of_text (word_of wide) key)
-
-  -- the result of reading the pairs of texts from an index on
-  abbrev pub StoresTextTexts : List ℕ → ℕ → List (Pair (Bor (List ℕ)) (Bor (List ℕ))) → ℕ
-      → List (Pair (Bor (List ℕ)) (Bor (List ℕ))) → Type 0
-  StoresTextTexts b = StoresPairs (text_text_index_in b) (ReadsText (word_of wide))
-      (ReadsText (word_of wide))
-
-  -- the pairs of texts that are read from an index on are those of the list
-  abbrev pub StoresListedTextTexts : List ℕ → ℕ → List (Pair (Bor (List ℕ)) (Bor (List ℕ))) → ℕ
-      → List (Pair (Bor (List ℕ)) (Bor (List ℕ))) → Type 0
-  StoresListedTextTexts b = StoresListed (text_text_index_in b)
-      (text_texts_natives (width_by wide)) HasBytesOf HasBytesOf
 
 -- the results of a write as an index map. `ArePairs`: pairs of the items, `Fails`: status of items
 -- without pairs

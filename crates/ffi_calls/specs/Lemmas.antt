@@ -1,1 +1,2 @@
+pub mod AnyValues
 pub mod Reading

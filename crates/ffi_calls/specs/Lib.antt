@@ -18,6 +18,9 @@ pub mod IndexArchives
 pub mod IndexLists
 pub mod IndexItems
 pub mod IndexInPlace
+pub mod AnyValues
+pub mod TypesOf
+pub mod Iteration
 pub mod IndexTextValues
 pub mod Collections
 pub mod Misplaced
@@ -45,15 +48,15 @@ unfoldable pub use Items.{IsArchiveOfTexts, NumberFits, NumbersWriteFails, Numbe
 unfoldable pub use Items.{PairsOfNumbersFail, PairsOfTextsFail, TextFits, TextItemFails}
 unfoldable pub use Items.{TextPairsFail, TextsWriteFails, TextsWriteOk, WritesNumbers, number_pair}
 unfoldable pub use Items.{numbers_format, text_number_model, text_pair, width_of}
-unfoldable pub use Walking.{AreStepsIn, FindsNext, FindsNextPair, IsNextBucket, IsPairIn}
-unfoldable pub use Walking.{StoresNextPairs, StoresSteps, bucket_pair_pos, buckets_from}
-unfoldable pub use Calls.{ReturnsNumber, ReturnsText, SetsNumber, SetsText, StoresNextNumbers}
-unfoldable pub use Calls.{StoresNextTexts, number_found, text_found}
+unfoldable pub use Walking.{AreItemsIn, FindsNextItem, IsItemIn, IsNextBucket, StoresNextItems}
+unfoldable pub use Walking.{bucket_pair_pos, buckets_from}
+unfoldable pub use Calls.{ReturnsNumber, ReturnsText, SetsNumber, SetsText, number_found}
+unfoldable pub use Calls.{text_found}
 unfoldable pub use TextValues.{IsNumberTextArchive, IsTextTextArchive, ReturnsFirstTextOfNumber}
 unfoldable pub use TextValues.{ReturnsFirstTextOfText, ReturnsFirstTextValue, ReturnsTextAt}
-unfoldable pub use TextValues.{ReturnsTextOfNumber, ReturnsTextOfText, StoresNextNumberTexts}
-unfoldable pub use TextValues.{StoresNextTextTexts, number_text_map, number_texts_in, text_by}
-unfoldable pub use TextValues.{text_of_text_found, text_text_map, text_texts_in, to_texts_in}
+unfoldable pub use TextValues.{ReturnsTextOfNumber, ReturnsTextOfText, number_text_map}
+unfoldable pub use TextValues.{number_texts_in, text_by, text_of_text_found, text_text_map}
+unfoldable pub use TextValues.{text_texts_in, to_texts_in}
 unfoldable pub use TextItems.{ArchiveOfNumberTextsFails, ArchiveOfTextTextsFails, AreNumberTexts}
 unfoldable pub use TextItems.{ArePairsOf, AreTextTexts, IsArchiveOfNumberTexts}
 unfoldable pub use TextItems.{IsArchiveOfTextTexts, ItemsWriteFails, ItemsWriteOk, NumberTextFits}
@@ -70,26 +73,23 @@ unfoldable pub use Explanation.{ExplainsAs, ExplainsContainer, explain, explain_
 unfoldable pub use Explanation.{explained, nearest}
 pub use Explanation.{Explains}
 unfoldable pub use Sets.{FindsItem, FindsListedNumber, FindsListedText, FindsNumber, FindsText}
-unfoldable pub use Sets.{IsFoundStatus, IsNumberSet, IsTextSet, StoresNextNumberMembers}
-unfoldable pub use Sets.{StoresNextTextMembers, member_found, number_set, number_set_in, set_in}
-unfoldable pub use Sets.{text_set, text_set_in}
+unfoldable pub use Sets.{IsFoundStatus, IsNumberSet, IsTextSet, member_found, number_set}
+unfoldable pub use Sets.{number_set_in, set_in, text_set, text_set_in}
 unfoldable pub use SetItems.{ArchiveOfNumberSetFails, ArchiveOfTextSetFails, AreSetTexts}
 unfoldable pub use SetItems.{IsArchiveOfNumberSet, IsArchiveOfTextSet, IsSetArchive}
 unfoldable pub use SetItems.{NumberSetWriteFails, NumberSetWriteOk, SetArchiveFails}
 unfoldable pub use SetItems.{SetArchivesRepresent, SetTextFits, SetTextsFail, TextSetWriteFails}
 unfoldable pub use SetItems.{TextSetWriteOk, fx_hash_at, items_format, number_items, set_text_image}
 unfoldable pub use SetItems.{set_text_model, text_items}
-unfoldable pub use IndexArchives.{IsIndexArchive, IsIndexPair, IsNumberIndex, IsPairAtIndex}
+unfoldable pub use IndexArchives.{IsIndexArchive, IsIndexItem, IsItemAtIndex, IsNumberIndex}
 unfoldable pub use IndexArchives.{IsTextIndex, ReturnsIndexed, ReturnsIndexedBytes}
-unfoldable pub use IndexArchives.{ReturnsIndexedNumber, ReturnsIndexedText, StoresNumbers}
-unfoldable pub use IndexArchives.{StoresTexts, found_index, index_at, index_in, index_map}
-unfoldable pub use IndexArchives.{index_root, number_index, number_index_found, number_index_in}
-unfoldable pub use IndexArchives.{pair_count, pair_pos_at, text_index, text_index_found}
-unfoldable pub use IndexArchives.{text_index_in, value_pos_at}
-pub use IndexArchives.{StoresPairs}
+unfoldable pub use IndexArchives.{ReturnsIndexedNumber, ReturnsIndexedText, found_index, index_at}
+unfoldable pub use IndexArchives.{index_in, index_map, index_root, number_index, number_index_found}
+unfoldable pub use IndexArchives.{number_index_in, pair_count, pair_pos_at, text_index}
+unfoldable pub use IndexArchives.{text_index_found, text_index_in, value_pos_at}
+pub use IndexArchives.{StoresItemsFrom}
 unfoldable pub use IndexLists.{HasValueAt, IndexRepresentsPairs, ReturnsFirstIndexed}
 unfoldable pub use IndexLists.{ReturnsFirstIndexedNumber, ReturnsFirstIndexedText, StoresListed}
-unfoldable pub use IndexLists.{StoresListedNumbers, StoresListedTexts}
 unfoldable pub use IndexItems.{IndexFails, IndexOfNumbersFails, IndexOfTextsFails, IndexesRepresent}
 unfoldable pub use IndexItems.{IsIndexOf, IsIndexOfNumbers, IsIndexOfTexts, NumberIndexWriteFails}
 unfoldable pub use IndexItems.{NumberIndexWriteOk, TextIndexWriteFails, TextIndexWriteOk}
@@ -100,6 +100,16 @@ unfoldable pub use IndexInPlace.{SetsFirstIndexed, SetsFirstIndexedNumber, SetsF
 unfoldable pub use IndexInPlace.{SetsIndexedBytes, SetsIndexedNumber, SetsIndexedText}
 unfoldable pub use IndexInPlace.{value_found_in}
 pub use IndexInPlace.{OverwritesIndexedText}
+unfoldable pub use AnyValues.{HasCode, HasNumber, IsAny, IsCodeNumber, IsNoCode, IsNoText}
+unfoldable pub use AnyValues.{IsTextFor, Never, ReadsBytes, ReadsNumber, ReadsUnit}
+unfoldable pub use TypesOf.{NativeKeyMembers, NativeValueMembers, StoredKeyMembers}
+unfoldable pub use TypesOf.{StoredValueMembers, key_members, key_type_of, scalar_keys}
+unfoldable pub use TypesOf.{scalar_values, text_keys, text_values, types_by, types_of, unit_values}
+unfoldable pub use TypesOf.{value_members, value_type_of}
+pub use TypesOf.{KeyTypes, Types, ValueTypes}
+unfoldable pub use Iteration.{IsArchiveOfTypes, StoresItems, StoresItemsByCodes, StoresItemsIn}
+unfoldable pub use Iteration.{types_in, types_spec}
+pub use Iteration.{CanIterate, StoresFromIndex}
 unfoldable pub use IndexTextValues.{IndexOfNumberTextsFails, IndexOfTextTextsFails, IndexWriteFails}
 unfoldable pub use IndexTextValues.{IndexWriteOk, IsIndexOfNumberTexts, IsIndexOfTextTexts}
 unfoldable pub use IndexTextValues.{IsNumberTextIndex, IsTextTextIndex, NumberTextIndexWriteFails}
@@ -107,11 +117,9 @@ unfoldable pub use IndexTextValues.{NumberTextIndexWriteOk, ReturnsFirstIndexedT
 unfoldable pub use IndexTextValues.{ReturnsFirstIndexedTextOfNumber, ReturnsFirstIndexedTextOfText}
 unfoldable pub use IndexTextValues.{ReturnsIndexedTextAt, ReturnsIndexedTextOfBytes}
 unfoldable pub use IndexTextValues.{ReturnsIndexedTextOfNumber, ReturnsIndexedTextOfText}
-unfoldable pub use IndexTextValues.{StoresListedNumberTexts, StoresListedTextTexts}
-unfoldable pub use IndexTextValues.{StoresNumberTexts, StoresTextTexts, TextTextIndexWriteFails}
-unfoldable pub use IndexTextValues.{TextTextIndexWriteOk, WritesNumberTextIndex, index_width_by}
-unfoldable pub use IndexTextValues.{number_text_index, number_text_index_in, text_text_index}
-unfoldable pub use IndexTextValues.{text_text_index_in}
+unfoldable pub use IndexTextValues.{TextTextIndexWriteFails, TextTextIndexWriteOk}
+unfoldable pub use IndexTextValues.{WritesNumberTextIndex, index_width_by, number_text_index}
+unfoldable pub use IndexTextValues.{number_text_index_in, text_text_index, text_text_index_in}
 unfoldable pub use Collections.{ExplainsByCodes, IsHeaderByCodes, IsValidByCodes, OpensByCodes}
 unfoldable pub use Collections.{collection_by, collection_in, collection_of, collection_spec}
 unfoldable pub use Collections.{index_flag, key_type, key_type_spec, root_in, root_spec, value_type}

@@ -1,5 +1,5 @@
 -- The misplaced keys of collections, by the codes of their contents.
-use Rattle.std.specs.Prelude.{◌≡◌, ℕ, ◌<◌, ◌^◌, ◌≤◌, ◌⊎◌, Bool, true, false, IfSome, List}
+use Rattle.std.specs.Prelude.{◌≡◌, ℕ, ◌<◌, ◌≤◌, ◌⊎◌, Bool, true, false, IfSome, List}
 use Rattle.std.specs.Prelude.{MatchOption, Option}
 use Rattle.std.specs.Int.{Width}
 use Rattle.rkyv_scan.specs.{HasherCall}
@@ -52,20 +52,21 @@ module _ (m : MapAt) (same : Comparison) (calls : List ℕ → ℕ → List Hash
   abbrev pub misplaced_in : Bool → ℕ
   misplaced_in false =
       map_misplaced m.word m.key m.value (fx_hash_at calls) same m.bytes m.pos
-  misplaced_in true = index_misplaced (index_with_keys m) (fx_hash_at calls) same
+  misplaced_in true =
+      index_misplaced (index_with_keys m) (record { hash = fx_hash_at calls; same = same })
 
   -- the number of strides that the lookups of all keys read
   abbrev pub strides_in : Bool → ℕ
   strides_in false = map_strides m.word m.key m.value (fx_hash_at calls) same m.bytes m.pos
-  strides_in true = keys_strides (index_with_keys m) (fx_hash_at calls) same
+  strides_in true =
+      keys_strides (index_with_keys m) (record { hash = fx_hash_at calls; same = same })
 
   -- `result`: number of misplaced keys, or `None` if the lookups of all keys read more
-  -- than `limit` strides, or more than 2^63
+  -- than `limit` strides
   abbrev pub CountsIn : Bool → ℕ → Option ℕ → Type 0
   CountsIn indexed limit result =
-      MatchOption result ((limit < strides_in indexed) ⊎ (2 ^ 63 < strides_in indexed))
-      (λ n. (strides_in indexed ≤ limit) × (strides_in indexed ≤ 2 ^ 63)
-      × (n ≡ misplaced_in indexed))
+      MatchOption result (limit < strides_in indexed)
+      (λ n. (strides_in indexed ≤ limit) × (n ≡ misplaced_in indexed))
 
 -- the number of misplaced keys of the collection at the root of an archive
 abbrev pub misplaced_of : Collection → List ℕ → ℕ
@@ -78,11 +79,11 @@ strides_of c b = let w = word_of c.wide in
     strides_in (collection_in c b) (key_type_same w c.key) (key_type_calls w c.key) c.indexed
 
 -- The status is 0 and `after` is the number `misplaced`. The status is 15 and `after` is `before`
--- if the number of strides is greater than `limit`, or greater than 2^63
+-- if the number of strides is greater than `limit`
 abbrev pub StoresMisplaced : ℕ → ℕ → ℕ → ℕ → ℕ → ℕ → Type 0
 StoresMisplaced misplaced strides limit before status after =
-    ((strides ≤ limit) × (strides ≤ 2 ^ 63) × (status ≡ 0) × (after ≡ misplaced))
-    ⊎ (((limit < strides) ⊎ (2 ^ 63 < strides)) × (status ≡ 15) × (after ≡ before))
+    ((strides ≤ limit) × (status ≡ 0) × (after ≡ misplaced))
+    ⊎ ((limit < strides) × (status ≡ 15) × (after ≡ before))
 
 -- the number of misplaced keys of the collection with the codes at the root of `b` is stored,
 -- unless the lookups of all its keys read more than `limit` strides

@@ -1,21 +1,16 @@
 -- Sets: their archives, and the results of lookups and iterations.
 use Rattle.std.specs.Prelude.{◌≡◌, ℕ, ◌⊎◌, Bool, List, MatchOption, Option}
-use Rattle.std.specs.Borrow.{Bor}
 use Rattle.std.specs.Int.{Width}
 use Rattle.std.specs.List.{find}
 use Rattle.std.specs.Str.{IsUtf8}
-use Rattle.rkyv_base.specs.{ElementSpec, IsValidArchive, ScalarRepresents, text_at, unit_represents}
+use Rattle.rkyv_base.specs.{ElementSpec, IsValidArchive, text_at}
 use Rattle.rkyv_base.specs.{unit_spec}
 use Rattle.rkyv_keys.specs.{one_call, same_bytes, scalar_fits, text_calls}
 use Rattle.rkyv_collections.specs.{MapAt, SetRepresents, ValueQuery, set_spec}
 use Rattle.ffi_calls.specs.Archives.{limit_of, map_in, value_found, word_of}
-use Rattle.ffi_calls.specs.Keys.{NumberKey, NumberKeysAt}
+use Rattle.ffi_calls.specs.Keys.{NumberKey}
 use Rattle.ffi_calls.specs.Listed.{query_of_number, query_of_text}
 use Rattle.ffi_calls.specs.TextValues.{text_by}
-use Rattle.ffi_calls.specs.Reading.{ReadsText}
-use Rattle.ffi_calls.specs.Walking.{StoresNextPairs}
-use Rattle.ffi_calls.specs.declared.pairs.Pair.{Pair}
-use Rattle.ffi_calls.specs.declared.pairs.Step.{Step}
 
 -- the set with items of spec `k` at the root of an archive, as the map of its items to units
 abbrev pub set_in : Width → ElementSpec → List ℕ → MapAt
@@ -78,17 +73,3 @@ FindsText wide b item status = ((IsUtf8 item → ⊥) × (status ≡ 4))
 -- the result of a lookup is whether a listed item is the text
 abbrev pub FindsListedText : Bool → List ℕ → List ℕ → ℕ → Type 0
 FindsListedText wide b item = FindsItem (text_set_in wide b) (query_of_text (word_of wide) item)
-
--- the result of steps to the next items of a set of numbers
-abbrev pub StoresNextNumberMembers : {A : Type 0} → NumberKeysAt A → ℕ
-    → List (Step (Pair A (Unit {0}))) → ℕ → List (Step (Pair A (Unit {0}))) → Type 0
-StoresNextNumberMembers m =
-    StoresNextPairs (number_set_in m.key m.wide m.bytes) (ScalarRepresents m.key.encoding)
-    unit_represents
-
--- the result of steps to the next items of a set of texts
-abbrev pub StoresNextTextMembers : Bool → List ℕ → ℕ
-    → List (Step (Pair (Bor (List ℕ)) (Unit {0}))) → ℕ
-    → List (Step (Pair (Bor (List ℕ)) (Unit {0}))) → Type 0
-StoresNextTextMembers wide b =
-    StoresNextPairs (text_set_in wide b) (ReadsText (word_of wide)) unit_represents

@@ -3,7 +3,7 @@ use Rattle.std.specs.Prelude.{◌≡◌, ℕ, ◌⊎◌, Bool, List, Option}
 use Rattle.std.specs.Borrow.{Bor}
 use Rattle.std.specs.Int.{Width}
 use Rattle.std.specs.Str.{IsUtf8}
-use Rattle.rkyv_base.specs.{ElementSpec, IsValidArchive, ScalarRepresents, text_at, text_spec}
+use Rattle.rkyv_base.specs.{ElementSpec, IsValidArchive, text_at, text_spec}
 use Rattle.rkyv_keys.specs.{one_call, same_bytes, scalar_fits, text_calls}
 use Rattle.rkyv_collections.specs.{MapAt, ValueQuery, map_spec}
 use Rattle.ffi_calls.specs.Archives.{ReturnsAt, limit_of, map_in, value_found, word_of}
@@ -11,9 +11,6 @@ use Rattle.ffi_calls.specs.Keys.{NumberKey, NumberKeysAt}
 use Rattle.ffi_calls.specs.Listed.{TextRepresents, query_of_number, query_of_text}
 use Rattle.ffi_calls.specs.Lists.{ReturnsFirst}
 use Rattle.ffi_calls.specs.Reading.{HasBytesOf, ReadsText}
-use Rattle.ffi_calls.specs.Walking.{StoresNextPairs}
-use Rattle.ffi_calls.specs.declared.pairs.Pair.{Pair}
-use Rattle.ffi_calls.specs.declared.pairs.Step.{Step}
 
 -- the spec of a text, narrow or wide
 abbrev pub text_by : Bool → ElementSpec
@@ -88,17 +85,3 @@ abbrev pub ReturnsFirstTextOfText : Bool → List ℕ → List ℕ → Bor (List
     → Type 0
 ReturnsFirstTextOfText wide b key =
     ReturnsFirstTextValue (text_texts_in wide b) (query_of_text (word_of wide) key)
-
--- the result of steps to the next pairs of a map of numbers to texts
-abbrev pub StoresNextNumberTexts : {A : Type 0} → NumberKeysAt A → ℕ
-    → List (Step (Pair A (Bor (List ℕ)))) → ℕ → List (Step (Pair A (Bor (List ℕ)))) → Type 0
-StoresNextNumberTexts m =
-    StoresNextPairs (number_texts_in m.key m.wide m.bytes) (ScalarRepresents m.key.encoding)
-    (ReadsText (word_of m.wide))
-
--- the result of steps to the next pairs of a map of texts to texts
-abbrev pub StoresNextTextTexts : Bool → List ℕ → ℕ
-    → List (Step (Pair (Bor (List ℕ)) (Bor (List ℕ)))) → ℕ
-    → List (Step (Pair (Bor (List ℕ)) (Bor (List ℕ)))) → Type 0
-StoresNextTextTexts wide b = StoresNextPairs (text_texts_in wide b) (ReadsText (word_of wide))
-    (ReadsText (word_of wide))

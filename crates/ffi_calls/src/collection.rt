@@ -5,7 +5,7 @@
 //! the condition of the calls for their collection.
 //!
 //! The codes are those in the header of a container. `docs/FORMAT.md` lists them. A container may
-//! have contents of which this library has no collection, as an index set. Their codes are unknown
+//! have contents of which this library has no collection, as signed keys. Their codes are unknown
 //! here, as those that no contents have.
 
 ghost use Rattle.std.specs.Prelude.{◌≡◌};
@@ -52,7 +52,7 @@ pub enum ValueType {
 /// The type of an archived collection.
 #[derive(Clone, Copy)]
 pub struct Collection {
-    /// Whether it is an index map, in place of a hash map or a hash set.
+    /// Whether it is an index map or an index set, in place of a hash map or a hash set.
     pub indexed: bool,
     /// The type of the keys.
     pub key: KeyType,
@@ -62,13 +62,15 @@ pub struct Collection {
     pub wide: bool,
 }
 
-/// Returns whether the kind with this code is an index map, or `None` if no collection has it.
+/// Returns whether the kind with this code is an index map or an index set.
+///
+/// The result is `None` if no kind has the code.
 fn index_flag(kind: u8) -> Option<bool>
     ensures { result ≡ index_flag kind }
 {
     match kind {
         1 | 2 => Some(false),
-        3 => Some(true),
+        3 | 4 => Some(true),
         _ => None,
     }
 }
@@ -91,8 +93,8 @@ fn value_type(kind: u8, code: u8) -> Option<ValueType>
     ensures { result ≡ value_type kind code }
 {
     match (kind, code) {
-        (2, 0x01) => Some(ValueType::Unit),
-        (2, _) => None,
+        (2 | 4, 0x01) => Some(ValueType::Unit),
+        (2 | 4, _) => None,
         (_, 0x14) => Some(ValueType::U32),
         (_, 0x18) => Some(ValueType::U64),
         (_, 0x04) => Some(ValueType::Text),

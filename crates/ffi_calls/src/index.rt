@@ -1,15 +1,18 @@
-//! Index maps: the map in a valid archive, lookups of keys, and pairs by index.
+//! Index maps: the map in a valid archive, lookups of keys, and items by index.
 
-ghost use Rattle.std.specs.Prelude.{drop, map, ◌≡◌};
+ghost use Rattle.std.specs.Prelude.{◌+◌, ◌<◌, ◌^◌, ◌≡◌};
 ghost use Rattle.rkyv_index.specs.{index_bytes, index_pos};
-ghost use Rattle.ffi_calls.specs.{IsHeaderOf, IsIndexArchive, IsIndexPair, IsPairAtIndex};
-ghost use Rattle.ffi_calls.specs.{ReturnsFirstIndexed, ReturnsIndexed, StoresListed, StoresPairs};
+ghost use Rattle.ffi_calls.specs.{IsHeaderOf, IsIndexArchive, IsIndexItem, IsItemAtIndex};
+ghost use Rattle.ffi_calls.specs.{ReturnsFirstIndexed, ReturnsIndexed, StoresItemsFrom};
+ghost use Rattle.ffi_calls.specs.{StoresListed};
 ghost use Rattle.ffi_calls.specs.{found_index, fx_pairs, index_at, index_in, index_root};
 ghost use Rattle.ffi_calls.specs.{query_of_key};
 
-use crate::pairs::{Indexed, IndexedOf, Pair, PairOf};
+use crate::any_value::{AnyItem, ToAny};
+use crate::pairs::{Indexed, IndexedOf};
 use crate::reading::{ReadAs, StoresNative};
 use crate::status::{DONE, NOT_FOUND};
+use crate::types::{StoredKey, StoredValue};
 use rkyv_base::{Element, Represents, access_unchecked};
 use rkyv_index::map::laws::lookups_find_listed;
 use rkyv_index::{ArchivedIndexMap, IndexMapOf, IndexWidth};
@@ -94,47 +97,43 @@ pub(crate) fn find_in<
     }
 }
 
-/// Returns the pair at an index of a map, or `None` if the index isn't below the length.
+/// Returns the item at an index of a map, or `None` if the index isn't below the length.
 #[inline]
-fn pair_of<'a, X, Y, K: ReadAs<'a, X>, V: ReadAs<'a, Y>, W: IndexWidth>(
+fn item_of<'a, K: ToAny, V: ToAny, W: IndexWidth>(
     map: ArchivedIndexMap<'a, K, V, FxHasher64, W>,
     index: usize,
-) -> Option<Pair<X, Y>>
+) -> Option<AnyItem<'a>>
+    requires { index + 1 < 2 ^ 64 }
     ensures { let m = index_at map.entry in
-        IsPairAtIndex m (IsIndexPair m K.reads V.reads) index result }
+        IsItemAtIndex m (IsIndexItem m K.any V.any) index result }
 {
     let (key, value) = map.get_index(index)?;
-    Some(Pair {
-        value: V::read_as(value),
-        key: K::read_as(key),
+    Some(AnyItem {
+        next: (index + 1) as u64,
+        key: K::to_any(key),
+        value: V::to_any(value),
     })
 }
 
-/// Stores the pairs from an index on of the map in a valid archive, and returns their number.
-pub(crate) fn pairs_in<
-    'a,
-    X: Copy,
-    A,
-    Y: Copy,
-    B,
-    P: PairOf<X, Y>,
-    K: KeyElement + ReadAs<'a, X> + StoresNative<X, A>,
-    V: ReadAs<'a, Y> + StoresNative<Y, B>,
-    W: IndexWidth,
->(archive: &'a [u8], header: &Decoded, from: usize, pairs: &mut [P]) -> usize
+/// Stores the items from an index on of the map in a valid archive, and returns their number.
+pub(crate) fn items_in<'a, A, B, K: StoredKey<A>, V: StoredValue<B>, W: IndexWidth>(
+    archive: &'a [u8],
+    header: &Decoded,
+    from: usize,
+    items: &mut [AnyItem<'a>],
+) -> usize
     requires archive { IsIndexArchive W.word W.LIMIT K.spec V.spec archive.now }
     requires header { IsHeaderOf (index_in W.word K.spec V.spec archive.now) header.now }
-    ensures stores { StoresPairs (index_in W.word K.spec V.spec archive.now) K.reads V.reads from
-        (map P.pair_of pairs.old) result (map P.pair_of pairs.new) }
+    ensures stores { StoresItemsFrom (index_in W.word K.spec V.spec archive.now) K.any V.any from
+        items.old result items.new }
     ensures listed { StoresListed (index_in W.word K.spec V.spec archive.now)
-        (fx_pairs K.represents V.represents K.key_calls) K.is_of V.is_of from
-        (map P.pair_of pairs.old) result (map P.pair_of pairs.new) }
-    ensures rest { drop result pairs.new ≡ drop result pairs.old }
+        (fx_pairs K.represents V.represents K.key_calls) K.is_of V.is_of from items.old result
+        items.new }
 {
     let map = index_of::<K, V, W>(archive, header);
-    let number = pairs.len().min(map.len().saturating_sub(from));
+    let number = items.len().min(map.len().saturating_sub(from));
     for count in 0..number {
-        pairs[count] = P::of_pair(pair_of::<X, Y, K, V, W>(map, from + count).unwrap());
+        items[count] = item_of::<K, V, W>(map, from + count).unwrap();
     }
     number
 }

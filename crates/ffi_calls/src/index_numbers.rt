@@ -2,16 +2,15 @@
 //!
 //! All calls require a valid archive.
 
-ghost use Rattle.std.specs.Prelude.{drop, map, ◌≡◌};
 ghost use Rattle.ffi_calls.specs.{IsHeaderOf, IsNumberIndex, KeepsHeader};
 ghost use Rattle.ffi_calls.specs.{ReturnsFirstIndexedNumber, ReturnsIndexedNumber};
-ghost use Rattle.ffi_calls.specs.{SetsFirstIndexedNumber, SetsIndexedNumber, StoresListedNumbers};
-ghost use Rattle.ffi_calls.specs.{StoresNumbers, number_index_in, numbers_at};
+ghost use Rattle.ffi_calls.specs.{SetsFirstIndexedNumber, SetsIndexedNumber};
+ghost use Rattle.ffi_calls.specs.{number_index_in, numbers_at};
 
 use crate::form::Form;
-use crate::index::{find_in, pairs_in, typed_index_header};
+use crate::index::{find_in, typed_index_header};
 use crate::index_in_place::set_indexed_in;
-use crate::pairs::{IndexedOf, PairOf};
+use crate::pairs::IndexedOf;
 use crate::reading::NumberKey;
 use rkyv_base::{Narrow, Wide};
 use rkyv_table::table::decoded::Decoded;
@@ -98,58 +97,5 @@ pub fn set_index_number<K: NumberKey>(archive: &mut [u8], form: Form, key: K, va
         (true, false) => set_indexed_in::<K, K, u64, Narrow>(archive, &key, value),
         (false, true) => set_indexed_in::<K, K, u32, Wide>(archive, &key, value),
         (true, true) => set_indexed_in::<K, K, u64, Wide>(archive, &key, value),
-    }
-}
-
-/// Stores the pairs from the index `from` on, in insertion order, and returns their number.
-///
-/// If fewer pairs are stored than `pairs` has room for, no pair remains.
-///
-/// # Requires
-///
-/// - The archive is valid: `open_archive` returned `DONE` for the map's codes.
-/// - `header` is its decoded header.
-pub fn index_numbers_from<K: NumberKey, P: PairOf<K, u64>>(
-    archive: &[u8],
-    form: Form,
-    header: &Decoded,
-    from: usize,
-    pairs: &mut [P],
-) -> usize
-    requires archive { IsNumberIndex K.NumberKey form archive.now }
-    requires header { IsHeaderOf (number_index_in K.NumberKey form archive.now) header.now }
-    ensures stores { StoresNumbers (numbers_at K.NumberKey form archive.now) from (map P.pair_of
-        pairs.old) result (map P.pair_of pairs.new) }
-    ensures listed { StoresListedNumbers (numbers_at K.NumberKey form archive.now) from (map
-        P.pair_of pairs.old) result (map P.pair_of pairs.new) }
-    ensures rest { drop result pairs.new ≡ drop result pairs.old }
-{
-    match (form.long_values, form.wide) {
-        (false, false) => {
-            pairs_in::<K, K, u64, u32, P, K, u32, Narrow>(
-                archive,
-                &typed_index_header::<K, u32, Narrow>(archive, header),
-                from,
-                pairs,
-            )
-        }
-        (true, false) => pairs_in::<K, K, u64, u64, P, K, u64, Narrow>(
-            archive,
-            &typed_index_header::<K, u64, Narrow>(archive, header),
-            from,
-            pairs,
-        ),
-        (false, true) => pairs_in::<K, K, u64, u32, P, K, u32, Wide>(
-            archive,
-            &typed_index_header::<K, u32, Wide>(archive, header),
-            from,
-            pairs,
-        ),
-        (true, true) => pairs_in::<K, K, u64, u64, P, K, u64, Wide>(
-            archive,
-            &typed_index_header::<K, u64, Wide>(archive, header),
-            from,
-            pairs,
-        ),
     }
 }

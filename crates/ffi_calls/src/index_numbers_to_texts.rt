@@ -2,13 +2,12 @@
 //!
 //! All calls require a valid archive.
 
-ghost use Rattle.std.specs.Prelude.{drop, map, ◌≡◌};
 ghost use Rattle.ffi_calls.specs.{IsHeaderOf, IsNumberTextIndex, ReturnsFirstIndexedTextOfNumber};
-ghost use Rattle.ffi_calls.specs.{ReturnsIndexedTextOfNumber, StoresListedNumberTexts};
-ghost use Rattle.ffi_calls.specs.{StoresNumberTexts, number_keys_at, number_text_index_in};
+ghost use Rattle.ffi_calls.specs.{ReturnsIndexedTextOfNumber};
+ghost use Rattle.ffi_calls.specs.{number_keys_at, number_text_index_in};
 
-use crate::index::{find_in, pairs_in, typed_index_header};
-use crate::pairs::{IndexedOf, PairOf};
+use crate::index::{find_in, typed_index_header};
+use crate::pairs::IndexedOf;
 use crate::reading::NumberKey;
 use rkyv_base::{Narrow, Text, Wide};
 use rkyv_table::table::decoded::Decoded;
@@ -51,46 +50,6 @@ pub fn get_index_text_of_number<'a, K: NumberKey, I: IndexedOf<&'a [u8]>>(
             &typed_index_header::<K, Text<Narrow>, Narrow>(archive, header),
             &key,
             found,
-        )
-    }
-}
-
-/// Stores the pairs from the index `from` on, in insertion order, and returns their number.
-///
-/// If fewer pairs are stored than `pairs` has room for, no pair remains.
-///
-/// # Requires
-///
-/// - The archive is valid: `open_archive` returned `DONE` for the map's codes.
-/// - `header` is its decoded header.
-pub fn index_number_texts_from<'a, K: NumberKey, P: PairOf<K, &'a [u8]>>(
-    archive: &'a [u8],
-    wide: bool,
-    header: &Decoded,
-    from: usize,
-    pairs: &mut [P],
-) -> usize
-    requires archive { IsNumberTextIndex K.NumberKey wide archive.now }
-    requires header { IsHeaderOf (number_text_index_in K.NumberKey wide archive.now) header.now }
-    ensures stores { StoresNumberTexts (number_keys_at K.NumberKey wide archive.now) from (map
-        P.pair_of pairs.old) result (map P.pair_of pairs.new) }
-    ensures listed { StoresListedNumberTexts (number_keys_at K.NumberKey wide archive.now) from (map
-        P.pair_of pairs.old) result (map P.pair_of pairs.new) }
-    ensures rest { drop result pairs.new ≡ drop result pairs.old }
-{
-    if wide {
-        pairs_in::<K, K, &[u8], &str, P, K, Text<Wide>, Wide>(
-            archive,
-            &typed_index_header::<K, Text<Wide>, Wide>(archive, header),
-            from,
-            pairs,
-        )
-    } else {
-        pairs_in::<K, K, &[u8], &str, P, K, Text<Narrow>, Narrow>(
-            archive,
-            &typed_index_header::<K, Text<Narrow>, Narrow>(archive, header),
-            from,
-            pairs,
         )
     }
 }

@@ -2,17 +2,16 @@
 //!
 //! All calls require a valid archive.
 
-ghost use Rattle.std.specs.Prelude.{drop, map, ◌≡◌};
 ghost use Rattle.std.specs.Str.{IsUtf8};
 ghost use Rattle.ffi_calls.specs.{IsHeaderOf, IsTextIndex, KeepsHeader, OverwritesIndexedText};
 ghost use Rattle.ffi_calls.specs.{ReturnsFirstIndexedText, ReturnsIndexedBytes, ReturnsIndexedText};
-ghost use Rattle.ffi_calls.specs.{SetsFirstIndexedText, SetsIndexedBytes, StoresListedTexts};
-ghost use Rattle.ffi_calls.specs.{StoresTexts, text_index_in};
+ghost use Rattle.ffi_calls.specs.{SetsFirstIndexedText, SetsIndexedBytes};
+ghost use Rattle.ffi_calls.specs.{text_index_in};
 
 use crate::form::Form;
-use crate::index::{find_in, pairs_in, typed_index_header};
+use crate::index::{find_in, typed_index_header};
 use crate::index_in_place::set_indexed_in;
-use crate::pairs::{IndexedOf, PairOf};
+use crate::pairs::IndexedOf;
 use crate::status::NOT_TEXT;
 use crate::texts::text_of;
 use rkyv_base::{Narrow, Text, Wide};
@@ -135,64 +134,5 @@ pub fn set_index_text(archive: &mut [u8], form: Form, key: &[u8], value: u64) ->
     match text_of(key) {
         Some(text) => set_of(archive, form, text, value),
         None => NOT_TEXT,
-    }
-}
-
-/// Stores the pairs from the index `from` on, in insertion order, and returns their number.
-///
-/// If fewer pairs are stored than `pairs` has room for, no pair remains.
-///
-/// # Requires
-///
-/// - The archive is valid: `open_archive` returned `DONE` for the map's codes.
-/// - `header` is its decoded header.
-pub fn index_texts_from<'a, P: PairOf<&'a [u8], u64>>(
-    archive: &'a [u8],
-    form: Form,
-    header: &Decoded,
-    from: usize,
-    pairs: &mut [P],
-) -> usize
-    requires archive { IsTextIndex form archive.now }
-    requires header { IsHeaderOf (text_index_in form archive.now) header.now }
-    ensures stores { StoresTexts form archive.now from (map P.pair_of pairs.old) result (map
-        P.pair_of pairs.new) }
-    ensures listed { StoresListedTexts form archive.now from (map P.pair_of pairs.old) result (map
-        P.pair_of pairs.new) }
-    ensures rest { drop result pairs.new ≡ drop result pairs.old }
-{
-    match (form.long_values, form.wide) {
-        (false, false) => {
-            pairs_in::<&[u8], &str, u64, u32, P, Text<Narrow>, u32, Narrow>(
-                archive,
-                &typed_index_header::<Text<Narrow>, u32, Narrow>(archive, header),
-                from,
-                pairs,
-            )
-        }
-        (true, false) => {
-            pairs_in::<&[u8], &str, u64, u64, P, Text<Narrow>, u64, Narrow>(
-                archive,
-                &typed_index_header::<Text<Narrow>, u64, Narrow>(archive, header),
-                from,
-                pairs,
-            )
-        }
-        (false, true) => {
-            pairs_in::<&[u8], &str, u64, u32, P, Text<Wide>, u32, Wide>(
-                archive,
-                &typed_index_header::<Text<Wide>, u32, Wide>(archive, header),
-                from,
-                pairs,
-            )
-        }
-        (true, true) => {
-            pairs_in::<&[u8], &str, u64, u64, P, Text<Wide>, u64, Wide>(
-                archive,
-                &typed_index_header::<Text<Wide>, u64, Wide>(archive, header),
-                from,
-                pairs,
-            )
-        }
     }
 }

@@ -2,14 +2,13 @@
 //!
 //! All calls require a valid archive.
 
-ghost use Rattle.std.specs.Prelude.{drop, map, ◌≡◌};
 ghost use Rattle.std.specs.Str.{IsUtf8};
 ghost use Rattle.ffi_calls.specs.{IsHeaderOf, IsTextTextIndex, ReturnsFirstIndexedTextOfText};
 ghost use Rattle.ffi_calls.specs.{ReturnsIndexedTextOfBytes, ReturnsIndexedTextOfText};
-ghost use Rattle.ffi_calls.specs.{StoresListedTextTexts, StoresTextTexts, text_text_index_in};
+ghost use Rattle.ffi_calls.specs.{text_text_index_in};
 
-use crate::index::{find_in, pairs_in, typed_index_header};
-use crate::pairs::{IndexedOf, PairOf};
+use crate::index::{find_in, typed_index_header};
+use crate::pairs::IndexedOf;
 use crate::status::NOT_TEXT;
 use crate::texts::text_of;
 use rkyv_base::{Narrow, Text, Wide};
@@ -81,45 +80,5 @@ pub fn get_index_text_of_text<'a, I: IndexedOf<&'a [u8]>>(
     match text_of(key) {
         Some(text) => get_of(archive, wide, header, text, found),
         None => NOT_TEXT,
-    }
-}
-
-/// Stores the pairs from the index `from` on, in insertion order, and returns their number.
-///
-/// If fewer pairs are stored than `pairs` has room for, no pair remains.
-///
-/// # Requires
-///
-/// - The archive is valid: `open_archive` returned `DONE` for the map's codes.
-/// - `header` is its decoded header.
-pub fn index_text_texts_from<'a, P: PairOf<&'a [u8], &'a [u8]>>(
-    archive: &'a [u8],
-    wide: bool,
-    header: &Decoded,
-    from: usize,
-    pairs: &mut [P],
-) -> usize
-    requires archive { IsTextTextIndex wide archive.now }
-    requires header { IsHeaderOf (text_text_index_in wide archive.now) header.now }
-    ensures stores { StoresTextTexts wide archive.now from (map P.pair_of pairs.old) result (map
-        P.pair_of pairs.new) }
-    ensures listed { StoresListedTextTexts wide archive.now from (map P.pair_of pairs.old) result
-        (map P.pair_of pairs.new) }
-    ensures rest { drop result pairs.new ≡ drop result pairs.old }
-{
-    if wide {
-        pairs_in::<&[u8], &str, &[u8], &str, P, Text<Wide>, Text<Wide>, Wide>(
-            archive,
-            &typed_index_header::<Text<Wide>, Text<Wide>, Wide>(archive, header),
-            from,
-            pairs,
-        )
-    } else {
-        pairs_in::<&[u8], &str, &[u8], &str, P, Text<Narrow>, Text<Narrow>, Narrow>(
-            archive,
-            &typed_index_header::<Text<Narrow>, Text<Narrow>, Narrow>(archive, header),
-            from,
-            pairs,
-        )
     }
 }

@@ -1,13 +1,19 @@
-//! Laws of archives that represent lists, and of the pairs that calls take and store.
+//! Laws of archives that represent lists, of the pairs that calls take and store, and of clones.
 //!
 //! Each law is a function whose contract is the statement.
 
-ghost use Rattle.std.specs.Prelude.{◌≡◌};
+ghost use Rattle.std.specs.Prelude.{◌↔◌, ◌≡◌};
 ghost use Rattle.rkyv_keys.specs.{fx_format, fx_key_format};
 ghost use Rattle.ffi_calls.specs.{ArchivesRepresent, IndexesRepresent, SetArchivesRepresent};
 ghost use Rattle.ffi_calls.specs.{WalksVisitListed, archive_width, fx_pairs, index_width};
 
-use crate::pairs::{Indexed, IndexedOf, Pair, PairOf, Step, StepOf};
+use crate::any_value::{AnyItem, AnyValue};
+use crate::collection::{Collection, KeyType, ValueType};
+use crate::containers::Codes;
+use crate::explanation::Explanation;
+use crate::form::Form;
+use crate::pairs::{Indexed, IndexedOf, Pair, PairOf};
+use crate::text_set_items::SetText;
 use rkyv_base::{Archive, Represents, Width};
 use rkyv_collections::map::laws::walks_visit_each;
 use rkyv_collections::{FxHasher64, KeyElement, NativeKey};
@@ -57,9 +63,50 @@ where
         (fx_pairs K.represents V.represents K.key_calls) }
 {}
 
-/// States that a call takes and stores a `Pair`, a `Step` or an `Indexed` as it is.
+/// States that a call takes a `Pair` and stores an `Indexed` as it is.
 pub fn pairs_are_stored_as_they_are<K: Copy, V: Copy>()
     ensures pair { (x : _) → ⟦<Pair<K, V> as PairOf<K, V>>⟧.pair_of x ≡ x }
-    ensures step { (x : _) → ⟦<Step<Pair<K, V>> as StepOf<K, V>>⟧.step_of x ≡ x }
     ensures indexed { (x : _) → ⟦<Indexed<V> as IndexedOf<V>>⟧.indexed_of x ≡ x }
+{}
+
+/// States that a clone of codes, forms, collections, explanations, texts and items is the value
+/// itself.
+///
+/// Cloning them can't fail.
+pub fn clones_are_the_same<'a>()
+    ensures codes { (a clone : Codes) → ⟦<Codes as Clone>⟧.is_clone a clone ↔ (clone ≡ a) }
+    ensures form { (a clone : Form) → ⟦<Form as Clone>⟧.is_clone a clone ↔ (clone ≡ a) }
+    ensures key { (a clone : KeyType) → ⟦<KeyType as Clone>⟧.is_clone a clone ↔ (clone ≡ a) }
+    ensures value { (a clone : ValueType) → ⟦<ValueType as Clone>⟧.is_clone a clone ↔ (clone ≡ a) }
+    ensures collection { (a clone : Collection) → ⟦<Collection as Clone>⟧.is_clone a clone
+        ↔ (clone ≡ a) }
+    ensures explanation { (a clone : Explanation) → ⟦<Explanation as Clone>⟧.is_clone a clone
+        ↔ (clone ≡ a) }
+    ensures text { (a clone : _) → ⟦<SetText<'a> as Clone>⟧.is_clone a clone ↔ (clone ≡ a) }
+    ensures any_value { (a clone : _) → ⟦<AnyValue<'a> as Clone>⟧.is_clone a clone
+        ↔ (clone ≡ a) }
+    ensures any_item { (a clone : _) → ⟦<AnyItem<'a> as Clone>⟧.is_clone a clone ↔ (clone ≡ a) }
+    ensures infallible_codes { (a : Codes) → ⟦<Codes as Clone>⟧.is_infallible a }
+    ensures infallible_form { (a : Form) → ⟦<Form as Clone>⟧.is_infallible a }
+    ensures infallible_key { (a : KeyType) → ⟦<KeyType as Clone>⟧.is_infallible a }
+    ensures infallible_value { (a : ValueType) → ⟦<ValueType as Clone>⟧.is_infallible a }
+    ensures infallible_collection { (a : Collection) → ⟦<Collection as Clone>⟧.is_infallible a }
+    ensures infallible_explanation { (a : Explanation) → ⟦<Explanation as Clone>⟧.is_infallible a }
+    ensures infallible_any_value { (a : _) → ⟦<AnyValue<'a> as Clone>⟧.is_infallible a }
+    ensures infallible_any_item { (a : _) → ⟦<AnyItem<'a> as Clone>⟧.is_infallible a }
+    ensures infallible_text { (a : _) → ⟦<SetText<'a> as Clone>⟧.is_infallible a }
+{}
+
+/// States that pairs and indexed values are cloned by their parts.
+///
+/// Cloning them fails only if that of a part does.
+pub fn pairs_are_cloned_by_their_parts<K: Clone, V: Clone>()
+    ensures pair { (x clone : _) → ⟦<Pair<K, V> as Clone>⟧.is_clone x clone
+        ↔ (V.is_clone x.value clone.value × K.is_clone x.key clone.key) }
+    ensures indexed { (x clone : _) → ⟦<Indexed<V> as Clone>⟧.is_clone x clone
+        ↔ ((clone.index ≡ x.index) × V.is_clone x.value clone.value) }
+    ensures infallible_pair { (x : _) → ⟦<Pair<K, V> as Clone>⟧.is_infallible x
+        ↔ (V.is_infallible x.value × K.is_infallible x.key) }
+    ensures infallible_indexed { (x : _) → ⟦<Indexed<V> as Clone>⟧.is_infallible x
+        ↔ V.is_infallible x.value }
 {}

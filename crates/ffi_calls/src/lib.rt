@@ -16,10 +16,11 @@
 //! - `pairs` has the pairs that calls take and store, and `reading` the form of keys and values.
 //! - `explanation` explains the first error of an archive or of a container, with its numbers.
 //! - `form` has the two flags of a map's form, and `status` the statuses that calls return.
-//! - `laws` states that archives represent their lists, that walks visit each pair once, and that
-//!   the pairs of `pairs` are stored as they are.
+//! - `laws` states that archives represent their lists, that walks visit each pair once, that the
+//!   pairs of `pairs` are stored as they are, and that clones are equal to their values.
 #![tactic(auto)]
 
+pub mod any_value;
 mod archives;
 pub mod building;
 pub mod collection;
@@ -34,6 +35,7 @@ pub mod index_numbers_to_texts;
 pub mod index_text_items;
 pub mod index_texts;
 pub mod index_texts_to_texts;
+pub mod iteration;
 pub mod laws;
 mod lookup;
 pub mod misplaced;
@@ -52,5 +54,6 @@ pub mod text_sets;
 pub mod texts;
 pub mod texts_to_texts;
 pub mod texts_to_texts_items;
+pub mod types;
 mod value;
 mod walk;

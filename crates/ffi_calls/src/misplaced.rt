@@ -148,7 +148,7 @@ fn misplaced_in_collection(
 /// # Errors
 ///
 /// - `LIMIT_REACHED`: the lookups of all keys read more than `limit` strides of sixteen control
-///   bytes, or more than 2^63; `count` is unchanged then.
+///   bytes; `count` is unchanged then.
 pub fn misplaced_up_to(
     archive: &[u8],
     codes: Codes,

@@ -2,20 +2,17 @@
 //!
 //! `build_number_set` writes an archive. The other calls require a valid one.
 
-ghost use Rattle.std.specs.Prelude.{MatchResult, map};
+ghost use Rattle.std.specs.Prelude.{MatchResult};
 ghost use Rattle.ffi_calls.specs.{ArchiveOfNumberSetFails, FindsListedNumber, FindsNumber};
 ghost use Rattle.ffi_calls.specs.{IsArchiveOfNumberSet, IsHeaderOf, IsNumberSet};
 ghost use Rattle.ffi_calls.specs.{NumberSetWriteFails, NumberSetWriteOk, Outputs};
-ghost use Rattle.ffi_calls.specs.{StoresNextNumberMembers, archive_width, number_keys_at};
+ghost use Rattle.ffi_calls.specs.{archive_width};
 ghost use Rattle.ffi_calls.specs.{number_set_in};
 
-use crate::archives::typed_header;
 use crate::building::{Built, leak_into};
-use crate::pairs::StepOf;
 use crate::reading::NumberKey;
 use crate::sets::{contains_in, set_archive_of};
 use crate::status::or_status;
-use crate::walk::next_pairs_in;
 use rkyv_base::{Narrow, Wide, Width};
 use rkyv_table::table::decoded::Decoded;
 use std::alloc::Global;
@@ -41,44 +38,6 @@ pub fn contains_number<K: NumberKey>(archive: &[u8], wide: bool, header: &Decode
         contains_in::<K, K, Wide>(archive, header, &item)
     } else {
         contains_in::<K, K, Narrow>(archive, header, &item)
-    }
-}
-
-/// Stores the next items from the bucket `from` on, in bucket order, and returns their number.
-///
-/// If fewer items are stored than `members` has room for, no item remains. Otherwise a next call
-/// goes on at the `next` of the last member.
-///
-/// # Requires
-///
-/// - The archive is valid: `open_archive` returned `DONE` for the set's codes.
-/// - `header` is its decoded header.
-pub fn next_number_members<K: NumberKey, S: StepOf<K, ()>>(
-    archive: &[u8],
-    wide: bool,
-    header: &Decoded,
-    from: u64,
-    members: &mut [S],
-) -> usize
-    requires archive { IsNumberSet K.NumberKey wide archive.now }
-    requires header { IsHeaderOf (number_set_in K.NumberKey wide archive.now) header.now }
-    ensures { StoresNextNumberMembers (number_keys_at K.NumberKey wide archive.now) from (map
-        S.step_of members.old) result (map S.step_of members.new) }
-{
-    if wide {
-        next_pairs_in::<K, (), S, K, (), Wide>(
-            archive,
-            &typed_header::<K, (), Wide>(archive, header),
-            from,
-            members,
-        )
-    } else {
-        next_pairs_in::<K, (), S, K, (), Narrow>(
-            archive,
-            &typed_header::<K, (), Narrow>(archive, header),
-            from,
-            members,
-        )
     }
 }
 

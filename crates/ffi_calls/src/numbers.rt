@@ -2,17 +2,14 @@
 //!
 //! All calls require a valid archive.
 
-ghost use Rattle.std.specs.Prelude.{map};
 ghost use Rattle.ffi_calls.specs.{IsHeaderOf, IsNumberArchive, KeepsHeader, ReturnsFirstNumber};
-ghost use Rattle.ffi_calls.specs.{ReturnsNumber, SetsFirstNumber, SetsNumber, StoresNextNumbers};
+ghost use Rattle.ffi_calls.specs.{ReturnsNumber, SetsFirstNumber, SetsNumber};
 ghost use Rattle.ffi_calls.specs.{numbers_at, numbers_in};
 
 use crate::archives::typed_header;
 use crate::form::Form;
 use crate::lookup::{get_in, set_in};
-use crate::pairs::StepOf;
 use crate::reading::NumberKey;
-use crate::walk::next_pairs_in;
 use rkyv_base::{Narrow, Wide};
 use rkyv_table::table::decoded::Decoded;
 
@@ -98,54 +95,5 @@ pub fn set_number<K: NumberKey>(archive: &mut [u8], form: Form, key: K, value: u
         (true, false) => set_in::<K, K, u64, Narrow>(archive, &key, value),
         (false, true) => set_in::<K, K, u32, Wide>(archive, &key, value),
         (true, true) => set_in::<K, K, u64, Wide>(archive, &key, value),
-    }
-}
-
-/// Stores the next pairs from the bucket `from` on, in bucket order, and returns their number.
-///
-/// If fewer pairs are stored than `pairs` has room for, no pair remains. Otherwise a next call goes
-/// on at the `next` of the last pair.
-///
-/// # Requires
-///
-/// - The archive is valid: `open_archive` returned `DONE` for the map's codes.
-/// - `header` is its decoded header.
-pub fn next_numbers<K: NumberKey, S: StepOf<K, u64>>(
-    archive: &[u8],
-    form: Form,
-    header: &Decoded,
-    from: u64,
-    pairs: &mut [S],
-) -> usize
-    requires archive { IsNumberArchive K.NumberKey form archive.now }
-    requires header { IsHeaderOf (numbers_in K.NumberKey form archive.now) header.now }
-    ensures { StoresNextNumbers (numbers_at K.NumberKey form archive.now) from (map S.step_of
-        pairs.old) result (map S.step_of pairs.new) }
-{
-    match (form.long_values, form.wide) {
-        (false, false) => next_pairs_in::<K, u64, S, K, u32, Narrow>(
-            archive,
-            &typed_header::<K, u32, Narrow>(archive, header),
-            from,
-            pairs,
-        ),
-        (true, false) => next_pairs_in::<K, u64, S, K, u64, Narrow>(
-            archive,
-            &typed_header::<K, u64, Narrow>(archive, header),
-            from,
-            pairs,
-        ),
-        (false, true) => next_pairs_in::<K, u64, S, K, u32, Wide>(
-            archive,
-            &typed_header::<K, u32, Wide>(archive, header),
-            from,
-            pairs,
-        ),
-        (true, true) => next_pairs_in::<K, u64, S, K, u64, Wide>(
-            archive,
-            &typed_header::<K, u64, Wide>(archive, header),
-            from,
-            pairs,
-        ),
     }
 }

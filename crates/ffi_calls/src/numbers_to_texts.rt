@@ -2,16 +2,13 @@
 //!
 //! All calls require a valid archive.
 
-ghost use Rattle.std.specs.Prelude.{map};
 ghost use Rattle.ffi_calls.specs.{IsHeaderOf, IsNumberTextArchive, ReturnsFirstTextOfNumber};
-ghost use Rattle.ffi_calls.specs.{ReturnsTextOfNumber, StoresNextNumberTexts, number_keys_at};
+ghost use Rattle.ffi_calls.specs.{ReturnsTextOfNumber, number_keys_at};
 ghost use Rattle.ffi_calls.specs.{number_texts_in};
 
 use crate::archives::typed_header;
 use crate::lookup::get_in;
-use crate::pairs::StepOf;
 use crate::reading::NumberKey;
-use crate::walk::next_pairs_in;
 use rkyv_base::{Narrow, Text, Wide};
 use rkyv_table::table::decoded::Decoded;
 
@@ -53,44 +50,6 @@ pub fn get_text_of_number<'a, K: NumberKey>(
             &typed_header::<K, Text<Narrow>, Narrow>(archive, header),
             &key,
             value,
-        )
-    }
-}
-
-/// Stores the next pairs from the bucket `from` on, in bucket order, and returns their number.
-///
-/// If fewer pairs are stored than `pairs` has room for, no pair remains. Otherwise a next call goes
-/// on at the `next` of the last pair.
-///
-/// # Requires
-///
-/// - The archive is valid: `open_archive` returned `DONE` for the map's codes.
-/// - `header` is its decoded header.
-pub fn next_number_texts<'a, K: NumberKey, S: StepOf<K, &'a [u8]>>(
-    archive: &'a [u8],
-    wide: bool,
-    header: &Decoded,
-    from: u64,
-    pairs: &mut [S],
-) -> usize
-    requires archive { IsNumberTextArchive K.NumberKey wide archive.now }
-    requires header { IsHeaderOf (number_texts_in K.NumberKey wide archive.now) header.now }
-    ensures { StoresNextNumberTexts (number_keys_at K.NumberKey wide archive.now) from (map
-        S.step_of pairs.old) result (map S.step_of pairs.new) }
-{
-    if wide {
-        next_pairs_in::<K, &[u8], S, K, Text<Wide>, Wide>(
-            archive,
-            &typed_header::<K, Text<Wide>, Wide>(archive, header),
-            from,
-            pairs,
-        )
-    } else {
-        next_pairs_in::<K, &[u8], S, K, Text<Narrow>, Narrow>(
-            archive,
-            &typed_header::<K, Text<Narrow>, Narrow>(archive, header),
-            from,
-            pairs,
         )
     }
 }

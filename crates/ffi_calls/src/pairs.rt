@@ -6,7 +6,6 @@
 ghost use Rattle.std.specs.Prelude.{◌≡◌};
 ghost use Rattle.ffi_calls.specs.declared.pairs.Indexed.{Indexed};
 ghost use Rattle.ffi_calls.specs.declared.pairs.Pair.{Pair};
-ghost use Rattle.ffi_calls.specs.declared.pairs.Step.{Step};
 
 /// A pair of a key and a value. An item of a set is a key with the unit value.
 #[repr(C)]
@@ -16,16 +15,6 @@ pub struct Pair<K, V> {
     pub value: V,
     /// The key.
     pub key: K,
-}
-
-/// A pair of a walk, and the bucket at which the walk continues.
-#[repr(C)]
-#[derive(Clone, Copy)]
-pub struct Step<P> {
-    /// The bucket at which the walk continues.
-    pub next: u64,
-    /// The pair.
-    pub pair: P,
 }
 
 /// The index of a pair in insertion order, and its value.
@@ -50,16 +39,6 @@ pub trait PairOf<K, V>: Copy {
     /// Returns its key and its value.
     fn pair(&self) -> Pair<K, V>
         ensures { result ≡ pair_of self.now };
-}
-
-/// A type that has a pair of a walk, and the bucket at which the walk continues.
-pub trait StepOf<K, V>: Copy {
-    // Its pair, and the bucket.
-    ghost step_of: { Self → Step (Pair K V) };
-
-    /// Returns a step as this type.
-    fn of_step(step: Step<Pair<K, V>>) -> Self
-        ensures { step_of result ≡ step };
 }
 
 /// A type that has the index of a pair and its value.
@@ -87,17 +66,6 @@ impl<K: Copy, V: Copy> PairOf<K, V> for Pair<K, V> {
         ensures { result ≡ self.now }
     {
         *self
-    }
-}
-
-impl<K: Copy, V: Copy> StepOf<K, V> for Step<Pair<K, V>> {
-    ghost step_of = { λ step. step };
-
-    #[inline]
-    fn of_step(step: Step<Pair<K, V>>) -> Step<Pair<K, V>>
-        ensures { result ≡ step }
-    {
-        step
     }
 }
 

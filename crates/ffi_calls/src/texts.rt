@@ -2,19 +2,17 @@
 //!
 //! All calls but `is_text` require a valid archive.
 
-ghost use Rattle.std.specs.Prelude.{IsTrue, MatchOption, map, ◌↔◌, ◌≡◌};
+ghost use Rattle.std.specs.Prelude.{IsTrue, MatchOption, ◌↔◌, ◌≡◌};
 ghost use Rattle.std.specs.Str.{IsUtf8};
 ghost use Rattle.ffi_calls.specs.{IsHeaderOf, IsTextArchive, KeepsHeader, OverwritesText};
 ghost use Rattle.ffi_calls.specs.{ReadsWord, ReturnsAt, ReturnsFirstText, ReturnsText};
-ghost use Rattle.ffi_calls.specs.{SetsFirstText, SetsText, StoresNextTexts, text_found, texts_in};
+ghost use Rattle.ffi_calls.specs.{SetsFirstText, SetsText, text_found, texts_in};
 ghost use Rattle.ffi_calls.specs.{word_of};
 
 use crate::archives::typed_header;
 use crate::form::Form;
 use crate::lookup::{get_in, set_in};
-use crate::pairs::StepOf;
 use crate::status::NOT_TEXT;
-use crate::walk::next_pairs_in;
 use rkyv_base::{Narrow, Text, Wide};
 use rkyv_table::table::decoded::Decoded;
 
@@ -137,54 +135,5 @@ pub fn set_text(archive: &mut [u8], form: Form, key: &[u8], value: u64) -> u32
     match text_of(key) {
         Some(text) => set_of(archive, form, text, value),
         None => NOT_TEXT,
-    }
-}
-
-/// Stores the next pairs from the bucket `from` on, in bucket order, and returns their number.
-///
-/// If fewer pairs are stored than `pairs` has room for, no pair remains. Otherwise a next call goes
-/// on at the `next` of the last pair.
-///
-/// # Requires
-///
-/// - The archive is valid: `open_archive` returned `DONE` for the map's codes.
-/// - `header` is its decoded header.
-pub fn next_texts<'a, S: StepOf<&'a [u8], u64>>(
-    archive: &'a [u8],
-    form: Form,
-    header: &Decoded,
-    from: u64,
-    pairs: &mut [S],
-) -> usize
-    requires archive { IsTextArchive form archive.now }
-    requires header { IsHeaderOf (texts_in form archive.now) header.now }
-    ensures { StoresNextTexts form archive.now from (map S.step_of pairs.old) result (map S.step_of
-        pairs.new) }
-{
-    match (form.long_values, form.wide) {
-        (false, false) => next_pairs_in::<&[u8], u64, S, Text<Narrow>, u32, Narrow>(
-            archive,
-            &typed_header::<Text<Narrow>, u32, Narrow>(archive, header),
-            from,
-            pairs,
-        ),
-        (true, false) => next_pairs_in::<&[u8], u64, S, Text<Narrow>, u64, Narrow>(
-            archive,
-            &typed_header::<Text<Narrow>, u64, Narrow>(archive, header),
-            from,
-            pairs,
-        ),
-        (false, true) => next_pairs_in::<&[u8], u64, S, Text<Wide>, u32, Wide>(
-            archive,
-            &typed_header::<Text<Wide>, u32, Wide>(archive, header),
-            from,
-            pairs,
-        ),
-        (true, true) => next_pairs_in::<&[u8], u64, S, Text<Wide>, u64, Wide>(
-            archive,
-            &typed_header::<Text<Wide>, u64, Wide>(archive, header),
-            from,
-            pairs,
-        ),
     }
 }

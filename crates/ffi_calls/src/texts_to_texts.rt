@@ -2,18 +2,15 @@
 //!
 //! All calls require a valid archive.
 
-ghost use Rattle.std.specs.Prelude.{map};
 ghost use Rattle.std.specs.Str.{IsUtf8};
 ghost use Rattle.ffi_calls.specs.{IsHeaderOf, IsTextTextArchive, ReturnsFirstTextOfText};
-ghost use Rattle.ffi_calls.specs.{ReturnsTextAt, ReturnsTextOfText, StoresNextTextTexts};
+ghost use Rattle.ffi_calls.specs.{ReturnsTextAt, ReturnsTextOfText};
 ghost use Rattle.ffi_calls.specs.{text_of_text_found, text_texts_in};
 
 use crate::archives::typed_header;
 use crate::lookup::get_in;
-use crate::pairs::StepOf;
 use crate::status::NOT_TEXT;
 use crate::texts::text_of;
-use crate::walk::next_pairs_in;
 use rkyv_base::{Narrow, Text, Wide};
 use rkyv_table::table::decoded::Decoded;
 
@@ -79,43 +76,5 @@ pub fn get_text_of_text<'a>(
     match text_of(key) {
         Some(text) => get_of(archive, wide, header, text, value),
         None => NOT_TEXT,
-    }
-}
-
-/// Stores the next pairs from the bucket `from` on, in bucket order, and returns their number.
-///
-/// If fewer pairs are stored than `pairs` has room for, no pair remains. Otherwise a next call goes
-/// on at the `next` of the last pair.
-///
-/// # Requires
-///
-/// - The archive is valid: `open_archive` returned `DONE` for the map's codes.
-/// - `header` is its decoded header.
-pub fn next_text_texts<'a, S: StepOf<&'a [u8], &'a [u8]>>(
-    archive: &'a [u8],
-    wide: bool,
-    header: &Decoded,
-    from: u64,
-    pairs: &mut [S],
-) -> usize
-    requires archive { IsTextTextArchive wide archive.now }
-    requires header { IsHeaderOf (text_texts_in wide archive.now) header.now }
-    ensures { StoresNextTextTexts wide archive.now from (map S.step_of pairs.old) result (map
-        S.step_of pairs.new) }
-{
-    if wide {
-        next_pairs_in::<&[u8], &[u8], S, Text<Wide>, Text<Wide>, Wide>(
-            archive,
-            &typed_header::<Text<Wide>, Text<Wide>, Wide>(archive, header),
-            from,
-            pairs,
-        )
-    } else {
-        next_pairs_in::<&[u8], &[u8], S, Text<Narrow>, Text<Narrow>, Narrow>(
-            archive,
-            &typed_header::<Text<Narrow>, Text<Narrow>, Narrow>(archive, header),
-            from,
-            pairs,
-        )
     }
 }

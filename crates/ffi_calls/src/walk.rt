@@ -1,14 +1,13 @@
-//! A walk over the pairs of a map, from any bucket on.
+//! A walk over the items of a map, from any bucket on.
 
-ghost use Rattle.std.specs.Prelude.{IfSome, length, map, slice_range, ◌*◌};
+ghost use Rattle.std.specs.Prelude.{IfSome, length, slice_range, ◌*◌};
 ghost use Rattle.std.specs.Prelude.{◌+◌, ◌-◌, ◌<◌, ◌^◌, ◌≡◌, ◌≤◌};
 ghost use Rattle.rkyv_base.specs.{Viewable, entry_spec};
 ghost use Rattle.rkyv_table.specs.{control_count};
-ghost use Rattle.ffi_calls.specs.{FindsNextPair, IsHeaderOf, IsMapArchive, IsNextBucket};
-ghost use Rattle.ffi_calls.specs.{StoresNextPairs, map_in};
+ghost use Rattle.ffi_calls.specs.{FindsNextItem, IsHeaderOf, IsMapArchive, IsNextBucket};
+ghost use Rattle.ffi_calls.specs.{StoresNextItems, map_in};
 
-use crate::pairs::{Pair, Step, StepOf};
-use crate::reading::ReadAs;
+use crate::any_value::{AnyItem, ToAny};
 use rkyv_base::{Element, Entry, View, Width};
 use rkyv_table::controls::numbers::control_count;
 use rkyv_table::controls::walk::next_full;
@@ -72,52 +71,47 @@ fn next_bucket<K: Element, V: Element, W: Width>(
     })
 }
 
-/// Returns the step to the first pair from the bucket `from` on, or `None` if no pair remains.
+/// Returns the first item from the bucket `from` on, or `None` if no item remains.
 #[inline]
-fn next_in<'a, X, Y, K: ReadAs<'a, X>, V: ReadAs<'a, Y>, W: Width>(
+fn next_in<'a, K: ToAny, V: ToAny, W: Width>(
     archive: &'a [u8],
     header: &Decoded,
     from: u64,
-) -> Option<Step<Pair<X, Y>>>
+) -> Option<AnyItem<'a>>
     requires archive { IsMapArchive W.word W.LIMIT K.spec V.spec archive.now }
     requires header { IsHeaderOf (map_in W.word K.spec V.spec archive.now) header.now }
-    ensures { FindsNextPair (map_in W.word K.spec V.spec archive.now) K.reads V.reads from result }
+    ensures { FindsNextItem (map_in W.word K.spec V.spec archive.now) K.any V.any from result }
 {
-    let item = next_bucket::<K, V, W>(archive, header, from)?;
-    let entry: View<'_, Entry<K, V>> = View::new(archive, item.pos);
-    Some(Step {
-        next: item.bucket + 1,
-        pair: Pair {
-            value: V::read_as(entry.value()),
-            key: K::read_as(entry.key()),
-        },
+    let bucket = next_bucket::<K, V, W>(archive, header, from)?;
+    let entry: View<'_, Entry<K, V>> = View::new(archive, bucket.pos);
+    Some(AnyItem {
+        next: bucket.bucket + 1,
+        key: K::to_any(entry.key()),
+        value: V::to_any(entry.value()),
     })
 }
 
-/// Stores the next pairs of the map in a valid archive, from a bucket on, and returns their number.
-pub(crate) fn next_pairs_in<
-    'a,
-    X: Copy,
-    Y: Copy,
-    S: StepOf<X, Y>,
-    K: ReadAs<'a, X>,
-    V: ReadAs<'a, Y>,
-    W: Width,
->(archive: &'a [u8], header: &Decoded, from: u64, pairs: &mut [S]) -> usize
+/// Stores the next items of the map in a valid archive, from a bucket on, and returns their number.
+pub(crate) fn next_items_in<'a, K: ToAny, V: ToAny, W: Width>(
+    archive: &'a [u8],
+    header: &Decoded,
+    from: u64,
+    items: &mut [AnyItem<'a>],
+) -> usize
     requires archive { IsMapArchive W.word W.LIMIT K.spec V.spec archive.now }
     requires header { IsHeaderOf (map_in W.word K.spec V.spec archive.now) header.now }
-    ensures { StoresNextPairs (map_in W.word K.spec V.spec archive.now) K.reads V.reads from
-        (map S.step_of pairs.old) result (map S.step_of pairs.new) }
+    ensures { StoresNextItems (map_in W.word K.spec V.spec archive.now) K.any V.any from items.old
+        result items.new }
 {
     let mut next = from;
-    for count in 0..pairs.len() {
-        match next_in::<X, Y, K, V, W>(archive, header, next) {
-            Some(step) => {
-                next = step.next;
-                pairs[count] = S::of_step(step);
+    for count in 0..items.len() {
+        match next_in::<K, V, W>(archive, header, next) {
+            Some(item) => {
+                next = item.next;
+                items[count] = item;
             }
             None => return count,
         }
     }
-    pairs.len()
+    items.len()
 }

@@ -1,0 +1,16 @@
+-- Values of any type that are stored are those of the native values that the bytes represent.
+use Rattle.std.proofs.Common.{◌∙◌, ap}
+use Rattle.std.specs.Int.{Width}
+use Rattle.rkyv_base.specs.{Encoding, ScalarRepresents, unit_represents}
+use Rattle.ffi_calls.specs.{Agrees, HasNumber, IsAny, IsTextFor, ReadsBytes, ReadsNumber}
+use Rattle.ffi_calls.specs.{ReadsUnit, TextRepresents}
+
+pub numbers_agree : {N : Type 0} (e : Encoding N)
+    → Agrees (ReadsNumber e) (ScalarRepresents e) (HasNumber e)
+numbers_agree e b p any value reads represents = reads.0 ∙ ap e.code represents
+
+pub texts_agree : (w : Width) → Agrees (ReadsBytes w) (TextRepresents w) IsTextFor
+texts_agree w b p any text reads represents = reads.1 ∙ represents
+
+pub units_agree : Agrees ReadsUnit unit_represents IsAny
+units_agree b p any value reads represents = tt
