@@ -1,15 +1,17 @@
-//! The calls that open archives, and that count misplaced keys, by the codes of their contents.
+//! The calls that open archives, count misplaced keys and iterate, by the codes of the contents.
 //!
 //! The codes are those in the header of a container. The library has maps of fewer contents than a
 //! container may have: all other codes are unknown here.
 
 ghost use Rattle.std.specs.Prelude.{◌≡◌};
 ghost use Rattle.ffi_calls.specs.{CountsMisplaced, ExplainsByCodes, IsHeaderByCodes};
-ghost use Rattle.ffi_calls.specs.{IsValidByCodes, OpensByCodes, codes_of};
+ghost use Rattle.ffi_calls.specs.{IsValidByCodes, OpensByCodes, StoresItemsByCodes, codes_of};
 
+use ffi_calls::any_value::AnyItem;
 use ffi_calls::collection::{decode_header, explain_archive, open_archive};
 use ffi_calls::containers::Codes;
 use ffi_calls::explanation::Explanation;
+use ffi_calls::iteration::next_items;
 use ffi_calls::misplaced::misplaced_up_to;
 use rkyv_table::table::decoded::Decoded;
 
@@ -96,8 +98,8 @@ pub extern "C" fn rkyv_c_decode(
 ///
 /// # Errors
 ///
-/// - 15: the lookups of all keys read more than `limit` strides of sixteen control bytes, or more
-///   than 2^63; `count` is unchanged then.
+/// - 15: the lookups of all keys read more than `limit` strides of sixteen control bytes; `count`
+///   is unchanged then.
 #[unsafe(no_mangle)]
 pub extern "C" fn rkyv_c_misplaced_up_to(
     archive: &[u8],
@@ -121,4 +123,40 @@ pub extern "C" fn rkyv_c_misplaced_up_to(
         width,
     };
     misplaced_up_to(archive, codes, header, limit, count)
+}
+
+/// Stores the next items of the collection with the codes in `items`, and returns their number.
+///
+/// In a hash map and a hash set they are those from the bucket `from` on, in bucket order. In an
+/// index map and an index set they are those from the index `from` on, in insertion order. If fewer
+/// items are stored than `items` has room for, no item remains. Otherwise a next call continues at
+/// the `next` of the last item.
+///
+/// # Requires
+///
+/// - The archive is valid: `rkyv_c_open` returned 0 for these codes.
+/// - `header` is its decoded header.
+#[unsafe(no_mangle)]
+pub extern "C" fn rkyv_c_next<'a>(
+    archive: &'a [u8],
+    kind: u8,
+    key: u8,
+    value: u8,
+    width: u8,
+    header: &'a Decoded,
+    from: u64,
+    items: &mut [AnyItem<'a>],
+) -> usize
+    requires archive { IsValidByCodes (codes_of kind key value width) archive.now }
+    requires header { IsHeaderByCodes (codes_of kind key value width) archive.now header.now }
+    ensures { StoresItemsByCodes (codes_of kind key value width) archive.now from items.old result
+        items.new }
+{
+    let codes = Codes {
+        kind,
+        key,
+        value,
+        width,
+    };
+    next_items(archive, codes, header, from, items)
 }

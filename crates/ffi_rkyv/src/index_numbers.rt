@@ -1,9 +1,9 @@
 //! The calls for index maps of numbers of 32 bits.
 
 ghost use Rattle.std.specs.Prelude.{map};
-ghost use Rattle.ffi_calls.specs.{IndexOfNumbersFails, IsHeaderOf, IsIndexOfNumbers, IsNumberIndex};
+ghost use Rattle.ffi_calls.specs.{IndexOfNumbersFails, IsIndexOfNumbers, IsNumberIndex};
 ghost use Rattle.ffi_calls.specs.{KeepsHeader, Outputs, SetsFirstIndexedNumber, SetsIndexedNumber};
-ghost use Rattle.ffi_calls.specs.{StoresListedNumbers, StoresNumbers, form_of, number_index_in};
+ghost use Rattle.ffi_calls.specs.{form_of, number_index_in};
 ghost use Rattle.ffi_calls.specs.{numbers_at, short_key};
 ghost use Rattle.ffi_rkyv.specs.Pairs.{number_pair};
 
@@ -11,8 +11,7 @@ use crate::pairs::NumberPair;
 use ffi_calls::building::Built;
 use ffi_calls::form::Form;
 use ffi_calls::index_items::build_index_numbers;
-use ffi_calls::index_numbers::{index_numbers_from, set_index_number};
-use rkyv_table::table::decoded::Decoded;
+use ffi_calls::index_numbers::set_index_number;
 use std::alloc::Global;
 
 /// Looks up a key, and overwrites its value in place.
@@ -47,34 +46,6 @@ pub extern "C" fn rkyv_c_index_set_number(
         archive.old) key value result archive.new }
 {
     set_index_number::<u32>(archive, Form { long_values, wide }, key, value)
-}
-
-/// Stores the pairs from the index `from` on, in insertion order, and returns their number.
-///
-/// If fewer pairs are stored than `pairs` has room for, no pair remains.
-///
-/// # Requires
-///
-/// - The archive is valid: `rkyv_c_open` returned 0 for the map's codes.
-/// - `header` is its decoded header.
-#[unsafe(no_mangle)]
-pub extern "C" fn rkyv_c_index_numbers_from(
-    archive: &[u8],
-    long_values: bool,
-    wide: bool,
-    header: &Decoded,
-    from: usize,
-    pairs: &mut [NumberPair],
-) -> usize
-    requires archive { IsNumberIndex short_key (form_of long_values wide) archive.now }
-    requires header { IsHeaderOf (number_index_in short_key (form_of long_values wide) archive.now)
-        header.now }
-    ensures stores { StoresNumbers (numbers_at short_key (form_of long_values wide) archive.now)
-        from (map number_pair pairs.old) result (map number_pair pairs.new) }
-    ensures listed { StoresListedNumbers (numbers_at short_key (form_of long_values wide)
-        archive.now) from (map number_pair pairs.old) result (map number_pair pairs.new) }
-{
-    index_numbers_from::<u32, _>(archive, Form { long_values, wide }, header, from, pairs)
 }
 
 /// Writes the archive of the items as an index map, and stores its bytes in `built`.

@@ -2,17 +2,16 @@
 
 ghost use Rattle.std.specs.Prelude.{map};
 ghost use Rattle.std.specs.Str.{IsUtf8};
-ghost use Rattle.ffi_calls.specs.{IndexOfTextsFails, IsHeaderOf, IsIndexOfTexts, IsTextIndex};
+ghost use Rattle.ffi_calls.specs.{IndexOfTextsFails, IsIndexOfTexts, IsTextIndex};
 ghost use Rattle.ffi_calls.specs.{KeepsHeader, Outputs, SetsFirstIndexedText, SetsIndexedBytes};
-ghost use Rattle.ffi_calls.specs.{StoresListedTexts, StoresTexts, form_of, text_index_in};
+ghost use Rattle.ffi_calls.specs.{form_of, text_index_in};
 ghost use Rattle.ffi_rkyv.specs.Pairs.{text_pair};
 
 use crate::pairs::TextPair;
 use ffi_calls::building::Built;
 use ffi_calls::form::Form;
 use ffi_calls::index_items::build_index_texts;
-use ffi_calls::index_texts::{index_texts_from, set_index_text};
-use rkyv_table::table::decoded::Decoded;
+use ffi_calls::index_texts::set_index_text;
 use std::alloc::Global;
 
 /// Looks up a key, and overwrites its value in place.
@@ -49,34 +48,6 @@ pub extern "C" fn rkyv_c_index_set_text(
         archive.new }
 {
     set_index_text(archive, Form { long_values, wide }, key, value)
-}
-
-/// Stores the pairs from the index `from` on, in insertion order, and returns their number.
-///
-/// If fewer pairs are stored than `pairs` has room for, no pair remains.
-///
-/// # Requires
-///
-/// - The archive is valid: `rkyv_c_open` returned 0 for the map's codes.
-/// - `header` is its decoded header.
-#[unsafe(no_mangle)]
-pub extern "C" fn rkyv_c_index_texts_from<'a>(
-    archive: &'a [u8],
-    long_values: bool,
-    wide: bool,
-    header: &Decoded,
-    from: usize,
-    pairs: &mut [TextPair<'a>],
-) -> usize
-    requires archive { IsTextIndex (form_of long_values wide) archive.now }
-    requires header { IsHeaderOf (text_index_in (form_of long_values wide) archive.now)
-        header.now }
-    ensures stores { StoresTexts (form_of long_values wide) archive.now from (map text_pair
-        pairs.old) result (map text_pair pairs.new) }
-    ensures listed { StoresListedTexts (form_of long_values wide) archive.now from (map text_pair
-        pairs.old) result (map text_pair pairs.new) }
-{
-    index_texts_from(archive, Form { long_values, wide }, header, from, pairs)
 }
 
 /// Writes the archive of the items as an index map, and stores its bytes in `built`.

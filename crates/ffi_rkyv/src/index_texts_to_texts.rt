@@ -1,43 +1,14 @@
 //! The calls for index maps of texts to texts.
 
 ghost use Rattle.std.specs.Prelude.{map};
-ghost use Rattle.ffi_calls.specs.{IndexOfTextTextsFails, IsHeaderOf, IsIndexOfTextTexts};
-ghost use Rattle.ffi_calls.specs.{IsTextTextIndex, Outputs, StoresListedTextTexts, StoresTextTexts};
-ghost use Rattle.ffi_calls.specs.{text_text_index_in};
+ghost use Rattle.ffi_calls.specs.{IndexOfTextTextsFails, IsIndexOfTextTexts};
+ghost use Rattle.ffi_calls.specs.{Outputs};
 ghost use Rattle.ffi_rkyv.specs.Pairs.{text_text_pair};
 
 use crate::pairs::TextTextPair;
 use ffi_calls::building::Built;
 use ffi_calls::index_text_items::build_index_texts_to_texts;
-use ffi_calls::index_texts_to_texts::index_text_texts_from;
-use rkyv_table::table::decoded::Decoded;
 use std::alloc::Global;
-
-/// Stores the pairs from the index `from` on, in insertion order, and returns their number.
-///
-/// If fewer pairs are stored than `pairs` has room for, no pair remains.
-///
-/// # Requires
-///
-/// - The archive is valid: `rkyv_c_open` returned 0 for the map's codes.
-/// - `header` is its decoded header.
-#[unsafe(no_mangle)]
-pub extern "C" fn rkyv_c_index_text_texts_from<'a>(
-    archive: &'a [u8],
-    wide: bool,
-    header: &Decoded,
-    from: usize,
-    pairs: &mut [TextTextPair<'a>],
-) -> usize
-    requires archive { IsTextTextIndex wide archive.now }
-    requires header { IsHeaderOf (text_text_index_in wide archive.now) header.now }
-    ensures stores { StoresTextTexts wide archive.now from (map text_text_pair pairs.old) result
-        (map text_text_pair pairs.new) }
-    ensures listed { StoresListedTextTexts wide archive.now from (map text_text_pair pairs.old)
-        result (map text_text_pair pairs.new) }
-{
-    index_text_texts_from(archive, wide, header, from, pairs)
-}
 
 /// Writes the archive of the items as an index map, and stores its bytes in `built`.
 ///

@@ -1,18 +1,17 @@
 //! The calls for maps of numbers of 64 bits.
 
 ghost use Rattle.std.specs.Prelude.{map};
-ghost use Rattle.ffi_calls.specs.{ArchiveOfNumbersFails, IsArchiveOfNumbers, IsHeaderOf};
+ghost use Rattle.ffi_calls.specs.{ArchiveOfNumbersFails, IsArchiveOfNumbers};
 ghost use Rattle.ffi_calls.specs.{IsNumberArchive, KeepsHeader, Outputs, SetsFirstNumber};
-ghost use Rattle.ffi_calls.specs.{SetsNumber, StoresNextNumbers, form_of, long_key, numbers_at};
+ghost use Rattle.ffi_calls.specs.{SetsNumber, form_of, long_key, numbers_at};
 ghost use Rattle.ffi_calls.specs.{numbers_in};
-ghost use Rattle.ffi_rkyv.specs.Pairs.{long_number_pair, long_number_step};
+ghost use Rattle.ffi_rkyv.specs.Pairs.{long_number_pair};
 
-use crate::pairs::{LongNumberPair, LongNumberStep};
+use crate::pairs::LongNumberPair;
 use ffi_calls::building::Built;
 use ffi_calls::form::Form;
 use ffi_calls::number_items::build_numbers;
-use ffi_calls::numbers::{next_numbers, set_number};
-use rkyv_table::table::decoded::Decoded;
+use ffi_calls::numbers::set_number;
 use std::alloc::Global;
 
 /// Looks up a key, and overwrites its value in place.
@@ -47,33 +46,6 @@ pub extern "C" fn rkyv_c_set_long_number(
         key value result archive.new }
 {
     set_number::<u64>(archive, Form { long_values, wide }, key, value)
-}
-
-/// Stores the next pairs from the bucket `from` on, in bucket order, and returns their number.
-///
-/// If fewer pairs are stored than `pairs` has room for, no pair remains. Otherwise a next call goes
-/// on at the `next` of the last pair.
-///
-/// # Requires
-///
-/// - The archive is valid: `rkyv_c_open` returned 0 for the map's codes.
-/// - `header` is its decoded header.
-#[unsafe(no_mangle)]
-pub extern "C" fn rkyv_c_next_long_numbers(
-    archive: &[u8],
-    long_values: bool,
-    wide: bool,
-    header: &Decoded,
-    from: u64,
-    pairs: &mut [LongNumberStep],
-) -> usize
-    requires archive { IsNumberArchive long_key (form_of long_values wide) archive.now }
-    requires header { IsHeaderOf (numbers_in long_key (form_of long_values wide) archive.now)
-        header.now }
-    ensures { StoresNextNumbers (numbers_at long_key (form_of long_values wide) archive.now) from
-        (map long_number_step pairs.old) result (map long_number_step pairs.new) }
-{
-    next_numbers::<u64, _>(archive, Form { long_values, wide }, header, from, pairs)
 }
 
 /// Writes the archive of the items, in insertion order, and stores its bytes in `built`.

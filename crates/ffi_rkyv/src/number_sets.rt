@@ -1,41 +1,12 @@
 //! The calls for sets of numbers of 32 bits.
 
-ghost use Rattle.std.specs.Prelude.{map};
-ghost use Rattle.ffi_calls.specs.{ArchiveOfNumberSetFails, IsArchiveOfNumberSet, IsHeaderOf};
-ghost use Rattle.ffi_calls.specs.{IsNumberSet, Outputs, StoresNextNumberMembers, number_keys_at};
-ghost use Rattle.ffi_calls.specs.{number_set_in, short_key};
-ghost use Rattle.ffi_rkyv.specs.Pairs.{number_member};
+ghost use Rattle.ffi_calls.specs.{ArchiveOfNumberSetFails, IsArchiveOfNumberSet};
+ghost use Rattle.ffi_calls.specs.{Outputs};
+ghost use Rattle.ffi_calls.specs.{short_key};
 
-use crate::pairs::NumberMember;
 use ffi_calls::building::Built;
-use ffi_calls::number_sets::{build_number_set, next_number_members};
-use rkyv_table::table::decoded::Decoded;
+use ffi_calls::number_sets::build_number_set;
 use std::alloc::Global;
-
-/// Stores the next items from the bucket `from` on, in bucket order, and returns their number.
-///
-/// If fewer items are stored than `members` has room for, no item remains. Otherwise a next call
-/// goes on at the `next` of the last member.
-///
-/// # Requires
-///
-/// - The archive is valid: `rkyv_c_open` returned 0 for the set's codes.
-/// - `header` is its decoded header.
-#[unsafe(no_mangle)]
-pub extern "C" fn rkyv_c_next_number_members(
-    archive: &[u8],
-    wide: bool,
-    header: &Decoded,
-    from: u64,
-    members: &mut [NumberMember],
-) -> usize
-    requires archive { IsNumberSet short_key wide archive.now }
-    requires header { IsHeaderOf (number_set_in short_key wide archive.now) header.now }
-    ensures { StoresNextNumberMembers (number_keys_at short_key wide archive.now) from (map
-        number_member members.old) result (map number_member members.new) }
-{
-    next_number_members::<u32, _>(archive, wide, header, from, members)
-}
 
 /// Writes the archive of a set of the items, in insertion order, and stores its bytes in `built`.
 ///

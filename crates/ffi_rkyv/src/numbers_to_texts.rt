@@ -1,42 +1,15 @@
 //! The calls for maps of numbers of 32 bits to texts.
 
 ghost use Rattle.std.specs.Prelude.{map};
-ghost use Rattle.ffi_calls.specs.{ArchiveOfNumberTextsFails, IsArchiveOfNumberTexts, IsHeaderOf};
-ghost use Rattle.ffi_calls.specs.{IsNumberTextArchive, Outputs, StoresNextNumberTexts};
-ghost use Rattle.ffi_calls.specs.{number_keys_at, number_texts_in, short_key};
-ghost use Rattle.ffi_rkyv.specs.Pairs.{number_text_pair, number_text_step};
+ghost use Rattle.ffi_calls.specs.{ArchiveOfNumberTextsFails, IsArchiveOfNumberTexts};
+ghost use Rattle.ffi_calls.specs.{Outputs};
+ghost use Rattle.ffi_calls.specs.{short_key};
+ghost use Rattle.ffi_rkyv.specs.Pairs.{number_text_pair};
 
-use crate::pairs::{NumberTextPair, NumberTextStep};
+use crate::pairs::NumberTextPair;
 use ffi_calls::building::Built;
-use ffi_calls::numbers_to_texts::next_number_texts;
 use ffi_calls::numbers_to_texts_items::build_numbers_to_texts;
-use rkyv_table::table::decoded::Decoded;
 use std::alloc::Global;
-
-/// Stores the next pairs from the bucket `from` on, in bucket order, and returns their number.
-///
-/// If fewer pairs are stored than `pairs` has room for, no pair remains. Otherwise a next call goes
-/// on at the `next` of the last pair.
-///
-/// # Requires
-///
-/// - The archive is valid: `rkyv_c_open` returned 0 for the map's codes.
-/// - `header` is its decoded header.
-#[unsafe(no_mangle)]
-pub extern "C" fn rkyv_c_next_number_texts<'a>(
-    archive: &'a [u8],
-    wide: bool,
-    header: &Decoded,
-    from: u64,
-    pairs: &mut [NumberTextStep<'a>],
-) -> usize
-    requires archive { IsNumberTextArchive short_key wide archive.now }
-    requires header { IsHeaderOf (number_texts_in short_key wide archive.now) header.now }
-    ensures { StoresNextNumberTexts (number_keys_at short_key wide archive.now) from (map
-        number_text_step pairs.old) result (map number_text_step pairs.new) }
-{
-    next_number_texts::<u32, _>(archive, wide, header, from, pairs)
-}
 
 /// Writes the archive of the items, in insertion order, and stores its bytes in `built`.
 ///

@@ -3,14 +3,13 @@
 //! A text is stored as its bytes, which are borrowed from the archive.
 
 ghost use Rattle.std.specs.Prelude.{◌≡◌};
-ghost use Rattle.ffi_rkyv.specs.Pairs.{indexed_number, indexed_text, long_number_member};
-ghost use Rattle.ffi_rkyv.specs.Pairs.{long_number_pair, long_number_step, long_number_text_pair};
-ghost use Rattle.ffi_rkyv.specs.Pairs.{long_number_text_step, number_member, number_pair};
-ghost use Rattle.ffi_rkyv.specs.Pairs.{number_step, number_text_pair, number_text_step};
-ghost use Rattle.ffi_rkyv.specs.Pairs.{text_member, text_pair, text_step, text_text_pair};
-ghost use Rattle.ffi_rkyv.specs.Pairs.{text_text_step};
+ghost use Rattle.ffi_rkyv.specs.Pairs.{indexed_number, indexed_text};
+ghost use Rattle.ffi_rkyv.specs.Pairs.{long_number_pair, long_number_text_pair};
+ghost use Rattle.ffi_rkyv.specs.Pairs.{number_pair};
+ghost use Rattle.ffi_rkyv.specs.Pairs.{number_text_pair};
+ghost use Rattle.ffi_rkyv.specs.Pairs.{text_pair, text_text_pair};
 
-use ffi_calls::pairs::{Indexed, IndexedOf, Pair, PairOf, Step, StepOf};
+use ffi_calls::pairs::{Indexed, IndexedOf, Pair, PairOf};
 
 /// A pair of a number of 32 bits and a number.
 #[repr(C)]
@@ -42,33 +41,6 @@ impl PairOf<u32, u64> for NumberPair {
         Pair {
             value: self.value,
             key: self.key,
-        }
-    }
-}
-
-/// Such a pair of a walk, and the bucket at which the walk continues.
-#[repr(C)]
-#[derive(Clone, Copy)]
-pub struct NumberStep {
-    /// The bucket at which the walk continues.
-    pub next: u64,
-    /// The value.
-    pub value: u64,
-    /// The key.
-    pub key: u32,
-}
-
-impl StepOf<u32, u64> for NumberStep {
-    ghost step_of = { number_step };
-
-    #[inline]
-    fn of_step(step: Step<Pair<u32, u64>>) -> NumberStep
-        ensures { number_step result ≡ step }
-    {
-        NumberStep {
-            next: step.next,
-            value: step.pair.value,
-            key: step.pair.key,
         }
     }
 }
@@ -107,57 +79,6 @@ impl<'a> PairOf<u32, &'a [u8]> for NumberTextPair<'a> {
     }
 }
 
-/// Such a pair of a walk, and the bucket at which the walk continues.
-#[repr(C)]
-#[derive(Clone, Copy)]
-pub struct NumberTextStep<'a> {
-    /// The bucket at which the walk continues.
-    pub next: u64,
-    /// The value, as its bytes.
-    pub value: &'a [u8],
-    /// The key.
-    pub key: u32,
-}
-
-impl<'a> StepOf<u32, &'a [u8]> for NumberTextStep<'a> {
-    ghost step_of = { number_text_step };
-
-    #[inline]
-    fn of_step(step: Step<Pair<u32, &'a [u8]>>) -> NumberTextStep<'a>
-        ensures { number_text_step result ≡ step.entry }
-    {
-        NumberTextStep {
-            next: step.next,
-            value: step.pair.value,
-            key: step.pair.key,
-        }
-    }
-}
-
-/// An item of a set of numbers of 32 bits, and the bucket at which a walk continues.
-#[repr(C)]
-#[derive(Clone, Copy)]
-pub struct NumberMember {
-    /// The bucket at which the walk continues.
-    pub next: u64,
-    /// The item.
-    pub item: u32,
-}
-
-impl StepOf<u32, ()> for NumberMember {
-    ghost step_of = { number_member };
-
-    #[inline]
-    fn of_step(step: Step<Pair<u32, ()>>) -> NumberMember
-        ensures { number_member result ≡ step }
-    {
-        NumberMember {
-            next: step.next,
-            item: step.pair.key,
-        }
-    }
-}
-
 /// A pair of a number of 64 bits and a number.
 #[repr(C)]
 #[derive(Clone, Copy)]
@@ -188,33 +109,6 @@ impl PairOf<u64, u64> for LongNumberPair {
         Pair {
             value: self.value,
             key: self.key,
-        }
-    }
-}
-
-/// Such a pair of a walk, and the bucket at which the walk continues.
-#[repr(C)]
-#[derive(Clone, Copy)]
-pub struct LongNumberStep {
-    /// The bucket at which the walk continues.
-    pub next: u64,
-    /// The value.
-    pub value: u64,
-    /// The key.
-    pub key: u64,
-}
-
-impl StepOf<u64, u64> for LongNumberStep {
-    ghost step_of = { long_number_step };
-
-    #[inline]
-    fn of_step(step: Step<Pair<u64, u64>>) -> LongNumberStep
-        ensures { long_number_step result ≡ step }
-    {
-        LongNumberStep {
-            next: step.next,
-            value: step.pair.value,
-            key: step.pair.key,
         }
     }
 }
@@ -253,57 +147,6 @@ impl<'a> PairOf<u64, &'a [u8]> for LongNumberTextPair<'a> {
     }
 }
 
-/// Such a pair of a walk, and the bucket at which the walk continues.
-#[repr(C)]
-#[derive(Clone, Copy)]
-pub struct LongNumberTextStep<'a> {
-    /// The bucket at which the walk continues.
-    pub next: u64,
-    /// The value, as its bytes.
-    pub value: &'a [u8],
-    /// The key.
-    pub key: u64,
-}
-
-impl<'a> StepOf<u64, &'a [u8]> for LongNumberTextStep<'a> {
-    ghost step_of = { long_number_text_step };
-
-    #[inline]
-    fn of_step(step: Step<Pair<u64, &'a [u8]>>) -> LongNumberTextStep<'a>
-        ensures { long_number_text_step result ≡ step.entry }
-    {
-        LongNumberTextStep {
-            next: step.next,
-            value: step.pair.value,
-            key: step.pair.key,
-        }
-    }
-}
-
-/// An item of a set of numbers of 64 bits, and the bucket at which a walk continues.
-#[repr(C)]
-#[derive(Clone, Copy)]
-pub struct LongNumberMember {
-    /// The bucket at which the walk continues.
-    pub next: u64,
-    /// The item.
-    pub item: u64,
-}
-
-impl StepOf<u64, ()> for LongNumberMember {
-    ghost step_of = { long_number_member };
-
-    #[inline]
-    fn of_step(step: Step<Pair<u64, ()>>) -> LongNumberMember
-        ensures { long_number_member result ≡ step }
-    {
-        LongNumberMember {
-            next: step.next,
-            item: step.pair.key,
-        }
-    }
-}
-
 /// A pair of a text and a number.
 #[repr(C)]
 #[derive(Clone, Copy)]
@@ -338,33 +181,6 @@ impl<'a> PairOf<&'a [u8], u64> for TextPair<'a> {
     }
 }
 
-/// Such a pair of a walk, and the bucket at which the walk continues.
-#[repr(C)]
-#[derive(Clone, Copy)]
-pub struct TextStep<'a> {
-    /// The bucket at which the walk continues.
-    pub next: u64,
-    /// The value.
-    pub value: u64,
-    /// The key, as its bytes.
-    pub key: &'a [u8],
-}
-
-impl<'a> StepOf<&'a [u8], u64> for TextStep<'a> {
-    ghost step_of = { text_step };
-
-    #[inline]
-    fn of_step(step: Step<Pair<&'a [u8], u64>>) -> TextStep<'a>
-        ensures { text_step result ≡ step.entry }
-    {
-        TextStep {
-            next: step.next,
-            value: step.pair.value,
-            key: step.pair.key,
-        }
-    }
-}
-
 /// A pair of a text and a text.
 #[repr(C)]
 #[derive(Clone, Copy)]
@@ -395,57 +211,6 @@ impl<'a> PairOf<&'a [u8], &'a [u8]> for TextTextPair<'a> {
         Pair {
             value: self.value,
             key: self.key,
-        }
-    }
-}
-
-/// Such a pair of a walk, and the bucket at which the walk continues.
-#[repr(C)]
-#[derive(Clone, Copy)]
-pub struct TextTextStep<'a> {
-    /// The bucket at which the walk continues.
-    pub next: u64,
-    /// The value, as its bytes.
-    pub value: &'a [u8],
-    /// The key, as its bytes.
-    pub key: &'a [u8],
-}
-
-impl<'a> StepOf<&'a [u8], &'a [u8]> for TextTextStep<'a> {
-    ghost step_of = { text_text_step };
-
-    #[inline]
-    fn of_step(step: Step<Pair<&'a [u8], &'a [u8]>>) -> TextTextStep<'a>
-        ensures { text_text_step result ≡ step.entry }
-    {
-        TextTextStep {
-            next: step.next,
-            value: step.pair.value,
-            key: step.pair.key,
-        }
-    }
-}
-
-/// An item of a set of texts, and the bucket at which a walk continues.
-#[repr(C)]
-#[derive(Clone, Copy)]
-pub struct TextMember<'a> {
-    /// The bucket at which the walk continues.
-    pub next: u64,
-    /// The item, as its bytes.
-    pub item: &'a [u8],
-}
-
-impl<'a> StepOf<&'a [u8], ()> for TextMember<'a> {
-    ghost step_of = { text_member };
-
-    #[inline]
-    fn of_step(step: Step<Pair<&'a [u8], ()>>) -> TextMember<'a>
-        ensures { text_member result ≡ step.entry }
-    {
-        TextMember {
-            next: step.next,
-            item: step.pair.key,
         }
     }
 }

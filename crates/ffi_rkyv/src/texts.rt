@@ -2,17 +2,16 @@
 
 ghost use Rattle.std.specs.Prelude.{IsTrue, map, ◌↔◌};
 ghost use Rattle.std.specs.Str.{IsUtf8};
-ghost use Rattle.ffi_calls.specs.{ArchiveOfTextsFails, IsArchiveOfTexts, IsHeaderOf, IsTextArchive};
-ghost use Rattle.ffi_calls.specs.{KeepsHeader, Outputs, SetsFirstText, SetsText, StoresNextTexts};
+ghost use Rattle.ffi_calls.specs.{ArchiveOfTextsFails, IsArchiveOfTexts, IsTextArchive};
+ghost use Rattle.ffi_calls.specs.{KeepsHeader, Outputs, SetsFirstText, SetsText};
 ghost use Rattle.ffi_calls.specs.{form_of, texts_in};
-ghost use Rattle.ffi_rkyv.specs.Pairs.{text_pair, text_step};
+ghost use Rattle.ffi_rkyv.specs.Pairs.{text_pair};
 
-use crate::pairs::{TextPair, TextStep};
+use crate::pairs::TextPair;
 use ffi_calls::building::Built;
 use ffi_calls::form::Form;
 use ffi_calls::text_items::build_texts;
-use ffi_calls::texts::{is_text, next_texts, set_text};
-use rkyv_table::table::decoded::Decoded;
+use ffi_calls::texts::{is_text, set_text};
 use std::alloc::Global;
 
 /// Looks up a key, and overwrites its value in place.
@@ -48,32 +47,6 @@ pub extern "C" fn rkyv_c_set_text(
         → SetsFirstText (form_of long_values wide) archive.old key.now value result archive.new }
 {
     set_text(archive, Form { long_values, wide }, key, value)
-}
-
-/// Stores the next pairs from the bucket `from` on, in bucket order, and returns their number.
-///
-/// If fewer pairs are stored than `pairs` has room for, no pair remains. Otherwise a next call goes
-/// on at the `next` of the last pair.
-///
-/// # Requires
-///
-/// - The archive is valid: `rkyv_c_open` returned 0 for the map's codes.
-/// - `header` is its decoded header.
-#[unsafe(no_mangle)]
-pub extern "C" fn rkyv_c_next_texts<'a>(
-    archive: &'a [u8],
-    long_values: bool,
-    wide: bool,
-    header: &Decoded,
-    from: u64,
-    pairs: &mut [TextStep<'a>],
-) -> usize
-    requires archive { IsTextArchive (form_of long_values wide) archive.now }
-    requires header { IsHeaderOf (texts_in (form_of long_values wide) archive.now) header.now }
-    ensures { StoresNextTexts (form_of long_values wide) archive.now from (map text_step pairs.old)
-        result (map text_step pairs.new) }
-{
-    next_texts(archive, Form { long_values, wide }, header, from, pairs)
 }
 
 /// Returns whether the bytes are a text: UTF-8.
