@@ -42,24 +42,26 @@ typedef struct indexed_text {
     text value;
 } indexed_text;
 
+/* A key or a value of any type: a number or a text. The other member is 0, or a text of no bytes. */
+typedef struct any_value {
+    uint64_t number;
+    text bytes;
+} any_value;
+
+/* A pair of any collection, and the bucket or the index at which iteration continues. */
+typedef struct any_item {
+    uint64_t next;
+    any_value key;
+    any_value value;
+} any_item;
+
 /* The calls of the proved library for maps whose values are numbers, which have 64 bits if `longer` is
- * true. The width is 64 if `wide` is true. Arrays of pairs, members and items have no type here: each
- * call takes those of its map. */
-typedef size_t next_numbers(const uint8_t *archive, size_t length, bool longer, bool wide,
-                            const rkyv_table_header *header, uint64_t from, void *pairs,
-                            size_t room);
-typedef size_t numbers_from(const uint8_t *archive, size_t length, bool longer, bool wide,
-                            const rkyv_table_header *header, size_t from, void *pairs,
-                            size_t room);
+ * true. The width is 64 if `wide` is true. Arrays of items have no type here: each call takes those of
+ * its map. */
 typedef uint32_t build_numbers(const void *items, size_t count, bool longer, bool wide,
                                built *built);
 
 /* The same for maps to texts and sets. */
-typedef size_t next_others(const uint8_t *archive, size_t length, bool wide,
-                           const rkyv_table_header *header, uint64_t from, void *pairs,
-                           size_t room);
-typedef size_t others_from(const uint8_t *archive, size_t length, bool wide,
-                           const rkyv_table_header *header, size_t from, void *pairs, size_t room);
 typedef uint32_t build_others(const void *items, size_t count, bool wide, built *built);
 
 /* The calls that look up. Each is of one type of values and one width. */
@@ -120,13 +122,6 @@ extern "C" {
  * valid bytes: the function that opens has returned 0 for them. A decoded header is that of these
  * bytes. Setting a value leaves the header unchanged. The header of a container has 32 bytes. No
  * pointer is null, and memory that a function writes overlaps no other argument. */
-next_numbers rkyv_c_next_numbers, rkyv_c_next_long_numbers, rkyv_c_next_texts;
-next_others rkyv_c_next_number_texts, rkyv_c_next_long_number_texts, rkyv_c_next_text_texts;
-next_others rkyv_c_next_number_members, rkyv_c_next_long_number_members, rkyv_c_next_text_members;
-numbers_from rkyv_c_index_numbers_from, rkyv_c_index_long_numbers_from, rkyv_c_index_texts_from;
-others_from rkyv_c_index_number_texts_from, rkyv_c_index_long_number_texts_from;
-others_from rkyv_c_index_text_texts_from;
-
 build_numbers rkyv_c_build_numbers, rkyv_c_build_long_numbers, rkyv_c_build_texts;
 build_numbers rkyv_c_index_build_numbers, rkyv_c_index_build_long_numbers;
 build_numbers rkyv_c_index_build_texts;
@@ -168,16 +163,19 @@ bool rkyv_c_is_text(const uint8_t *bytes, size_t length);
 
 /* A function without effect, whose name has the number of the library's interface: these files do not
  * link with a library of another interface. */
-void rkyv_c_interface_1(void);
+void rkyv_c_interface_2(void);
 
-/* The library's functions that open archives and count misplaced keys, and those for containers, by
- * the codes of their contents. */
+/* The library's functions that open archives, iterate and count misplaced keys, and those for
+ * containers, by the codes of their contents. */
 uint32_t rkyv_c_open(const uint8_t *archive, size_t length, uint8_t collection, uint8_t key,
                      uint8_t value, uint8_t width);
 void rkyv_c_explain(const uint8_t *archive, size_t length, uint8_t collection, uint8_t key,
                     uint8_t value, uint8_t width, rkyv_error *error);
 void rkyv_c_decode(const uint8_t *archive, size_t length, uint8_t collection, uint8_t key,
                    uint8_t value, uint8_t width, rkyv_table_header *header);
+size_t rkyv_c_next(const uint8_t *archive, size_t length, uint8_t collection, uint8_t key,
+                   uint8_t value, uint8_t width, const rkyv_table_header *header, uint64_t from,
+                   any_item *items, size_t room);
 uint32_t rkyv_c_misplaced_up_to(const uint8_t *archive, size_t length, uint8_t collection,
                                 uint8_t key, uint8_t value, uint8_t width,
                                 const rkyv_table_header *header, uint64_t limit, uint64_t *count);
@@ -201,88 +199,45 @@ static const uint8_t nothing[1] = {0};
 /* The text of no bytes. */
 #define NO_TEXT ((const char *)nothing)
 
-/* The calls for maps whose values are numbers, by the type of their keys. A hash map has `next`, and
- * an index map `from`. */
-typedef struct calls_of_numbers {
-    next_numbers *next;
-    numbers_from *from;
-    build_numbers *build;
-} calls_of_numbers;
-
-static const calls_of_numbers numbers = {rkyv_c_next_numbers, NULL, rkyv_c_build_numbers};
-static const calls_of_numbers long_numbers = {rkyv_c_next_long_numbers, NULL,
-                                              rkyv_c_build_long_numbers};
-static const calls_of_numbers texts = {rkyv_c_next_texts, NULL, rkyv_c_build_texts};
-static const calls_of_numbers index_numbers = {NULL, rkyv_c_index_numbers_from,
-                                               rkyv_c_index_build_numbers};
-static const calls_of_numbers index_long_numbers = {NULL, rkyv_c_index_long_numbers_from,
-                                                    rkyv_c_index_build_long_numbers};
-static const calls_of_numbers index_texts = {NULL, rkyv_c_index_texts_from,
-                                             rkyv_c_index_build_texts};
-
-/* The same for maps to texts and sets. */
-typedef struct calls_of_others {
-    next_others *next;
-    others_from *from;
-    build_others *build;
-} calls_of_others;
-
-static const calls_of_others numbers_to_texts = {rkyv_c_next_number_texts, NULL,
-                                                 rkyv_c_build_numbers_to_texts};
-static const calls_of_others long_numbers_to_texts = {rkyv_c_next_long_number_texts, NULL,
-                                                      rkyv_c_build_long_numbers_to_texts};
-static const calls_of_others texts_to_texts = {rkyv_c_next_text_texts, NULL,
-                                               rkyv_c_build_texts_to_texts};
-static const calls_of_others number_sets = {rkyv_c_next_number_members, NULL,
-                                            rkyv_c_build_number_set};
-static const calls_of_others long_number_sets = {rkyv_c_next_long_number_members, NULL,
-                                                 rkyv_c_build_long_number_set};
-static const calls_of_others text_sets = {rkyv_c_next_text_members, NULL, rkyv_c_build_text_set};
-static const calls_of_others index_numbers_to_texts = {NULL, rkyv_c_index_number_texts_from,
-                                                       rkyv_c_index_build_numbers_to_texts};
-static const calls_of_others index_long_numbers_to_texts = {
-    NULL, rkyv_c_index_long_number_texts_from, rkyv_c_index_build_long_numbers_to_texts};
-static const calls_of_others index_texts_to_texts = {NULL, rkyv_c_index_text_texts_from,
-                                                     rkyv_c_index_build_texts_to_texts};
-
 /* The codes of collections and of types in the header of a container. NUMBER is none of them: it is
  * the type of values that are numbers. */
 enum { HASH_MAP = 1, HASH_SET = 2, INDEX_MAP = 3 };
 enum { NUMBER = 0, UNIT = 0x01, TEXT = 0x04, U32 = 0x14, U64 = 0x18 };
 
-/* The collection and the types of a kind, and the calls for its maps. */
+/* The collection and the types of a kind, and the call that builds its maps: for values that are
+ * numbers, or for others. */
 typedef struct contents {
     uint8_t collection;
     uint8_t key;
     uint8_t value;
-    const calls_of_numbers *numbers;
-    const calls_of_others *others;
+    build_numbers *numbers;
+    build_others *others;
 } contents;
 
 /* The contents by the number of the kind. No kind has the number 0. */
 static const contents kinds[] = {
     /* none */                           {0, 0, 0, NULL, NULL},
-    /* RKYV_NUMBER_TO_U32 */             {HASH_MAP, U32, U32, &numbers, NULL},
-    /* RKYV_NUMBER_TO_U64 */             {HASH_MAP, U32, U64, &numbers, NULL},
-    /* RKYV_TEXT_TO_U32 */               {HASH_MAP, TEXT, U32, &texts, NULL},
-    /* RKYV_TEXT_TO_U64 */               {HASH_MAP, TEXT, U64, &texts, NULL},
-    /* RKYV_INDEX_NUMBER_TO_U32 */       {INDEX_MAP, U32, U32, &index_numbers, NULL},
-    /* RKYV_INDEX_NUMBER_TO_U64 */       {INDEX_MAP, U32, U64, &index_numbers, NULL},
-    /* RKYV_INDEX_TEXT_TO_U32 */         {INDEX_MAP, TEXT, U32, &index_texts, NULL},
-    /* RKYV_INDEX_TEXT_TO_U64 */         {INDEX_MAP, TEXT, U64, &index_texts, NULL},
-    /* RKYV_NUMBER_TO_TEXT */            {HASH_MAP, U32, TEXT, NULL, &numbers_to_texts},
-    /* RKYV_TEXT_TO_TEXT */              {HASH_MAP, TEXT, TEXT, NULL, &texts_to_texts},
-    /* RKYV_SET_OF_NUMBERS */            {HASH_SET, U32, UNIT, NULL, &number_sets},
-    /* RKYV_SET_OF_TEXTS */              {HASH_SET, TEXT, UNIT, NULL, &text_sets},
-    /* RKYV_LONG_NUMBER_TO_U32 */        {HASH_MAP, U64, U32, &long_numbers, NULL},
-    /* RKYV_LONG_NUMBER_TO_U64 */        {HASH_MAP, U64, U64, &long_numbers, NULL},
-    /* RKYV_SET_OF_LONG_NUMBERS */       {HASH_SET, U64, UNIT, NULL, &long_number_sets},
-    /* RKYV_LONG_NUMBER_TO_TEXT */       {HASH_MAP, U64, TEXT, NULL, &long_numbers_to_texts},
-    /* RKYV_INDEX_LONG_NUMBER_TO_U32 */  {INDEX_MAP, U64, U32, &index_long_numbers, NULL},
-    /* RKYV_INDEX_LONG_NUMBER_TO_U64 */  {INDEX_MAP, U64, U64, &index_long_numbers, NULL},
-    /* RKYV_INDEX_NUMBER_TO_TEXT */      {INDEX_MAP, U32, TEXT, NULL, &index_numbers_to_texts},
-    /* RKYV_INDEX_TEXT_TO_TEXT */        {INDEX_MAP, TEXT, TEXT, NULL, &index_texts_to_texts},
-    /* RKYV_INDEX_LONG_NUMBER_TO_TEXT */ {INDEX_MAP, U64, TEXT, NULL, &index_long_numbers_to_texts},
+    /* RKYV_NUMBER_TO_U32 */             {HASH_MAP, U32, U32, rkyv_c_build_numbers, NULL},
+    /* RKYV_NUMBER_TO_U64 */             {HASH_MAP, U32, U64, rkyv_c_build_numbers, NULL},
+    /* RKYV_TEXT_TO_U32 */               {HASH_MAP, TEXT, U32, rkyv_c_build_texts, NULL},
+    /* RKYV_TEXT_TO_U64 */               {HASH_MAP, TEXT, U64, rkyv_c_build_texts, NULL},
+    /* RKYV_INDEX_NUMBER_TO_U32 */       {INDEX_MAP, U32, U32, rkyv_c_index_build_numbers, NULL},
+    /* RKYV_INDEX_NUMBER_TO_U64 */       {INDEX_MAP, U32, U64, rkyv_c_index_build_numbers, NULL},
+    /* RKYV_INDEX_TEXT_TO_U32 */         {INDEX_MAP, TEXT, U32, rkyv_c_index_build_texts, NULL},
+    /* RKYV_INDEX_TEXT_TO_U64 */         {INDEX_MAP, TEXT, U64, rkyv_c_index_build_texts, NULL},
+    /* RKYV_NUMBER_TO_TEXT */            {HASH_MAP, U32, TEXT, NULL, rkyv_c_build_numbers_to_texts},
+    /* RKYV_TEXT_TO_TEXT */              {HASH_MAP, TEXT, TEXT, NULL, rkyv_c_build_texts_to_texts},
+    /* RKYV_SET_OF_NUMBERS */            {HASH_SET, U32, UNIT, NULL, rkyv_c_build_number_set},
+    /* RKYV_SET_OF_TEXTS */              {HASH_SET, TEXT, UNIT, NULL, rkyv_c_build_text_set},
+    /* RKYV_LONG_NUMBER_TO_U32 */        {HASH_MAP, U64, U32, rkyv_c_build_long_numbers, NULL},
+    /* RKYV_LONG_NUMBER_TO_U64 */        {HASH_MAP, U64, U64, rkyv_c_build_long_numbers, NULL},
+    /* RKYV_SET_OF_LONG_NUMBERS */       {HASH_SET, U64, UNIT, NULL, rkyv_c_build_long_number_set},
+    /* RKYV_LONG_NUMBER_TO_TEXT */       {HASH_MAP, U64, TEXT, NULL, rkyv_c_build_long_numbers_to_texts},
+    /* RKYV_INDEX_LONG_NUMBER_TO_U32 */  {INDEX_MAP, U64, U32, rkyv_c_index_build_long_numbers, NULL},
+    /* RKYV_INDEX_LONG_NUMBER_TO_U64 */  {INDEX_MAP, U64, U64, rkyv_c_index_build_long_numbers, NULL},
+    /* RKYV_INDEX_NUMBER_TO_TEXT */      {INDEX_MAP, U32, TEXT, NULL, rkyv_c_index_build_numbers_to_texts},
+    /* RKYV_INDEX_TEXT_TO_TEXT */        {INDEX_MAP, TEXT, TEXT, NULL, rkyv_c_index_build_texts_to_texts},
+    /* RKYV_INDEX_LONG_NUMBER_TO_TEXT */ {INDEX_MAP, U64, TEXT, NULL, rkyv_c_index_build_long_numbers_to_texts},
 };
 
 /* Whether there is such a kind. The kind of a handle of no open map is 0. */
@@ -294,10 +249,6 @@ static bool is_kind(uint32_t kind) {
 static bool has_types(uint32_t kind, uint8_t key, uint8_t value) {
     return is_kind(kind) && kinds[kind].key == key
         && (value == NUMBER ? kinds[kind].numbers != NULL : kinds[kind].value == value);
-}
-
-static bool has_texts(uint32_t kind) {
-    return kinds[kind].key == TEXT || kinds[kind].value == TEXT;
 }
 
 static bool has_long_values(uint32_t kind) {
@@ -545,7 +496,7 @@ static const rkyv_map closed = {NULL, NULL, 0, 0, 0, {0, 0, 0, 1, UINT64_MAX}};
 /* Validates an archive. */
 static rkyv_status open_archive(const uint8_t *archive, size_t length, uint32_t kind, bool wide) {
     const contents *of = &kinds[kind];
-    rkyv_c_interface_1();
+    rkyv_c_interface_2();
     return (rkyv_status)rkyv_c_open(archive, length, of->collection, of->key, of->value,
                                     width_code(wide));
 }
@@ -1070,37 +1021,28 @@ rkyv_status rkyv_index_set_text(rkyv_index_map *map, const char *key, size_t len
                       value);
 }
 
-/* Stores the pairs of an open map from a bucket or an index on, at most `room`, and returns their
+/* An item that the library overwrites, since it takes no null pointers. */
+static const any_item no_item = {0, {0, {NO_TEXT, 0}}, {0, {NO_TEXT, 0}}};
+
+/* The greatest number of items that one call of the library stores. */
+#define BATCH ((size_t)16)
+
+/* Stores the items of an open map from a bucket or an index on, at most `room`, and returns their
  * number. */
-static size_t pairs_from(const rkyv_map *map, uint64_t from, void *pairs, size_t room) {
+static size_t items_from(const rkyv_map *map, uint64_t from, any_item *items, size_t room) {
     const contents *of = &kinds[map->kind];
-    const bool longer = has_long_values(map->kind), wide = is_wide(map);
-    const bool index = of->collection == INDEX_MAP;
-    if (of->numbers != NULL && index) {
-        return of->numbers->from(map->bytes, map->length, longer, wide, &map->header, (size_t)from,
-                                 pairs, room);
-    }
-    if (of->numbers != NULL) {
-        return of->numbers->next(map->bytes, map->length, longer, wide, &map->header, from, pairs,
-                                 room);
-    }
-    if (index) {
-        return of->others->from(map->bytes, map->length, wide, &map->header, (size_t)from, pairs,
-                                room);
-    }
-    return of->others->next(map->bytes, map->length, wide, &map->header, from, pairs, room);
+    return rkyv_c_next(map->bytes, map->length, of->collection, of->key, of->value,
+                       width_code(is_wide(map)), &map->header, from, items, room);
 }
 
-/* Stores the pair of a map at a bucket or an index over the `size` bytes at `pair`, unless the status
- * is an error. The library stores it over those at `found`, whose texts are not null. */
-static rkyv_status store_pair(rkyv_status status, const rkyv_map *map, uint64_t from, void *pair,
-                              void *found, size_t size) {
+/* Stores the item of a map at a bucket or an index, unless the status is an error, or the address of
+ * the pair is null. */
+static rkyv_status item_at(rkyv_status status, const rkyv_map *map, uint64_t from, const void *pair,
+                           any_item *item) {
+    *item = no_item;
     status = first(status, check_output(pair));
-    if (status == RKYV_OK && pairs_from(map, from, found, 1) == 0) {
+    if (status == RKYV_OK && items_from(map, from, item, 1) == 0) {
         status = RKYV_END;
-    }
-    if (status == RKYV_OK) {
-        memcpy(pair, found, size);
     }
     return status;
 }
@@ -1113,37 +1055,44 @@ static rkyv_status check_room(const void *pairs, size_t size, size_t room, const
     return room <= PTRDIFF_MAX / size ? RKYV_OK : RKYV_TOO_LONG;
 }
 
-/* Stores the pairs of an open map from a bucket or an index on, and their number. `pairs` may be null
- * if `room` is 0. */
-static void store_pairs(const rkyv_map *map, uint64_t from, void *pairs, size_t room,
-                        size_t *count) {
-    uint64_t nowhere[1] = {0};
-    *count = pairs_from(map, from, pairs != NULL ? pairs : nowhere, room);
-}
-
-/* The body of a call that stores several pairs of a type. Texts of the caller's pairs may be null, but
- * not those of the library's. The library gets no more room than the map has pairs. The last argument
- * is a pair whose texts are not null. */
-#define SEVERAL(map, check, kind, from, pair_type, ...)                                            \
-    rkyv_status status = first(check(map, kind), check_room(pairs, sizeof *pairs, room, count));   \
+/* The bodies of the calls that store one pair of a type, and several. The last argument is the pair
+ * with the members of `item`. */
+#define ONE(map, check, kind, from, pair_type, ...)                                                \
+    any_item item;                                                                                 \
+    rkyv_status status = item_at(check(map, kind), map, from, pair, &item);                        \
     if (status == RKYV_OK) {                                                                       \
-        const size_t length = (map)->header.length;                                                \
-        const size_t most = room < length ? room : length;                                         \
-        const pair_type none = __VA_ARGS__;                                                        \
-        for (size_t i = 0; has_texts(kind) && i < most; i++) {                                     \
-            pairs[i] = none;                                                                       \
-        }                                                                                          \
-        store_pairs(map, from, pairs, most, count);                                                \
+        const pair_type found = __VA_ARGS__;                                                       \
+        *pair = found;                                                                             \
     }                                                                                              \
     return status
 
-/* Defines the calls that iterate over a hash map or a set of a type: for one pair, and for several.
- * The last argument is a pair whose texts are not null. */
+#define SEVERAL(map, check, kind, from, pair_type, ...)                                            \
+    rkyv_status status = first(check(map, kind), check_room(pairs, sizeof *pairs, room, count));   \
+    if (status == RKYV_OK) {                                                                       \
+        any_item items[BATCH];                                                                     \
+        uint64_t next = from;                                                                      \
+        size_t stored = 0, more = BATCH;                                                           \
+        for (size_t i = 0; i < BATCH; i++) {                                                       \
+            items[i] = no_item;                                                                    \
+        }                                                                                          \
+        while (more == BATCH && stored < room) {                                                   \
+            more = items_from(map, next, items, room - stored < BATCH ? room - stored : BATCH);    \
+            for (size_t i = 0; i < more; i++) {                                                    \
+                const any_item item = items[i];                                                    \
+                const pair_type found = __VA_ARGS__;                                               \
+                pairs[stored + i] = found;                                                         \
+                next = item.next;                                                                  \
+            }                                                                                      \
+            stored += more;                                                                        \
+        }                                                                                          \
+        *count = stored;                                                                           \
+    }                                                                                              \
+    return status
+
+/* Defines the calls that iterate over a hash map or a set of a type: for one pair, and for several. */
 #define ITERATE(one, several, pair_type, check, kind, ...)                                         \
     rkyv_status one(const rkyv_map *map, pair_type *pair) {                                        \
-        pair_type next = __VA_ARGS__;                                                              \
-        return store_pair(check(map, kind), map, pair != NULL ? pair->next : 0, pair, &next,       \
-                          sizeof next);                                                            \
+        ONE(map, check, kind, pair != NULL ? pair->next : 0, pair_type, __VA_ARGS__);              \
     }                                                                                              \
                                                                                                    \
     rkyv_status several(const rkyv_map *map, uint64_t from, pair_type *pairs, size_t room,         \
@@ -1151,32 +1100,34 @@ static void store_pairs(const rkyv_map *map, uint64_t from, void *pairs, size_t 
         SEVERAL(map, check, kind, from, pair_type, __VA_ARGS__);                                   \
     }
 
-ITERATE(rkyv_map_next_number, rkyv_map_next_numbers, rkyv_number_pair, check_numbers,
-        RKYV_NUMBER_TO_U32, {0, 0, 0})
-ITERATE(rkyv_map_next_long_number, rkyv_map_next_long_numbers, rkyv_long_number_pair, check_numbers,
-        RKYV_LONG_NUMBER_TO_U32, {0, 0, 0})
-ITERATE(rkyv_map_next_text, rkyv_map_next_texts, rkyv_text_pair, check_numbers, RKYV_TEXT_TO_U32,
-        {0, 0, NO_TEXT, 0})
-ITERATE(rkyv_map_next_number_text, rkyv_map_next_number_texts, rkyv_number_text_pair, check_kind,
-        RKYV_NUMBER_TO_TEXT, {0, NO_TEXT, 0, 0})
-ITERATE(rkyv_map_next_long_number_text, rkyv_map_next_long_number_texts, rkyv_long_number_text_pair,
-        check_kind, RKYV_LONG_NUMBER_TO_TEXT, {0, NO_TEXT, 0, 0})
-ITERATE(rkyv_map_next_text_text, rkyv_map_next_text_texts, rkyv_text_text_pair, check_kind,
-        RKYV_TEXT_TO_TEXT, {0, NO_TEXT, 0, NO_TEXT, 0})
-ITERATE(rkyv_set_next_number, rkyv_set_next_numbers, rkyv_number_member, check_kind,
-        RKYV_SET_OF_NUMBERS, {0, 0})
-ITERATE(rkyv_set_next_long_number, rkyv_set_next_long_numbers, rkyv_long_number_member, check_kind,
-        RKYV_SET_OF_LONG_NUMBERS, {0, 0})
-ITERATE(rkyv_set_next_text, rkyv_set_next_texts, rkyv_text_member, check_kind, RKYV_SET_OF_TEXTS,
-        {0, NO_TEXT, 0})
+/* The members of a pair: a number of 32 bits, one of 64 bits, and a text. */
+#define SHORT(part) (uint32_t)item.part.number
+#define LONG(part) item.part.number
+#define BYTES(part) item.part.bytes.text, item.part.bytes.length
 
-/* Defines the calls that read an index map of a type by index: one pair, and several. The last
- * argument is a pair whose texts are not null. */
+ITERATE(rkyv_map_next_number, rkyv_map_next_numbers, rkyv_number_pair, check_numbers,
+        RKYV_NUMBER_TO_U32, {item.next, LONG(value), SHORT(key)})
+ITERATE(rkyv_map_next_long_number, rkyv_map_next_long_numbers, rkyv_long_number_pair, check_numbers,
+        RKYV_LONG_NUMBER_TO_U32, {item.next, LONG(value), LONG(key)})
+ITERATE(rkyv_map_next_text, rkyv_map_next_texts, rkyv_text_pair, check_numbers, RKYV_TEXT_TO_U32,
+        {item.next, LONG(value), BYTES(key)})
+ITERATE(rkyv_map_next_number_text, rkyv_map_next_number_texts, rkyv_number_text_pair, check_kind,
+        RKYV_NUMBER_TO_TEXT, {item.next, BYTES(value), SHORT(key)})
+ITERATE(rkyv_map_next_long_number_text, rkyv_map_next_long_number_texts, rkyv_long_number_text_pair,
+        check_kind, RKYV_LONG_NUMBER_TO_TEXT, {item.next, BYTES(value), LONG(key)})
+ITERATE(rkyv_map_next_text_text, rkyv_map_next_text_texts, rkyv_text_text_pair, check_kind,
+        RKYV_TEXT_TO_TEXT, {item.next, BYTES(value), BYTES(key)})
+ITERATE(rkyv_set_next_number, rkyv_set_next_numbers, rkyv_number_member, check_kind,
+        RKYV_SET_OF_NUMBERS, {item.next, SHORT(key)})
+ITERATE(rkyv_set_next_long_number, rkyv_set_next_long_numbers, rkyv_long_number_member, check_kind,
+        RKYV_SET_OF_LONG_NUMBERS, {item.next, LONG(key)})
+ITERATE(rkyv_set_next_text, rkyv_set_next_texts, rkyv_text_member, check_kind, RKYV_SET_OF_TEXTS,
+        {item.next, BYTES(key)})
+
+/* Defines the calls that read an index map of a type by index: one pair, and several. */
 #define READ(one, several, pair_type, check, kind, ...)                                            \
     rkyv_status one(const rkyv_index_map *map, size_t index, pair_type *pair) {                    \
-        pair_type found = __VA_ARGS__;                                                             \
-        return store_pair(check(map_of(map), kind), map_of(map), index, pair, &found,              \
-                          sizeof found);                                                           \
+        ONE(map_of(map), check, kind, index, pair_type, __VA_ARGS__);                              \
     }                                                                                              \
                                                                                                    \
     rkyv_status several(const rkyv_index_map *map, size_t from, pair_type *pairs, size_t room,     \
@@ -1185,17 +1136,18 @@ ITERATE(rkyv_set_next_text, rkyv_set_next_texts, rkyv_text_member, check_kind, R
     }
 
 READ(rkyv_index_number_at, rkyv_index_numbers_from, rkyv_index_number_pair, check_numbers,
-     RKYV_INDEX_NUMBER_TO_U32, {0, 0})
+     RKYV_INDEX_NUMBER_TO_U32, {LONG(value), SHORT(key)})
 READ(rkyv_index_long_number_at, rkyv_index_long_numbers_from, rkyv_index_long_number_pair,
-     check_numbers, RKYV_INDEX_LONG_NUMBER_TO_U32, {0, 0})
+     check_numbers, RKYV_INDEX_LONG_NUMBER_TO_U32, {LONG(value), LONG(key)})
 READ(rkyv_index_text_at, rkyv_index_texts_from, rkyv_index_text_pair, check_numbers,
-     RKYV_INDEX_TEXT_TO_U32, {0, NO_TEXT, 0})
+     RKYV_INDEX_TEXT_TO_U32, {LONG(value), BYTES(key)})
 READ(rkyv_index_number_text_at, rkyv_index_number_texts_from, rkyv_index_number_text_pair,
-     check_kind, RKYV_INDEX_NUMBER_TO_TEXT, {NO_TEXT, 0, 0})
+     check_kind, RKYV_INDEX_NUMBER_TO_TEXT, {BYTES(value), SHORT(key)})
 READ(rkyv_index_long_number_text_at, rkyv_index_long_number_texts_from,
-     rkyv_index_long_number_text_pair, check_kind, RKYV_INDEX_LONG_NUMBER_TO_TEXT, {NO_TEXT, 0, 0})
+     rkyv_index_long_number_text_pair, check_kind, RKYV_INDEX_LONG_NUMBER_TO_TEXT,
+     {BYTES(value), LONG(key)})
 READ(rkyv_index_text_text_at, rkyv_index_text_texts_from, rkyv_index_text_text_pair, check_kind,
-     RKYV_INDEX_TEXT_TO_TEXT, {NO_TEXT, 0, NO_TEXT, 0})
+     RKYV_INDEX_TEXT_TO_TEXT, {BYTES(value), BYTES(key)})
 
 /* Builds the archive of the map of the kind. `items` may be null if there are none. */
 static rkyv_status build_archive(const void *items, size_t count, uint32_t kind, uint32_t width,
@@ -1205,8 +1157,8 @@ static rkyv_status build_archive(const void *items, size_t count, uint32_t kind,
     const void *some = items != NULL ? items : no_items;
     return (rkyv_status)(
         of->numbers != NULL
-            ? of->numbers->build(some, count, has_long_values(kind), width == 64, made)
-            : of->others->build(some, count, width == 64, made));
+            ? of->numbers(some, count, has_long_values(kind), width == 64, made)
+            : of->others(some, count, width == 64, made));
 }
 
 /* Stores what was built. */

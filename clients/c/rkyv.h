@@ -431,7 +431,7 @@ rkyv_status rkyv_map_count(const rkyv_map *map, size_t *count);
  *   - RKYV_CLOSED;
  *   - RKYV_NULL: `count` is null;
  *   - RKYV_LIMIT_REACHED: the lookups of all keys read sixteen control bytes more often than `limit`
- *     times, or more often than 2^63 times. */
+ *     times. */
 rkyv_status rkyv_map_misplaced_up_to(const rkyv_map *map, uint64_t limit, uint64_t *count);
 
 /* Stores the value of a number key. In a map that a call of this header has built, this is the value

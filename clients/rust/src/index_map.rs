@@ -6,8 +6,8 @@ use std::marker::PhantomData;
 
 use crate::map::{found, within_limit};
 use crate::open::{Writable, INDEX, INDEX_CONTAINER};
-use crate::raw::{self, Indexed, Pair, RawMap};
-use crate::types::index_kind;
+use crate::raw::{self, Indexed, RawItem, RawMap};
+use crate::types::{codes, index_kind};
 use crate::{Error, Key, Number, Value, Width};
 
 /// An index map of `K` to `V`, each of which is `u32`, `u64` or `str`, that borrows an archive.
@@ -171,7 +171,7 @@ impl<'a, K: Key + ?Sized, V: Value + ?Sized> IndexMap<'a, K, V> {
         // SAFETY: the map is open, of these types, and borrows its bytes.
         let status = unsafe { get(&self.raw, key, &mut pair) };
         // SAFETY: the value is one of the map, whose bytes are borrowed for 'a.
-        found(status).then(|| (pair.index, unsafe { V::of(pair.value) }))
+        found(status).then(|| (pair.index, unsafe { V::of(pair.value.into()) }))
     }
 
     /// Returns the value of a key, or `None` if the lookup doesn't find the key.
@@ -237,12 +237,11 @@ impl<'a, K: Key + ?Sized, V: Value + ?Sized> IndexMap<'a, K, V> {
     /// # }
     /// ```
     pub fn get_index(&self, index: usize) -> Option<(K::Ref<'a>, V::Ref<'a>)> {
-        let mut pairs = [no_pair::<K, V>()];
-        let pairs_from = V::calls::<K>().index_pairs;
+        let mut items = [RawItem::NONE];
         // SAFETY: the map is open, of these types, and borrows its bytes.
-        let count = unsafe { pairs_from(&self.raw, index, &mut pairs) };
-        // SAFETY: a pair that is stored is one of the map, whose bytes are borrowed for 'a.
-        (count == 1).then(|| unsafe { key_value::<K, V>(pairs[0]) })
+        let count = unsafe { self.raw.next(codes::<K, V>(true), index as u64, &mut items) };
+        // SAFETY: an item that is stored is one of the map, whose bytes are borrowed for 'a.
+        (count == 1).then(|| unsafe { key_value::<K, V>(items[0]) })
     }
 
     /// Returns the first pair, or `None` if the map has no pairs.
@@ -300,7 +299,7 @@ impl<'a, K: Key + ?Sized, V: Value + ?Sized> IndexMap<'a, K, V> {
     pub fn iter(&self) -> Iter<'a, K, V> {
         Iter {
             map: *self,
-            pairs: [no_pair::<K, V>(); BATCH],
+            items: [RawItem::NONE; BATCH],
             begin: 0,
             stored: 0,
             index: 0,
@@ -567,23 +566,15 @@ impl<K: Key + ?Sized, V: Number> fmt::Debug for IndexMapMut<'_, K, V> {
     }
 }
 
-/// A pair that a call overwrites.
-fn no_pair<K: Key + ?Sized, V: Value + ?Sized>() -> Pair<V::Raw, K::Raw> {
-    Pair {
-        value: V::NONE,
-        key: K::NONE,
-    }
-}
-
-/// The key and the value of a pair.
+/// The key and the value of an item.
 ///
 /// # Safety
-/// The pair is one of an open map, whose bytes are borrowed for `'a`.
+/// The item is one of an open map, whose bytes are borrowed for `'a`.
 unsafe fn key_value<'a, K: Key + ?Sized, V: Value + ?Sized>(
-    pair: Pair<V::Raw, K::Raw>,
+    item: RawItem,
 ) -> (K::Ref<'a>, V::Ref<'a>) {
-    // SAFETY: the caller ensures that the pair is one of an open map.
-    unsafe { (K::of(pair.key), V::of(pair.value)) }
+    // SAFETY: the caller ensures that the item is one of an open map.
+    unsafe { (K::of(item.key), V::of(item.value)) }
 }
 
 /// The number of pairs that one call of the library stores.
@@ -593,9 +584,9 @@ const BATCH: usize = 16;
 #[must_use = "iterators are lazy and do nothing unless consumed"]
 pub struct Iter<'a, K: Key + ?Sized, V: Value + ?Sized> {
     map: IndexMap<'a, K, V>,
-    /// The pairs that were stored last: `stored` ones, from the index `begin` on. The others have no
+    /// The items that were stored last: `stored` ones, from the index `begin` on. The others have no
     /// meaning.
-    pairs: [Pair<V::Raw, K::Raw>; BATCH],
+    items: [RawItem; BATCH],
     begin: usize,
     stored: usize,
     /// The index of the next pair.
@@ -617,9 +608,9 @@ impl<K: Key + ?Sized, V: Value + ?Sized> Iter<'_, K, V> {
     #[inline(never)]
     fn store(&mut self) {
         self.begin = self.index;
-        let pairs_from = V::calls::<K>().index_pairs;
+        let codes = codes::<K, V>(true);
         // SAFETY: the map is open, of these types, and its bytes are borrowed for 'a.
-        self.stored = unsafe { pairs_from(&self.map.raw, self.begin, &mut self.pairs) };
+        self.stored = unsafe { self.map.raw.next(codes, self.begin as u64, &mut self.items) };
         assert!(self.stored > 0, "an open map has a pair at {}", self.begin);
     }
 }
@@ -640,10 +631,10 @@ impl<'a, K: Key + ?Sized, V: Value + ?Sized> Iterator for Iter<'a, K, V> {
         if self.index >= self.begin + self.stored {
             self.store();
         }
-        let pair = self.pairs[self.index - self.begin];
+        let item = self.items[self.index - self.begin];
         self.index += 1;
-        // SAFETY: the pair is one of the map, which is open, and its bytes are borrowed for 'a.
-        Some(unsafe { key_value::<K, V>(pair) })
+        // SAFETY: the item is one of the map, which is open, and its bytes are borrowed for 'a.
+        Some(unsafe { key_value::<K, V>(item) })
     }
 
     fn nth(&mut self, n: usize) -> Option<(K::Ref<'a>, V::Ref<'a>)> {
@@ -663,10 +654,10 @@ impl<'a, K: Key + ?Sized, V: Value + ?Sized> Iterator for Iter<'a, K, V> {
                 self.store();
             }
             let end = self.end.min(self.begin + self.stored);
-            for pair in &self.pairs[self.index - self.begin..end - self.begin] {
-                // SAFETY: the pair is one of the map, which is open, and its bytes are borrowed for
+            for item in &self.items[self.index - self.begin..end - self.begin] {
+                // SAFETY: the item is one of the map, which is open, and its bytes are borrowed for
                 // 'a.
-                result = f(result, unsafe { key_value::<K, V>(*pair) });
+                result = f(result, unsafe { key_value::<K, V>(*item) });
             }
             self.index = end;
         }

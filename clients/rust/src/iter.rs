@@ -2,7 +2,8 @@ use std::fmt;
 use std::iter::FusedIterator;
 use std::marker::PhantomData;
 
-use crate::raw::{Pair, RawMap, Step};
+use crate::raw::{RawItem, RawMap};
+use crate::types::codes;
 use crate::{Key, Value};
 
 /// The number of pairs that one call of the library stores.
@@ -12,9 +13,9 @@ const BATCH: usize = 16;
 #[must_use = "iterators are lazy and do nothing unless consumed"]
 pub struct Iter<'a, K: Key + ?Sized, V: Value + ?Sized> {
     raw: RawMap,
-    /// The pairs that were stored last. Those before `taken` were returned, and those from `stored`
+    /// The items that were stored last. Those before `taken` were returned, and those from `stored`
     /// on have no meaning.
-    pairs: [Step<Pair<V::Raw, K::Raw>>; BATCH],
+    items: [RawItem; BATCH],
     taken: usize,
     stored: usize,
     /// The bucket behind the pairs that were stored, and the number of pairs from there on.
@@ -35,13 +36,9 @@ unsafe impl<K: Key + ?Sized, V: Value + ?Sized> Sync for Iter<'_, K, V> {}
 impl<K: Key + ?Sized, V: Value + ?Sized> Iter<'_, K, V> {
     /// The pairs of an open map with `len` pairs, whose bytes are borrowed.
     pub(crate) fn new(raw: RawMap, len: usize) -> Self {
-        let pair = Pair {
-            value: V::NONE,
-            key: K::NONE,
-        };
         Iter {
             raw,
-            pairs: [Step { next: 0, pair }; BATCH],
+            items: [RawItem::NONE; BATCH],
             taken: 0,
             stored: 0,
             from: 0,
@@ -54,12 +51,12 @@ impl<K: Key + ?Sized, V: Value + ?Sized> Iter<'_, K, V> {
     /// Stores the next pairs. At least one is left.
     #[inline(never)]
     fn store(&mut self) {
-        let next = V::calls::<K>().next;
+        let codes = codes::<K, V>(false);
         // SAFETY: the map is open, of these types, and its bytes are borrowed for 'a.
-        self.stored = unsafe { next(&self.raw, self.from, &mut self.pairs) };
+        self.stored = unsafe { self.raw.next(codes, self.from, &mut self.items) };
         assert!(self.stored > 0, "an open map has {} more pairs", self.left);
         self.taken = 0;
-        self.from = self.pairs[self.stored - 1].next;
+        self.from = self.items[self.stored - 1].next;
         self.left -= self.stored;
     }
 }
@@ -80,9 +77,9 @@ impl<'a, K: Key + ?Sized, V: Value + ?Sized> Iterator for Iter<'a, K, V> {
             }
             self.store();
         }
-        let Pair { value, key } = self.pairs[self.taken].pair;
+        let RawItem { key, value, .. } = self.items[self.taken];
         self.taken += 1;
-        // SAFETY: the pair is one of the map, which is open, and its bytes are borrowed for 'a.
+        // SAFETY: the item is one of the map, which is open, and its bytes are borrowed for 'a.
         Some(unsafe { (K::of(key), V::of(value)) })
     }
 
@@ -94,11 +91,10 @@ impl<'a, K: Key + ?Sized, V: Value + ?Sized> Iterator for Iter<'a, K, V> {
     fn fold<B, F: FnMut(B, Self::Item) -> B>(mut self, init: B, mut f: F) -> B {
         let mut result = init;
         loop {
-            for step in &self.pairs[self.taken..self.stored] {
-                let Pair { value, key } = step.pair;
-                // SAFETY: the pair is one of the map, which is open, and its bytes are borrowed for
+            for RawItem { key, value, .. } in &self.items[self.taken..self.stored] {
+                // SAFETY: the item is one of the map, which is open, and its bytes are borrowed for
                 // 'a.
-                result = f(result, unsafe { (K::of(key), V::of(value)) });
+                result = f(result, unsafe { (K::of(*key), V::of(*value)) });
             }
             if self.left == 0 {
                 return result;

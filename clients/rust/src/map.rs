@@ -185,7 +185,7 @@ impl<'a, K: Key + ?Sized, V: Value + ?Sized> Map<'a, K, V> {
         // SAFETY: the map is open, of these types, and borrows its bytes.
         let status = unsafe { (V::calls::<K>().get)(&self.raw, key, &mut value) };
         // SAFETY: the value is one of the map, whose bytes are borrowed for 'a.
-        found(status).then(|| unsafe { V::of(value) })
+        found(status).then(|| unsafe { V::of(value.into()) })
     }
 
     /// Returns the value of a key.
@@ -215,8 +215,8 @@ impl<'a, K: Key + ?Sized, V: Value + ?Sized> Map<'a, K, V> {
     /// untrusted archive may have others.
     ///
     /// Each key is looked up once. A lookup reads control bytes, sixteen at a time. The result is
-    /// `None` if the lookups of all keys do so more often than `limit` times, or 2^63 times. The call
-    /// then ends after the lookup that exceeds the limit.
+    /// `None` if the lookups of all keys do so more often than `limit` times. The call then ends after
+    /// the lookup that exceeds the limit.
     ///
     /// In a built map, the lookups do so one to two times for each key, if the hashes of the keys are
     /// spread evenly. So a limit of four times the number of pairs has room for such a map.

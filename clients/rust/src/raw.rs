@@ -1,4 +1,5 @@
-//! The declarations of `../c/rkyv.h`. Those of a type of keys are in `calls`.
+//! The declarations of `../c/rkyv.h`, and the call of the proved library that iterates. Those of a
+//! type of keys are in `calls`.
 
 use std::ffi::c_void;
 
@@ -62,6 +63,31 @@ impl RawMap {
         self.width == 64
     }
 
+    /// Stores the next items from a bucket or an index on, and returns their number.
+    ///
+    /// # Safety
+    /// The map is open, its contents have these codes, and its bytes are borrowed.
+    pub unsafe fn next(&self, codes: Codes, from: u64, items: &mut [RawItem]) -> usize {
+        let width = if self.is_wide() { 8 } else { 4 };
+        // SAFETY: the caller ensures that the map is open, and that its contents have these codes. So
+        // the bytes are a valid archive of the codes and the width, and the header is the decoded one.
+        // The items have the pointer and the length of one slice, and none of their texts is null.
+        unsafe {
+            rkyv_c_next(
+                self.bytes,
+                self.length,
+                codes.kind,
+                codes.key,
+                codes.value,
+                width,
+                &self.header,
+                from,
+                items.as_mut_ptr(),
+                items.len(),
+            )
+        }
+    }
+
     /// Returns the handle without its pointers.
     pub fn decoded(self) -> Decoded {
         Decoded {
@@ -102,6 +128,14 @@ impl Decoded {
     }
 }
 
+/// The codes of a collection and of its types in the header of a container.
+#[derive(Clone, Copy)]
+pub struct Codes {
+    pub kind: u8,
+    pub key: u8,
+    pub value: u8,
+}
+
 /// The address of a text and its number of bytes, as the structs of the header have them.
 #[repr(C)]
 #[derive(Clone, Copy)]
@@ -137,8 +171,59 @@ impl RawText {
     }
 }
 
-/// A pair that is archived or stored: an item, a member or a pair of the header, as
-/// `rkyv_index_number_text_pair`. In a set the value is `()`.
+/// A key or a value of any type, as the library stores it: a number or a text.
+#[repr(C)]
+#[derive(Clone, Copy)]
+pub struct RawValue {
+    pub number: u64,
+    pub bytes: RawText,
+}
+
+impl From<u64> for RawValue {
+    fn from(number: u64) -> Self {
+        let bytes = RawText::NONE;
+        RawValue { number, bytes }
+    }
+}
+
+impl From<RawText> for RawValue {
+    fn from(bytes: RawText) -> Self {
+        RawValue { number: 0, bytes }
+    }
+}
+
+impl From<()> for RawValue {
+    fn from(_unit: ()) -> Self {
+        RawItem::NONE.value
+    }
+}
+
+/// A pair of any collection, and the bucket or the index at which iteration continues.
+#[repr(C)]
+#[derive(Clone, Copy)]
+pub struct RawItem {
+    pub next: u64,
+    pub key: RawValue,
+    pub value: RawValue,
+}
+
+impl RawItem {
+    /// An item that a call overwrites.
+    pub const NONE: RawItem = {
+        let value = RawValue {
+            number: 0,
+            bytes: RawText::NONE,
+        };
+        RawItem {
+            next: 0,
+            key: value,
+            value,
+        }
+    };
+}
+
+/// A pair that is archived: an item of the header, as `rkyv_number_text_item`. In a set the value is
+/// `()`.
 #[repr(C)]
 #[derive(Clone, Copy)]
 pub struct Pair<V, K> {
@@ -152,14 +237,6 @@ pub struct Pair<V, K> {
 pub struct Indexed<V> {
     pub index: usize,
     pub value: V,
-}
-
-/// A pair of an iteration: one of the header's structs with a member `next`, as `rkyv_text_pair`.
-#[repr(C)]
-#[derive(Clone, Copy)]
-pub struct Step<P> {
-    pub next: u64,
-    pub pair: P,
 }
 
 /// An error of opening, with its numbers: the `rkyv_error` of the header.
@@ -179,8 +256,7 @@ const _: () = {
     assert!(size_of::<Pair<u64, u32>>() == 16 && size_of::<Pair<u64, RawText>>() == 24);
     assert!(size_of::<Pair<RawText, u32>>() == 24 && size_of::<Pair<RawText, RawText>>() == 32);
     assert!(size_of::<Pair<(), u32>>() == 4 && size_of::<Pair<(), RawText>>() == 16);
-    assert!(size_of::<Step<Pair<u64, u32>>>() == 24 && size_of::<Step<Pair<(), u32>>>() == 16);
-    assert!(size_of::<Step<Pair<RawText, RawText>>>() == 40);
+    assert!(size_of::<RawValue>() == 24 && size_of::<RawItem>() == 56);
     assert!(size_of::<Indexed<u64>>() == 16 && size_of::<Indexed<RawText>>() == 24);
 };
 
@@ -196,6 +272,18 @@ pub const HEADER_LEN: usize = 32;
 pub const ANY_WIDTH: u32 = 0;
 
 unsafe extern "C" {
+    fn rkyv_c_next(
+        bytes: *const u8,
+        length: usize,
+        kind: u8,
+        key: u8,
+        value: u8,
+        width: u8,
+        header: &RawTableHeader,
+        from: u64,
+        items: *mut RawItem,
+        room: usize,
+    ) -> usize;
     pub fn rkyv_map_open(
         bytes: *const c_void,
         length: usize,

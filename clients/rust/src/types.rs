@@ -4,7 +4,7 @@ use std::hash::Hash;
 
 use self::sealed::{SealedKey, SealedValue, Store, Stored};
 use crate::calls::{Calls, KeyCalls};
-use crate::raw::RawText;
+use crate::raw::{Codes, RawText, RawValue};
 use crate::AsItem;
 
 /// The width of an archive: the size of its counts, distances and positions.
@@ -134,7 +134,7 @@ impl Number for u64 {}
 pub(crate) mod sealed {
     use std::panic::{RefUnwindSafe, UnwindSafe};
 
-    use super::{Calls, Key, KeyCalls, Value};
+    use super::{Calls, Key, KeyCalls, RawValue, Value};
 
     /// The keys or the values of a builder, in insertion order.
     pub trait Store<T: ?Sized + 'static>: Clone + Default + Send + Sync {
@@ -163,6 +163,9 @@ pub(crate) mod sealed {
         /// The index of this type in the kinds of a type of values.
         const COLUMN: usize;
 
+        /// The code of this type in the header of a container.
+        const CODE: u8;
+
         /// A key as the structs of the library have it. It points to a text.
         fn raw(key: &Self) -> Self::Raw;
 
@@ -170,7 +173,7 @@ pub(crate) mod sealed {
         ///
         /// # Safety
         /// It is a key of an open map, whose bytes are borrowed for `'a`.
-        unsafe fn of<'a>(raw: Self::Raw) -> <Self as Key>::Ref<'a>
+        unsafe fn of<'a>(raw: RawValue) -> <Self as Key>::Ref<'a>
         where
             Self: Key;
     }
@@ -183,8 +186,11 @@ pub(crate) mod sealed {
         /// The `rkyv_kind` of index maps with such keys. No kind is 0.
         const INDEX_KINDS: [u32; 3];
 
+        /// The code of this type in the header of a container.
+        const CODE: u8;
+
         /// A value as the structs of the library have it.
-        type Raw: Copy + RefUnwindSafe + UnwindSafe;
+        type Raw: Copy + Into<RawValue> + RefUnwindSafe + UnwindSafe;
 
         /// A value that a call overwrites.
         const NONE: Self::Raw;
@@ -196,7 +202,7 @@ pub(crate) mod sealed {
         ///
         /// # Safety
         /// It is a value of an open map with values of this type, whose bytes are borrowed for `'a`.
-        unsafe fn of<'a>(raw: Self::Raw) -> <Self as Value>::Ref<'a>
+        unsafe fn of<'a>(raw: RawValue) -> <Self as Value>::Ref<'a>
         where
             Self: Value;
 
@@ -352,44 +358,49 @@ impl Stored for Unit {
 
 impl SealedKey for u32 {
     const COLUMN: usize = 0;
+    const CODE: u8 = 0x14;
 
     fn raw(key: &u32) -> u32 {
         *key
     }
 
-    unsafe fn of<'a>(raw: u32) -> <u32 as Key>::Ref<'a> {
-        raw
+    unsafe fn of<'a>(raw: RawValue) -> <u32 as Key>::Ref<'a> {
+        // The keys of a map with 32-bit keys have no higher bits.
+        raw.number as u32
     }
 }
 
 impl SealedKey for u64 {
     const COLUMN: usize = 1;
+    const CODE: u8 = 0x18;
 
     fn raw(key: &u64) -> u64 {
         *key
     }
 
-    unsafe fn of<'a>(raw: u64) -> <u64 as Key>::Ref<'a> {
-        raw
+    unsafe fn of<'a>(raw: RawValue) -> <u64 as Key>::Ref<'a> {
+        raw.number
     }
 }
 
 impl SealedKey for str {
     const COLUMN: usize = 2;
+    const CODE: u8 = 0x04;
 
     fn raw(key: &str) -> RawText {
         RawText::of(key)
     }
 
-    unsafe fn of<'a>(raw: RawText) -> &'a str {
+    unsafe fn of<'a>(raw: RawValue) -> &'a str {
         // SAFETY: the caller ensures that the text is one of an open map.
-        unsafe { raw.get() }
+        unsafe { raw.bytes.get() }
     }
 }
 
 impl SealedValue for u32 {
     const KINDS: [u32; 3] = [1, 13, 3];
     const INDEX_KINDS: [u32; 3] = [5, 17, 7];
+    const CODE: u8 = 0x14;
 
     type Raw = u64;
 
@@ -399,9 +410,9 @@ impl SealedValue for u32 {
         (*value).into()
     }
 
-    unsafe fn of<'a>(raw: u64) -> <u32 as Value>::Ref<'a> {
+    unsafe fn of<'a>(raw: RawValue) -> <u32 as Value>::Ref<'a> {
         // The values of a map with 32-bit values have no higher bits.
-        raw as u32
+        raw.number as u32
     }
 
     fn calls<K: Key + ?Sized>() -> Calls<K, u64> {
@@ -412,6 +423,7 @@ impl SealedValue for u32 {
 impl SealedValue for u64 {
     const KINDS: [u32; 3] = [2, 14, 4];
     const INDEX_KINDS: [u32; 3] = [6, 18, 8];
+    const CODE: u8 = 0x18;
 
     type Raw = u64;
 
@@ -421,8 +433,8 @@ impl SealedValue for u64 {
         *value
     }
 
-    unsafe fn of<'a>(raw: u64) -> <u64 as Value>::Ref<'a> {
-        raw
+    unsafe fn of<'a>(raw: RawValue) -> <u64 as Value>::Ref<'a> {
+        raw.number
     }
 
     fn calls<K: Key + ?Sized>() -> Calls<K, u64> {
@@ -433,6 +445,7 @@ impl SealedValue for u64 {
 impl SealedValue for str {
     const KINDS: [u32; 3] = [9, 16, 10];
     const INDEX_KINDS: [u32; 3] = [19, 21, 20];
+    const CODE: u8 = 0x04;
 
     type Raw = RawText;
 
@@ -442,9 +455,9 @@ impl SealedValue for str {
         RawText::of(value)
     }
 
-    unsafe fn of<'a>(raw: RawText) -> &'a str {
+    unsafe fn of<'a>(raw: RawValue) -> &'a str {
         // SAFETY: the caller ensures that the text is one of an open map.
-        unsafe { raw.get() }
+        unsafe { raw.bytes.get() }
     }
 
     fn calls<K: Key + ?Sized>() -> Calls<K, RawText> {
@@ -455,6 +468,7 @@ impl SealedValue for str {
 impl SealedValue for Unit {
     const KINDS: [u32; 3] = [11, 15, 12];
     const INDEX_KINDS: [u32; 3] = [0; 3];
+    const CODE: u8 = 0x01;
 
     type Raw = ();
 
@@ -462,7 +476,7 @@ impl SealedValue for Unit {
 
     fn raw(_value: &Unit) {}
 
-    unsafe fn of<'a>(_raw: ()) -> <Unit as Value>::Ref<'a> {
+    unsafe fn of<'a>(_raw: RawValue) -> <Unit as Value>::Ref<'a> {
         Unit
     }
 
@@ -479,4 +493,14 @@ pub(crate) fn kind<K: Key + ?Sized, V: Value + ?Sized>() -> u32 {
 /// The `rkyv_kind` of an index map.
 pub(crate) fn index_kind<K: Key + ?Sized, V: Value + ?Sized>() -> u32 {
     V::INDEX_KINDS[K::COLUMN]
+}
+
+/// The codes of a hash map or a set, or of an index map.
+pub(crate) fn codes<K: Key + ?Sized, V: Value + ?Sized>(indexed: bool) -> Codes {
+    let is_set = V::CODE == Unit::CODE;
+    Codes {
+        kind: if indexed { 3 } else { 1 + u8::from(is_set) },
+        key: K::CODE,
+        value: V::CODE,
+    }
 }
