@@ -11,7 +11,7 @@ use Rattle.rkyv_base.specs.{entry_spec, number_at, scalar_format, unsigned, valu
 use Rattle.rkyv_scan.specs.{HasherCall}
 use Rattle.rkyv_table.specs.{len_at, listed}
 use Rattle.rkyv_index.specs.{IndexRepresents, index_bytes, index_format, index_found, index_pos}
-use Rattle.rkyv_index.specs.{index_spec, pair_pos, pair_positions}
+use Rattle.rkyv_index.specs.{index_spec, index_view, pair_pos, pair_positions}
 use Rattle.rkyv_index.specs.declared.map.ArchivedIndexMap.{ArchivedIndexMap}
 use Rattle.bench_calls.specs.Archives.{IsAnd1, number_spec}
 use Rattle.bench_calls.specs.Totals.{hash_by, is_number, number_calls, number_hash}
@@ -33,7 +33,7 @@ index_root b = length b - 16
 abbrev pub IsIndexAtRoot : {K V H W : Type 0} {ks : Specs K} {vs : Specs V} {wt : Words W}
     → ArchivedIndexMap K V H W ks vs wt
     → Bor (List ℕ) → Type 0
-IsIndexAtRoot m archive = IsAt m.view archive (index_root archive.now)
+IsIndexAtRoot m archive = IsAt (index_view m) archive (index_root archive.now)
 
 -- `n` is the length of the index map plus 1 if `b` is a valid archive, and else 0
 abbrev pub IsIndexLengthAnd1 : List ℕ → ℕ → Type 0

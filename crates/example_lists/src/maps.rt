@@ -3,6 +3,7 @@
 ghost use Rattle.std.specs.Prelude.{◌-◌, ◌==◌, ◌≡◌, IfOk, Ok, length};
 ghost use Rattle.rkyv_base.specs.{ArchivesWide, IsNarrowArchive, IsWideArchive, OpensNarrow};
 ghost use Rattle.rkyv_base.specs.{OpensWide, RootBytes};
+ghost use Rattle.rkyv_collections.specs.{listed_pairs};
 ghost use Rattle.rkyv_keys.specs.{IsTextOk, first_value, same_bytes};
 
 use rkyv_base::access::access;
@@ -60,7 +61,7 @@ pub fn number_of(table: &[u8], key: u32) -> Result<Option<u64>, VerifyError>
     ensures opened { OpensWide ⟦<Numbers as HasSpec>⟧.spec table.now result }
     ensures listed { (list : _) → IsWideArchive
         ⟦<Numbers as Represents<NumberPairs<'static>>>⟧ table.now list
-        → result ≡ Ok (first_value (λ other. key == other) list.pairs.now) }
+        → result ≡ Ok (first_value (λ other. key == other) (listed_pairs list)) }
 {
     scalars_found_are_listed::<u32, u32, u64, u32, FxHasher64, Wide>();
     let numbers = ArchivedHashMap::of(access_in::<Wide, Numbers>(table)?);
@@ -79,7 +80,7 @@ pub fn title_of(table: &[u8], key: u32) -> Result<Option<&str>, VerifyError>
     ensures opened { OpensNarrow ⟦<Titles as HasSpec>⟧.spec table.now result }
     ensures listed { (list : _) → IsNarrowArchive
         ⟦<Titles as Represents<TitlePairs<'static>>>⟧ table.now list
-        → IsTextOk (first_value (λ other. key == other) list.pairs.now) result }
+        → IsTextOk (first_value (λ other. key == other) (listed_pairs list)) result }
 {
     texts_found_are_listed::<u32, u32, u32, FxHasher64, Narrow>();
     let titles = ArchivedHashMap::of(access::<Titles>(table)?);
@@ -98,7 +99,7 @@ pub fn spot_of(table: &[u8], name: &str) -> Result<Option<(u32, u32)>, VerifyErr
     ensures opened { OpensNarrow ⟦<Spots as HasSpec>⟧.spec table.now result }
     ensures listed { (list : _) → IsNarrowArchive
         ⟦<Spots as Represents<SpotPairs<'static>>>⟧ table.now list
-        → result ≡ Ok (first_value (λ other. same_bytes name.now other.now) list.pairs.now) }
+        → result ≡ Ok (first_value (λ other. same_bytes name.now other.now) (listed_pairs list)) }
 {
     values_found_are_listed::<&str, &str, (u32, u32), Text, Entry<u32, u32>, FxHasher64, Narrow>();
     let spots = ArchivedHashMap::of(access::<Spots>(table)?);

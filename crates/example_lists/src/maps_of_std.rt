@@ -4,7 +4,7 @@ ghost use Rattle.std.specs.List.{list_any};
 ghost use Rattle.std.specs.Prelude.{◌==◌, ◌≡◌, Ok};
 ghost use Rattle.std.specs.String.{string_bytes};
 ghost use Rattle.rkyv_base.specs.{OpensNarrow};
-ghost use Rattle.rkyv_collections.specs.{IsNarrowWritten};
+ghost use Rattle.rkyv_collections.specs.{IsNarrowWritten, inner_entries, inner_keys};
 ghost use Rattle.rkyv_keys.specs.{first_value, same_bytes};
 
 use rkyv_base::access::access;
@@ -44,7 +44,7 @@ pub fn fare_of(table: &[u8], line: u32) -> Result<Option<u64>, VerifyError>
     ensures opened { OpensNarrow ⟦<Fares as HasSpec>⟧.spec table.now result }
     ensures listed { (map : _) → IsNarrowWritten ⟦<Fares as Represents<FareMap>>⟧
         ⟦<FareMap as Archive<Narrow>>⟧.format table.now map
-        → result ≡ Ok (first_value (λ other. line == other) map.map.entries) }
+        → result ≡ Ok (first_value (λ other. line == other) (inner_entries map)) }
 {
     written_maps_are_lists::<Narrow, FxHasher64, u32, u64, BuildHasherDefault<FoldHasher>>();
     scalars_found_are_listed::<u32, u32, u64, u32, FxHasher64, Narrow>();
@@ -66,8 +66,8 @@ pub fn age_of(table: &[u8], name: &str) -> Result<Option<u8>, VerifyError>
     ensures opened { OpensNarrow ⟦<Ages as HasSpec>⟧.spec table.now result }
     ensures listed { (m : _) → IsNarrowWritten ⟦<Ages as Represents<AgeMap>>⟧
         ⟦<AgeMap as Archive<Narrow>>⟧.format table.now m
-        → result ≡ Ok (first_value (λ other. same_bytes name.now (string_bytes other))
-        m.map.entries) }
+        → result ≡ Ok (first_value (λ key. same_bytes name.now (string_bytes key))
+        (inner_entries m)) }
 {
     written_maps_are_lists::<Narrow, FxHasher64, String, u8, BuildHasherDefault<FoldHasher>>();
     scalars_found_are_listed::<String, &str, u8, Text, FxHasher64, Narrow>();
@@ -87,7 +87,7 @@ pub fn has_line(set: &[u8], line: u32) -> Result<bool, VerifyError>
     ensures opened { OpensNarrow ⟦<Lines as HasSpec>⟧.spec set.now result }
     ensures listed { (lines : _) → IsNarrowWritten ⟦<Lines as Represents<LineSet>>⟧
         ⟦<LineSet as Archive<Narrow>>⟧.format set.now lines
-        → result ≡ Ok (list_any (λ other. line == other) lines.map.keys) }
+        → result ≡ Ok (list_any (λ other. line == other) (inner_keys lines)) }
 {
     written_sets_are_lists::<Narrow, FxHasher64, u32, BuildHasherDefault<FoldHasher>>();
     members_found_are_listed::<u32, u32, u32, FxHasher64, Narrow>();

@@ -3,6 +3,7 @@
 ghost use Rattle.std.specs.Prelude.{◌==◌, ◌≡◌, Ok, slice_get};
 ghost use Rattle.std.specs.List.{list_any, position};
 ghost use Rattle.rkyv_base.specs.{IsNarrowArchive, OpensNarrow};
+ghost use Rattle.rkyv_collections.specs.{listed_items};
 ghost use Rattle.rkyv_keys.specs.{IsTextOk, same_bytes};
 
 use rkyv_base::access::access;
@@ -35,7 +36,7 @@ pub fn has_word(set: &[u8], word: &str) -> Result<bool, VerifyError>
     ensures opened { OpensNarrow ⟦<Words as HasSpec>⟧.spec set.now result }
     ensures listed { (list : _) → IsNarrowArchive
         ⟦<Words as Represents<WordItems<'static>>>⟧ set.now list
-        → result ≡ Ok (list_any (λ other. same_bytes word.now other.now) list.items.now) }
+        → result ≡ Ok (list_any (λ other. same_bytes word.now other.now) (listed_items list)) }
 {
     members_found_are_listed::<&str, &str, Text, FxHasher64, Narrow>();
     let words = ArchivedHashSet::of(access::<Words>(set)?);

@@ -14,7 +14,8 @@ use Rattle.rkyv_base.specs.declared.errors.WriteError.{WriteError}
 use Rattle.rkyv_keys.specs.{first_value, hash_at, hash_of, same_bytes, text_calls}
 use Rattle.rkyv_keys.specs.{text_key_calls, with_first}
 use Rattle.rkyv_table.specs.{TableResolver, listed, pos_found, written_as_each}
-use Rattle.rkyv_collections.specs.{FindsFirstKeyAt, IsKeyPosAt, MapRepresents, map_format, map_spec}
+use Rattle.rkyv_collections.specs.{FindsFirstKeyAt, IsKeyPosAt, MapRepresents, listed_pairs}
+use Rattle.rkyv_collections.specs.{map_format, map_spec, pairs_load_factor}
 use Rattle.rkyv_collections.specs.declared.lists.pairs.MapPairs.{MapPairs}
 
 -- names, each with a number
@@ -73,7 +74,7 @@ FieldsRepresent factor =
 
 -- the map at `p` represents the fields of `part`
 abbrev pub PartRepresents : List ℕ → ℕ → MapPairs (Bor (List ℕ)) ℕ ℕ → Type 0
-PartRepresents b p part = FieldsRepresent part.load_factor b p part.pairs.now
+PartRepresents b p part = FieldsRepresent (pairs_load_factor part) b p (listed_pairs part)
 
 -- the map at a position represents the parts, under the load factor
 abbrev pub PartsRepresent : ℕ × ℕ → List ℕ → ℕ → Parts → Type 0
@@ -93,8 +94,8 @@ map_of_names spec format factor = listed 4_294_967_295 factor (map_format w32 na
 
 -- the format of the fields of a part
 abbrev pub part_format : Format (MapPairs (Bor (List ℕ)) ℕ ℕ) TableResolver
-part_format = written_as_each (λ part. part.pairs.now)
-    (λ part. map_of_names number_spec (scalar_format (unsigned w32)) part.load_factor)
+part_format = written_as_each (λ part. listed_pairs part)
+    (λ part. map_of_names number_spec (scalar_format (unsigned w32)) (pairs_load_factor part))
 
 -- the format of the parts, under the load factor
 abbrev pub parts_format : ℕ × ℕ → Format Parts TableResolver
@@ -120,7 +121,7 @@ number_in field fields = first_value (is_named field) fields
 -- the number of the first field with the name in the fields of a part, if there is one
 abbrev pub number_of_part : List ℕ → Option (MapPairs (Bor (List ℕ)) ℕ ℕ) → Option ℕ
 number_of_part field None = None
-number_of_part field (Some part) = number_in field part.pairs.now
+number_of_part field (Some part) = number_in field (listed_pairs part)
 
 -- the number of the first field with the name, in the first part with the name
 abbrev pub first_number : List ℕ → List ℕ → Parts → Option ℕ
