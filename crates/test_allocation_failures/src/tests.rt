@@ -15,6 +15,7 @@ macro_rules! expect_eq {
     };
 }
 
+mod bytes;
 mod causes;
 mod controls;
 mod counts;

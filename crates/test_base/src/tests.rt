@@ -16,6 +16,7 @@ macro_rules! expect_eq {
 }
 
 mod access_failures;
+mod bytes;
 mod closure_writes;
 mod errors;
 mod examples;

@@ -5,25 +5,26 @@ use Rattle.std.specs.HashSet.{HashSet}
 use Rattle.std.specs.List.{list_any}
 use Rattle.std.specs.Option.{option_and_then, option_map}
 use Rattle.rkyv_keys.specs.{first_value}
+use Rattle.rkyv_collections.specs.{inner_entries, inner_keys}
 use Rattle.rkyv_collections.specs.declared.std_maps.hashed.Hashed.{Hashed}
 
--- the value under `inner` of the map under `outer`
+-- the value under `key` of the map under `outer`
 abbrev pub value_under : {S T H G : Type 0} → ℕ → ℕ
     → Hashed (HashMap ℕ (Hashed (HashMap ℕ ℕ S) H) T) G → Option ℕ
-value_under outer inner maps =
-    option_and_then (λ m. first_value (λ other. inner == other) m.map.entries)
-    (first_value (λ other. outer == other) maps.map.entries)
+value_under outer key maps =
+    option_and_then (λ m. first_value (λ other. key == other) (inner_entries m))
+    (first_value (λ other. outer == other) (inner_entries maps))
 
--- the value under `inner` of the map in the pair under `outer`
+-- the value under `key` of the map in the pair under `outer`
 abbrev pub value_beside : {C S T H G : Type 0} → ℕ → ℕ
     → Hashed (HashMap ℕ (C × Hashed (HashMap ℕ ℕ S) H) T) G → Option ℕ
-value_beside outer inner maps =
-    option_and_then (λ pair. first_value (λ other. inner == other) pair.1.map.entries)
-    (first_value (λ other. outer == other) maps.map.entries)
+value_beside outer key maps =
+    option_and_then (λ pair. first_value (λ other. key == other) (inner_entries pair.1))
+    (first_value (λ other. outer == other) (inner_entries maps))
 
--- whether the set under `outer` has the key `inner`
+-- whether the set under `outer` has the key `key`
 abbrev pub has_under : {S T H G : Type 0} → ℕ → ℕ
     → Hashed (HashMap ℕ (Hashed (HashSet ℕ S) H) T) G → Option Bool
-has_under outer inner sets =
-    option_map (λ s. list_any (λ other. inner == other) s.map.keys)
-    (first_value (λ other. outer == other) sets.map.entries)
+has_under outer key sets =
+    option_map (λ s. list_any (λ other. key == other) (inner_keys s))
+    (first_value (λ other. outer == other) (inner_entries sets))

@@ -17,6 +17,7 @@ macro_rules! expect_eq {
 
 mod archives;
 mod changes;
+mod each;
 mod examples;
 mod first;
 mod in_place;

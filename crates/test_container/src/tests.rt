@@ -1,4 +1,4 @@
-//! The tests: checksums, codes, errors, round trips, rows and texts.
+//! The tests: checksums, codes, equality, errors, round trips, rows and texts.
 
 use std::fmt::Debug;
 use std::process::Abort;
@@ -17,6 +17,7 @@ macro_rules! expect_eq {
 
 mod checksums;
 mod codes;
+mod equality;
 mod faults;
 mod round_trips;
 mod rows;

@@ -16,6 +16,7 @@ macro_rules! expect_eq {
 }
 
 mod archives;
+mod equality;
 mod errors;
 mod first_lines;
 mod lines;

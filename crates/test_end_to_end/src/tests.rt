@@ -1,16 +1,19 @@
 //! Tests of a list in both widths, and of archives from other sources.
+ghost use Rattle.std.specs.Int.{byte_len};
+ghost use Rattle.std.specs.Prelude.{length, ◌%◌, ◌*◌, ◌+◌, ◌≡◌, ◌≤◌};
 ghost use Rattle.rkyv_base.specs.{LiesIn, Viewable};
 ghost use Rattle.rkyv_table.specs.{CanCompareOf, table_spec};
 
 use rkyv_base::{
-    Entry, LimitFault, LimitWriter, Narrow, PartRange, Scalar, Seal, VecWriter, VerifyError, View,
-    Wide, Width, WriteError, Writer, access_in,
+    Entry, LimitFault, LimitWriter, Narrow, NoMemory, PartRange, Scalar, Seal, VecWriter,
+    VerifyError, View, Wide, Width, WriteError, Writer, access_in, append_in,
 };
 use rkyv_end_to_end::{
     ListError, LookError, TableReport, errors_are_converted, look_over, lookups_find_listed,
-    write_and_look_over, write_list, written_items_are_replaced, written_lists_represent,
+    write_and_look_over, write_list, written_items_are_replaced, written_lists_are_found,
+    written_lists_represent,
 };
-use rkyv_table::{ArchivedHashTable, TableOf};
+use rkyv_table::{ArchivedHashTable, HashTableResolver, TableOf};
 use std::alloc::{AllocError, Global};
 use std::cell::Cell;
 use std::fmt::{Debug, Display};
@@ -262,6 +265,107 @@ fn a_changed_list_is_found_with_its_new_item(rt: HostRuntime) {
     let alloc = rt.alloc();
     let results = [is_changed::<Narrow>(alloc), is_changed::<Wide>(alloc)];
     expect_equal(&rt, results, [true; 2]);
+}
+
+// The archive of the list of 10, 20 and 30 after a zero. The table has the buckets 3 to 0 and the
+// control bytes, and ends at 36. Behind it are 24 sevens, then the header.
+const NARROW_BEHIND: [u8; 72] = [
+    0x00, 0x14, 0x0a, 0x1e, 0x00, 0xff, 0x00, 0x00, 0x00, 0xff, 0x00, 0x00, 0x00, 0xff, 0xff, 0xff,
+    0xff, 0xff, 0xff, 0xff, 0xff, 0xff, 0xff, 0xff, 0xff, 0xff, 0xff, 0xff, 0xff, 0xff, 0xff, 0xff,
+    0xff, 0xff, 0xff, 0xff, 0x07, 0x07, 0x07, 0x07, 0x07, 0x07, 0x07, 0x07, 0x07, 0x07, 0x07, 0x07,
+    0x07, 0x07, 0x07, 0x07, 0x07, 0x07, 0x07, 0x07, 0x07, 0x07, 0x07, 0x07, 0xc9, 0xff, 0xff, 0xff,
+    0x03, 0x00, 0x00, 0x00, 0x04, 0x00, 0x00, 0x00,
+];
+
+// The same archive with a wide header, 24 bytes behind its first aligned position.
+const WIDE_BEHIND: [u8; 88] = [
+    0x00, 0x14, 0x0a, 0x1e, 0x00, 0xff, 0x00, 0x00, 0x00, 0xff, 0x00, 0x00, 0x00, 0xff, 0xff, 0xff,
+    0xff, 0xff, 0xff, 0xff, 0xff, 0xff, 0xff, 0xff, 0xff, 0xff, 0xff, 0xff, 0xff, 0xff, 0xff, 0xff,
+    0xff, 0xff, 0xff, 0xff, 0x07, 0x07, 0x07, 0x07, 0x07, 0x07, 0x07, 0x07, 0x07, 0x07, 0x07, 0x07,
+    0x07, 0x07, 0x07, 0x07, 0x07, 0x07, 0x07, 0x07, 0x07, 0x07, 0x07, 0x07, 0x07, 0x07, 0x07, 0x07,
+    0xc5, 0xff, 0xff, 0xff, 0xff, 0xff, 0xff, 0xff, 0x03, 0x00, 0x00, 0x00, 0x00, 0x00, 0x00, 0x00,
+    0x04, 0x00, 0x00, 0x00, 0x00, 0x00, 0x00, 0x00,
+];
+
+// Writes a zero, that table and the gap, and returns the resolver.
+fn write_with_gap<W: Width>(
+    alloc: Global,
+    gap: &[u8],
+    writer: &mut VecWriter,
+) -> Result<HashTableResolver<W>, WriteError<NoMemory>> {
+    append_in::<W, VecWriter>(writer, &[0])?;
+    let items = [10u8, 20, 30];
+    let hashes = [2u64, 2, 5];
+    let resolver = ArchivedHashTable::<u8, W>::serialize_from_iter::<VecWriter, u8, &u8, _, _>(
+        alloc,
+        items.iter(),
+        hashes.iter().copied(),
+        3,
+        (1, 1),
+        writer,
+    )?;
+    append_in::<W, VecWriter>(writer, gap)?;
+    Ok(resolver)
+}
+
+// Writes the narrow archive.
+fn write_narrow_behind(alloc: Global) -> Result<Vec<u8>, WriteError<NoMemory>> {
+    let mut writer = VecWriter::new(alloc);
+    let resolver = write_with_gap::<Narrow>(alloc, &[7; 24], &mut writer)?;
+    let mut header = [0u8; 12];
+    resolver.resolve(60, &mut header)?;
+    append_in::<Narrow, VecWriter>(&mut writer, &header)?;
+    Ok(writer.into_vec())
+}
+
+// Writes the wide archive.
+fn write_wide_behind(alloc: Global) -> Result<Vec<u8>, WriteError<NoMemory>> {
+    let mut writer = VecWriter::new(alloc);
+    let resolver = write_with_gap::<Wide>(alloc, &[7; 28], &mut writer)?;
+    let mut header = [0u8; 24];
+    resolver.resolve(64, &mut header)?;
+    append_in::<Wide, VecWriter>(&mut writer, &header)?;
+    Ok(writer.into_vec())
+}
+
+// Returns `true` if these bytes were written.
+fn is_written(written: &Result<Vec<u8>, WriteError<NoMemory>>, expected: &[u8]) -> bool {
+    match written {
+        Ok(bytes) => bytes.as_slice() == expected,
+        Err(_) => false,
+    }
+}
+
+// Returns `true` if the walk visits the three items, and the lookup by 2 of a number above 10
+// finds 20.
+fn is_found_behind<W: Width>(alloc: Global, bytes: &[u8], pos: u64) -> bool
+    requires inside { pos + 3 * byte_len W.word ≤ length bytes.now }
+    requires aligned { pos % byte_len W.word ≡ 0 }
+    requires behind { 36 ≤ pos }
+{
+    let range = PartRange { lo: 1, hi: 36 };
+    match look_over::<W, u8, _>(alloc, bytes, pos, range, 2, |item| item.to_native() > 10) {
+        Ok(report) => is_report(&report, &[3, 2, 1], Some(1), 1),
+        Err(_) => false,
+    }
+}
+
+// Calls the law of headers further behind for a comparison.
+fn finds_behind<F: Fn(View<'_, u8>) -> bool>(_cmp: F) {
+    written_lists_are_found::<Narrow, u8, &u8, F>();
+}
+
+#[test]
+fn a_list_is_found_with_its_header_further_behind(rt: HostRuntime) {
+    finds_behind(|item| item.to_native() > 10);
+    let alloc = rt.alloc();
+    let results = [
+        is_written(&write_narrow_behind(alloc), &NARROW_BEHIND),
+        is_written(&write_wide_behind(alloc), &WIDE_BEHIND),
+        is_found_behind::<Narrow>(alloc, &NARROW_BEHIND, 60),
+        is_found_behind::<Wide>(alloc, &WIDE_BEHIND, 64),
+    ];
+    expect_equal(&rt, results, [true; 4]);
 }
 
 // The archive of a table of one pair of numbers, in the second of two buckets.

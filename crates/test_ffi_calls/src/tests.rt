@@ -27,6 +27,7 @@ mod index_text_archives;
 mod index_text_items;
 mod index_texts;
 mod index_texts_to_texts;
+mod iteration;
 mod long_numbers;
 mod misplaced;
 mod number_items;

@@ -1,4 +1,4 @@
-//! The tests: numbers, regions, texts, drawings and errors.
+//! The tests: numbers, regions, texts, drawings, equality and errors.
 
 use std::fmt::Debug;
 use std::process::Abort;
@@ -17,6 +17,7 @@ macro_rules! expect_eq {
 
 mod archives;
 mod drawings;
+mod equality;
 mod errors;
 mod examples;
 mod numbers;

@@ -22,6 +22,7 @@ mod capacities;
 mod changes;
 mod cursors;
 mod distances;
+mod each;
 mod examples;
 mod headers;
 mod in_place;

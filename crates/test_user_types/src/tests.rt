@@ -46,6 +46,46 @@ fn a_point_is_a_pair(rt: HostRuntime) -> Result<(), Fail> {
 }
 
 #[test]
+fn entries_differ_by_each_part(rt: HostRuntime) {
+    let point = PairEntry(Point { x: -2, y: 3 });
+    let pixel = TupleEntry(Pixel {
+        level: 7,
+        x: 300,
+        y: 2,
+    });
+    let equal = [
+        point == PairEntry(Point { x: -2, y: 3 }),
+        point == PairEntry(Point { x: -1, y: 3 }),
+        point == PairEntry(Point { x: -2, y: 4 }),
+        pixel
+            == TupleEntry(Pixel {
+                level: 7,
+                x: 300,
+                y: 2,
+            }),
+        pixel
+            == TupleEntry(Pixel {
+                level: 8,
+                x: 300,
+                y: 2,
+            }),
+        pixel
+            == TupleEntry(Pixel {
+                level: 7,
+                x: 301,
+                y: 2,
+            }),
+        pixel
+            == TupleEntry(Pixel {
+                level: 7,
+                x: 300,
+                y: 3,
+            }),
+    ];
+    assert_eq!(rt; equal, [true, false, false, true, false, false, false]);
+}
+
+#[test]
 fn a_segment_is_a_pair_of_points(rt: HostRuntime) -> Result<(), Fail> {
     let segment = PairEntry(Segment {
         from: PairEntry(Point { x: -2, y: 3 }),

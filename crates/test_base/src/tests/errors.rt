@@ -3,8 +3,8 @@
 use rkyv_base::access::access;
 use rkyv_base::errors::RoundTripError;
 use rkyv_base::{
-    DistanceTooLarge, IteratorLengthMismatch, LimitFault, NoMemory, ReadError, VerifyError,
-    WriteError, laws,
+    DistanceTooLarge, IteratorLengthMismatch, LimitFault, NoMemory, PartRange, ReadError,
+    VerifyError, WriteError, laws,
 };
 use std::alloc::{AllocError, Global};
 use std::error::Error;
@@ -200,6 +200,118 @@ fn errors_are_compared(rt: HostRuntime) {
         (error, error == other),
         (Some(VerifyError::OutOfRange { pos: -2, size: 4 }), false)
     );
+}
+
+// Returns `true` if no value is equal to an earlier one.
+fn are_distinct<T: PartialEq>(values: &[T]) -> bool {
+    for index in 0..values.len() {
+        for earlier in 0..index {
+            if values[index] == values[earlier] {
+                return false;
+            }
+        }
+    }
+    true
+}
+
+fn range(lo: u64, hi: u64) -> PartRange {
+    PartRange { lo, hi }
+}
+
+fn load_factor(numerator: usize, denominator: usize) -> WriteError<ReadError> {
+    WriteError::InvalidLoadFactor {
+        numerator,
+        denominator,
+    }
+}
+
+#[test]
+fn ranges_and_faults_differ_by_each_field(rt: HostRuntime) {
+    laws::equal_are_the_same();
+    laws::clones_are_the_same();
+    let distinct = [
+        are_distinct(&[range(0, 0), range(1, 0), range(0, 1)]),
+        are_distinct(&[mismatch(0, 0), mismatch(1, 0), mismatch(0, 1)]),
+        are_distinct(&[
+            ReadError::Memory,
+            ReadError::Refused(0),
+            ReadError::Refused(1),
+        ]),
+        are_distinct(&[
+            LimitFault::Full,
+            LimitFault::Inner(ReadError::Refused(0)),
+            LimitFault::Inner(ReadError::Refused(1)),
+        ]),
+        are_distinct(&[
+            RoundTripError::Write(WriteError::Memory),
+            RoundTripError::Write(WriteError::TextTooLong),
+            RoundTripError::Read(ReadError::Memory),
+            RoundTripError::Read(ReadError::Refused(0)),
+        ]),
+    ];
+    expect_eq!(rt; distinct, [true; 5]);
+}
+
+#[test]
+fn write_errors_differ_by_each_field(rt: HostRuntime) {
+    laws::equal_with_faults_are_the_same::<ReadError>();
+    laws::clones_with_faults_are_the_same::<ReadError>();
+    let distinct = are_distinct(&[
+        load_factor(0, 0),
+        load_factor(1, 0),
+        load_factor(0, 1),
+        WriteError::IteratorLengthMismatch(mismatch(0, 0)),
+        WriteError::IteratorLengthMismatch(mismatch(1, 0)),
+        WriteError::IteratorLengthMismatch(mismatch(0, 1)),
+        WriteError::CapacityTooLarge { len: 0 },
+        WriteError::CapacityTooLarge { len: 1 },
+        WriteError::PositionTooLarge,
+        WriteError::DistanceTooLarge,
+        WriteError::TextTooLong,
+        WriteError::Writer(ReadError::Refused(0)),
+        WriteError::Writer(ReadError::Refused(1)),
+        WriteError::Memory,
+        WriteError::Refused(0),
+        WriteError::Refused(1),
+    ]);
+    expect_eq!(rt; distinct, true);
+}
+
+#[test]
+fn verify_errors_differ_by_each_field(rt: HostRuntime) {
+    let distinct = are_distinct(&[
+        VerifyError::OutOfRange { pos: 0, size: 0 },
+        VerifyError::OutOfRange { pos: 1, size: 0 },
+        VerifyError::OutOfRange { pos: 0, size: 1 },
+        VerifyError::Unaligned { pos: 0, align: 0 },
+        VerifyError::Unaligned { pos: 1, align: 0 },
+        VerifyError::Unaligned { pos: 0, align: 1 },
+        VerifyError::InvalidLength { len: 0, cap: 0 },
+        VerifyError::InvalidLength { len: 1, cap: 0 },
+        VerifyError::InvalidLength { len: 0, cap: 1 },
+        VerifyError::WrongNumberOfElements {
+            expected: 0,
+            actual: 0,
+        },
+        VerifyError::WrongNumberOfElements {
+            expected: 1,
+            actual: 0,
+        },
+        VerifyError::WrongNumberOfElements {
+            expected: 0,
+            actual: 1,
+        },
+        VerifyError::UnwrappedControlByte { index: 0 },
+        VerifyError::UnwrappedControlByte { index: 1 },
+        VerifyError::PlaceOutOfRange { place: 0, len: 0 },
+        VerifyError::PlaceOutOfRange { place: 1, len: 0 },
+        VerifyError::PlaceOutOfRange { place: 0, len: 1 },
+        VerifyError::InvalidValue { pos: 0 },
+        VerifyError::InvalidValue { pos: 1 },
+        VerifyError::Refused(0),
+        VerifyError::Refused(1),
+    ]);
+    expect_eq!(rt; distinct, true);
 }
 
 // Returns the number of items in a list to which one is pushed.

@@ -10,7 +10,7 @@ use rkyv_base::access::access;
 use rkyv_base::seal_text::uppercase_at;
 use rkyv_base::{
     ArchiveSeal, Entry, Narrow, Seal, Text, VerifyError, View, Wide, Width, access_mut,
-    access_mut_in, set_at, set_value, split_at_value, to_bytes,
+    access_mut_in, laws, set_at, set_value, split_at_value, to_bytes,
 };
 use std::test::Fail;
 use test_support::written::is_archived_as;
@@ -63,6 +63,14 @@ fn numbers_are_written_over_bytes(rt: HostRuntime) {
             [9, 254, 255, 255, 4, 3, 2, 1, 255, 9]
         )
     );
+}
+
+#[test]
+fn dropped_seals_keep_bytes(rt: HostRuntime) {
+    let mut bytes = [1, 2, 3];
+    laws::dropped_seals_keep_bytes::<u8>(&mut bytes, 1);
+    laws::dropped_archive_seals_keep_bytes::<u8>(&mut bytes, 1);
+    expect_eq!(rt; bytes, [1, 2, 3]);
 }
 
 // Writes a `bool` over the root of an archive. Returns its position, the value of a view,

@@ -1,7 +1,7 @@
 //! Lookups in maps and sets of std that are values of maps of std, or parts of such values.
 
 ghost use Rattle.std.specs.Prelude.{◌==◌, ◌≡◌, Ok};
-ghost use Rattle.rkyv_collections.specs.{IsNarrowWritten, map_bytes, map_pos};
+ghost use Rattle.rkyv_collections.specs.{IsNarrowWritten, inner_entries, map_bytes, map_pos};
 ghost use Rattle.rkyv_keys.specs.{first_value};
 ghost use Rattle.test_collections.specs.InStdMaps.{has_under, value_beside, value_under};
 
@@ -38,7 +38,7 @@ type FareRelation = EntriesRelation<ValueRelation>;
 fn fare_in(fares: ArchivedHashMap<'_, u32, u64>, line: u32) -> Option<u64>
     ensures { let r = ⟦<FareRelation as WrittenRelation<Narrow, FareMap>>⟧ in
         (map : _) → r.related (map_bytes fares.entry) (map_pos fares.entry) map
-        → result ≡ first_value (λ other. line == other) map.map.entries }
+        → result ≡ first_value (λ key. line == key) (inner_entries map) }
 {
     lookups_find_listed::<u32, u64, u32, u64, FxHasher64, Narrow>();
     match fares.get(&line) {

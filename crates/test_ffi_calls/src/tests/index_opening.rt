@@ -1,14 +1,14 @@
 //! Tests of opening index maps, by the codes of their contents.
 
 use crate::tests::index_archives::{
-    EMPTY_TEXT, EMPTY_WIDE_TEXT, LONG_NUMBER_TWICE, ONE_LONG_NUMBER, ONE_NUMBER, ONE_SYMBOL,
-    ONE_WIDE_GREAT_NUMBER, ONE_WIDE_LONG_NUMBER, ONE_WIDE_NUMBER, TWO_TEXTS,
+    EMPTY_TEXT, EMPTY_WIDE_TEXT, LONG_NUMBER_TWICE, ONE_ITEM, ONE_LONG_NUMBER, ONE_NUMBER,
+    ONE_SYMBOL, ONE_WIDE_GREAT_NUMBER, ONE_WIDE_LONG_NUMBER, ONE_WIDE_NUMBER, TWO_TEXTS,
 };
 use crate::tests::index_text_archives::{
     EMPTY_TO_TEXT, EMPTY_TO_WIDE_TEXT, GREAT_TO_WIDE_TEXT, LONG_TO_TEA, LONG_TO_TWO_TEXTS,
     ONE_TO_TEA, ONE_TO_TWO_TEXTS, ONE_TO_WIDE_TEXT, TWO_TEXTS as TWO_TO_TEXTS,
 };
-use crate::tests::opened::{INDEX_MAP, TEXT, U32, U64};
+use crate::tests::opened::{INDEX_MAP, INDEX_SET, TEXT, U32, U64, UNIT};
 use crate::tests::opening::{VALID, expect_errors, expect_errors_with, expect_rejected};
 
 #[test]
@@ -20,6 +20,7 @@ fn archives_to_numbers_have_no_error(rt: HostRuntime) {
             (ONE_LONG_NUMBER, (INDEX_MAP, U32, U64, 4), VALID),
             (ONE_WIDE_NUMBER, (INDEX_MAP, U32, U32, 8), VALID),
             (ONE_WIDE_LONG_NUMBER, (INDEX_MAP, U32, U64, 8), VALID),
+            (ONE_ITEM, (INDEX_SET, U32, UNIT, 4), VALID),
             (ONE_LONG_NUMBER, (INDEX_MAP, U64, U32, 4), VALID),
             (ONE_LONG_NUMBER, (INDEX_MAP, U64, U64, 4), VALID),
             (LONG_NUMBER_TWICE, (INDEX_MAP, U64, U64, 4), VALID),

@@ -7,20 +7,10 @@ use crate::tests::archives::{
     TWO_LONG_NUMBERS,
 };
 use crate::tests::expect_equal;
-use crate::tests::numbers::{lookup, numbers_of, overwrite, overwrite_and_get, walk};
+use crate::tests::numbers::{lookup, overwrite, overwrite_and_get};
 use crate::tests::support::{GREAT, with_bytes};
 use ffi_calls::form::{Form, LONG, SHORT, WIDE, WIDE_LONG};
-use ffi_calls::pairs::{Pair, Step};
 use std::process::Abort;
-
-// The next bucket, the key and the value of a step.
-type Parts = (u64, u64, u64);
-
-// A step that no call stores.
-const NINE: Step<Pair<u64, u64>> = Step {
-    next: 9,
-    pair: Pair { value: 9, key: 9 },
-};
 
 // Fails the test unless each lookup of a key has its result.
 fn expect_lookups(rt: &impl Abort, rows: &[(&[u8], Form, u64, (usize, u32, u64))]) {
@@ -66,30 +56,6 @@ fn expect_overwrite_and_get<const N: usize>(
     }
 }
 
-// Fails the test unless each walk from a bucket stores this many pairs over one, and the one is as
-// expected afterwards. It is 9 to 9 at first.
-fn expect_steps(rt: &impl Abort, rows: &[(&[u8], Form, u64, (usize, Parts))]) {
-    for (archive, form, from, (count, pair)) in rows {
-        let mut pairs = [NINE];
-        let stored = walk(archive, *form, *from, &mut pairs);
-        expect_equal(rt, stored, Some(*count));
-        expect_equal(rt, numbers_of(pairs[0]), *pair);
-    }
-}
-
-// Fails the test unless each walk from a bucket stores this many pairs over three, and the three
-// are as expected afterwards. Each is 9 to 9 at first.
-fn expect_several(rt: &impl Abort, rows: &[(&[u8], Form, u64, usize, Parts, Parts, Parts)]) {
-    for (archive, form, from, count, first, second, third) in rows {
-        let mut pairs = [NINE; 3];
-        let stored = walk(archive, *form, *from, &mut pairs);
-        expect_equal(rt, stored, Some(*count));
-        expect_equal(rt, numbers_of(pairs[0]), *first);
-        expect_equal(rt, numbers_of(pairs[1]), *second);
-        expect_equal(rt, numbers_of(pairs[2]), *third);
-    }
-}
-
 #[test]
 fn lookups_find_the_long_number(rt: HostRuntime) {
     expect_lookups(
@@ -117,91 +83,6 @@ fn lookups_compare_all_64_bits(rt: HostRuntime) {
             (ONE_WIDE_LONG_NUMBER, WIDE, u64::MAX, (1, 1, 9)),
             (ONE_GREAT_NUMBER, LONG, 1, (1, 1, 9)),
             (ONE_WIDE_GREAT_NUMBER, WIDE, 1, (1, 1, 9)),
-        ],
-    );
-}
-
-#[test]
-fn walks_of_long_numbers_visit_bucket_1(rt: HostRuntime) {
-    expect_steps(
-        &rt,
-        &[
-            (ONE_LONG_NUMBER, SHORT, 0, (1, (2, 1, 2))),
-            (ONE_LONG_NUMBER, LONG, 1, (1, (2, 1, 2))),
-            (ONE_WIDE_LONG_NUMBER, WIDE, 0, (1, (2, 1, 2))),
-            (ONE_WIDE_LONG_NUMBER, WIDE_LONG, 1, (1, (2, 1, 2))),
-            (ONE_GREAT_NUMBER, LONG, 0, (1, (2, GREAT, 2))),
-            (ONE_WIDE_GREAT_NUMBER, WIDE, 0, (1, (2, GREAT, 2))),
-        ],
-    );
-}
-
-#[test]
-fn walks_of_long_numbers_end(rt: HostRuntime) {
-    expect_steps(
-        &rt,
-        &[
-            (ONE_LONG_NUMBER, SHORT, 2, (0, (9, 9, 9))),
-            (ONE_GREAT_NUMBER, LONG, 2, (0, (9, 9, 9))),
-            (ONE_WIDE_LONG_NUMBER, WIDE, 2, (0, (9, 9, 9))),
-            (ONE_WIDE_GREAT_NUMBER, WIDE_LONG, u64::MAX, (0, (9, 9, 9))),
-        ],
-    );
-}
-
-#[test]
-fn several_long_numbers_are_stored_at_once(rt: HostRuntime) {
-    expect_several(
-        &rt,
-        &[
-            (
-                ONE_LONG_NUMBER,
-                SHORT,
-                0,
-                1,
-                (2, 1, 2),
-                (9, 9, 9),
-                (9, 9, 9),
-            ),
-            (
-                ONE_WIDE_LONG_NUMBER,
-                WIDE_LONG,
-                1,
-                1,
-                (2, 1, 2),
-                (9, 9, 9),
-                (9, 9, 9),
-            ),
-            (
-                ONE_WIDE_LONG_NUMBER,
-                WIDE,
-                2,
-                0,
-                (9, 9, 9),
-                (9, 9, 9),
-                (9, 9, 9),
-            ),
-            (
-                TWO_LONG_NUMBERS,
-                LONG,
-                0,
-                2,
-                (1, 1, 2),
-                (2, GREAT, 9),
-                (9, 9, 9),
-            ),
-        ],
-    );
-}
-
-#[test]
-fn walks_of_two_long_numbers_go_on(rt: HostRuntime) {
-    expect_steps(
-        &rt,
-        &[
-            (TWO_LONG_NUMBERS, LONG, 0, (1, (1, 1, 2))),
-            (TWO_LONG_NUMBERS, LONG, 1, (1, (2, GREAT, 9))),
-            (TWO_LONG_NUMBERS, LONG, 2, (0, (9, 9, 9))),
         ],
     );
 }

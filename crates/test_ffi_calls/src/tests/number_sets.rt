@@ -6,8 +6,7 @@ use crate::tests::opened::CodedKey;
 use crate::tests::support::{GREAT, expect_outcome, expect_permitted, outcome_of};
 use ffi_calls::building::Built;
 use ffi_calls::laws;
-use ffi_calls::number_sets::{build_number_set, contains_number, next_number_members};
-use ffi_calls::pairs::{Pair, Step};
+use ffi_calls::number_sets::{build_number_set, contains_number};
 use rkyv_base::Narrow;
 use std::alloc::Global;
 use std::process::Abort;
@@ -50,7 +49,7 @@ pub(crate) fn wide_long_one() -> [u8; 72] {
 }
 
 /// Returns the set of 4,294,967,297, whose tag is 3c. Buckets, controls and header are as above.
-fn great() -> [u8; 60] {
+pub(crate) fn great() -> [u8; 60] {
     let mut bytes = long_one();
     bytes[4] = 1;
     bytes[17] = 0x3c;
@@ -63,29 +62,6 @@ fn found<K: CodedKey>(archive: &[u8], wide: bool, item: K) -> Option<(usize, u32
     let header = K::set_header(archive, wide)?;
     Some((header.len(), contains_number(archive, wide, &header, item)))
 }
-
-// Stores the next items of a set, from a bucket on, and returns their number.
-fn walk<K: CodedKey>(
-    archive: &[u8],
-    wide: bool,
-    from: u64,
-    members: &mut [Step<Pair<K, ()>>],
-) -> Option<usize> {
-    let header = K::set_header(archive, wide)?;
-    Some(next_number_members(archive, wide, &header, from, members))
-}
-
-// A member that no call stores.
-const NINE: Step<Pair<u32, ()>> = Step {
-    next: 9,
-    pair: Pair { value: (), key: 9 },
-};
-
-// A member that no call stores, with 64 bits.
-const LONG_NINE: Step<Pair<u64, ()>> = Step {
-    next: 9,
-    pair: Pair { value: (), key: 9 },
-};
 
 // Fails the test unless a set has this number of items, and a lookup this status.
 fn expect_found(rt: &impl Abort, archive: &[u8], wide: bool, item: u32, expected: (usize, u32)) {
@@ -101,64 +77,6 @@ fn expect_long_found(
     expected: (usize, u32),
 ) {
     expect_equal(rt, found(archive, wide, item), Some(expected));
-}
-
-// Fails the test unless this many items are stored over one, from a bucket on, and the next bucket
-// and the item are these. They are 9 at first.
-fn expect_step(
-    rt: &impl Abort,
-    archive: &[u8],
-    wide: bool,
-    from: u64,
-    (count, next, item): (usize, u64, u32),
-) {
-    let mut members = [NINE];
-    let stored = walk(archive, wide, from, &mut members);
-    let found = (stored, members[0].next, members[0].pair.key);
-    expect_equal(rt, found, (Some(count), next, item));
-}
-
-// Does the same with a set of numbers of 64 bits.
-fn expect_long_step(
-    rt: &impl Abort,
-    archive: &[u8],
-    wide: bool,
-    from: u64,
-    (count, next, item): (usize, u64, u64),
-) {
-    let mut members = [LONG_NINE];
-    let stored = walk(archive, wide, from, &mut members);
-    let found = (stored, members[0].next, members[0].pair.key);
-    expect_equal(rt, found, (Some(count), next, item));
-}
-
-// Fails the test unless this many items are stored over two, from a bucket on, and the items are
-// these. They are 9 at first.
-fn expect_several(
-    rt: &impl Abort,
-    archive: &[u8],
-    wide: bool,
-    from: u64,
-    (count, first, second): (usize, u32, u32),
-) {
-    let mut members = [NINE; 2];
-    let stored = walk(archive, wide, from, &mut members);
-    let found = (stored, members[0].pair.key, members[1].pair.key);
-    expect_equal(rt, found, (Some(count), first, second));
-}
-
-// Does the same with a set of numbers of 64 bits.
-fn expect_long_several(
-    rt: &impl Abort,
-    archive: &[u8],
-    wide: bool,
-    from: u64,
-    (count, first, second): (usize, u64, u64),
-) {
-    let mut members = [LONG_NINE; 2];
-    let stored = walk(archive, wide, from, &mut members);
-    let found = (stored, members[0].pair.key, members[1].pair.key);
-    expect_equal(rt, found, (Some(count), first, second));
 }
 
 // Returns the status of a write of a set, and whether `built` has `bytes` if it is 0.
@@ -188,38 +106,6 @@ fn lookups_of_long_numbers_compare_all_64_bits(rt: HostRuntime) {
     expect_long_found(&rt, &wide_long_one(), true, 1, (1, 0));
     expect_long_found(&rt, &wide_long_one(), true, u64::MAX, (1, 1));
     expect_long_found(&rt, NO_ITEMS, false, 1, (0, 1));
-}
-
-#[test]
-fn walks_visit_the_item_and_end(rt: HostRuntime) {
-    expect_step(&rt, &one(), false, 0, (1, 2, 1));
-    expect_step(&rt, &one(), false, 2, (0, 9, 9));
-    expect_step(&rt, &wide_one(), true, 1, (1, 2, 1));
-}
-
-#[test]
-fn walks_visit_the_long_number_and_end(rt: HostRuntime) {
-    expect_long_step(&rt, &long_one(), false, 0, (1, 2, 1));
-    expect_long_step(&rt, &great(), false, 1, (1, 2, GREAT));
-    expect_long_step(&rt, &great(), false, 2, (0, 9, 9));
-    expect_long_step(&rt, &wide_long_one(), true, 0, (1, 2, 1));
-    expect_long_step(&rt, &wide_long_one(), true, u64::MAX, (0, 9, 9));
-}
-
-#[test]
-fn walks_of_two_items_go_on(rt: HostRuntime) {
-    expect_step(&rt, &one_twice(), false, 0, (1, 1, 1));
-    expect_step(&rt, &one_twice(), false, 1, (1, 2, 1));
-    expect_step(&rt, &one_twice(), false, 2, (0, 9, 9));
-    expect_several(&rt, &one_twice(), false, 0, (2, 1, 1));
-}
-
-#[test]
-fn several_items_are_stored_at_once(rt: HostRuntime) {
-    expect_several(&rt, &one(), false, 0, (1, 1, 9));
-    expect_several(&rt, &wide_one(), true, 2, (0, 9, 9));
-    expect_long_several(&rt, &great(), false, 0, (1, GREAT, 9));
-    expect_long_several(&rt, &wide_long_one(), true, 2, (0, 9, 9));
 }
 
 #[test]

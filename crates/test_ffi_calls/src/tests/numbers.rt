@@ -1,16 +1,11 @@
 //! Tests of lookups, overwrites and walks of maps of numbers.
 
-use crate::tests::archives::{
-    ONE_LONG_NUMBER, ONE_NUMBER, ONE_NUMBER_TWICE, ONE_WIDE_LONG_NUMBER, ONE_WIDE_NUMBER,
-};
+use crate::tests::archives::{ONE_LONG_NUMBER, ONE_NUMBER, ONE_WIDE_LONG_NUMBER, ONE_WIDE_NUMBER};
 use crate::tests::expect_equal;
 use crate::tests::opened::CodedKey;
 use crate::tests::support::with_bytes;
 use ffi_calls::form::{Form, LONG, SHORT, WIDE, WIDE_LONG};
-use ffi_calls::laws;
-use ffi_calls::numbers::{get_number, next_numbers, set_number};
-use ffi_calls::pairs::{Pair, Step};
-use rkyv_base::Narrow;
+use ffi_calls::numbers::{get_number, set_number};
 use std::process::Abort;
 
 /// Returns the number of pairs, and the status and the value of a lookup that replaces the value 9.
@@ -19,22 +14,6 @@ pub(crate) fn lookup<K: CodedKey>(archive: &[u8], form: Form, key: K) -> Option<
     let mut value = 9u64;
     let status = get_number(archive, form, &header, key, &mut value);
     Some((header.len(), status, value))
-}
-
-/// Stores the next pairs from the given bucket on, and returns their number.
-pub(crate) fn walk<K: CodedKey>(
-    archive: &[u8],
-    form: Form,
-    from: u64,
-    pairs: &mut [Step<Pair<K, u64>>],
-) -> Option<usize> {
-    let header = K::map_header(archive, form)?;
-    Some(next_numbers(archive, form, &header, from, pairs))
-}
-
-/// Returns the numbers of a step.
-pub(crate) fn numbers_of<K>(step: Step<Pair<K, u64>>) -> (u64, K, u64) {
-    (step.next, step.pair.key, step.pair.value)
 }
 
 /// Returns the status of an overwrite, if the archive is valid before and after it.
@@ -62,15 +41,6 @@ pub(crate) fn overwrite_and_get<K: CodedKey>(
     let again = get_number(&*archive, form, &header, key, &mut found);
     Some((status, again, found))
 }
-
-// The next bucket, the key and the value of a step.
-type Parts = (u64, u32, u64);
-
-// A step that no call stores.
-const NINE: Step<Pair<u32, u64>> = Step {
-    next: 9,
-    pair: Pair { value: 9, key: 9 },
-};
 
 // Fails the test unless each lookup of a key has its result.
 fn expect_lookups(rt: &impl Abort, rows: &[(&[u8], Form, u32, (usize, u32, u64))]) {
@@ -116,30 +86,6 @@ fn expect_overwrite_and_get<const N: usize>(
     }
 }
 
-// Fails the test unless each walk from a bucket stores this many pairs over one, and the one is as
-// expected afterwards. It is 9 to 9 at first.
-fn expect_steps(rt: &impl Abort, rows: &[(&[u8], Form, u64, (usize, Parts))]) {
-    for (archive, form, from, (count, pair)) in rows {
-        let mut pairs = [NINE];
-        let stored = walk(archive, *form, *from, &mut pairs);
-        expect_equal(rt, stored, Some(*count));
-        expect_equal(rt, numbers_of(pairs[0]), *pair);
-    }
-}
-
-// Fails the test unless each walk from a bucket stores this many pairs over three, and the three
-// are as expected afterwards. Each is 9 to 9 at first.
-fn expect_several(rt: &impl Abort, rows: &[(&[u8], Form, u64, usize, Parts, Parts, Parts)]) {
-    for (archive, form, from, count, first, second, third) in rows {
-        let mut pairs = [NINE; 3];
-        let stored = walk(archive, *form, *from, &mut pairs);
-        expect_equal(rt, stored, Some(*count));
-        expect_equal(rt, numbers_of(pairs[0]), *first);
-        expect_equal(rt, numbers_of(pairs[1]), *second);
-        expect_equal(rt, numbers_of(pairs[2]), *third);
-    }
-}
-
 #[test]
 fn lookups_find_the_number(rt: HostRuntime) {
     expect_lookups(
@@ -162,88 +108,6 @@ fn lookups_find_no_other_number(rt: HostRuntime) {
             (ONE_LONG_NUMBER, LONG, 0, (1, 1, 9)),
             (ONE_WIDE_NUMBER, WIDE, 3, (1, 1, 9)),
             (ONE_WIDE_LONG_NUMBER, WIDE_LONG, u32::MAX, (1, 1, 9)),
-        ],
-    );
-}
-
-#[test]
-fn walks_visit_bucket_1(rt: HostRuntime) {
-    laws::walks_visit_listed::<u32, u32, u32, u32, Narrow>();
-    expect_steps(
-        &rt,
-        &[
-            (ONE_NUMBER, SHORT, 0, (1, (2, 1, 2))),
-            (ONE_LONG_NUMBER, LONG, 1, (1, (2, 1, 2))),
-            (ONE_WIDE_NUMBER, WIDE, 0, (1, (2, 1, 2))),
-            (ONE_WIDE_LONG_NUMBER, WIDE_LONG, 1, (1, (2, 1, 2))),
-        ],
-    );
-}
-
-#[test]
-fn walks_end_behind_bucket_1(rt: HostRuntime) {
-    expect_steps(
-        &rt,
-        &[
-            (ONE_NUMBER, SHORT, 2, (0, (9, 9, 9))),
-            (ONE_LONG_NUMBER, LONG, 2, (0, (9, 9, 9))),
-            (ONE_WIDE_NUMBER, WIDE, 2, (0, (9, 9, 9))),
-            (ONE_WIDE_LONG_NUMBER, WIDE_LONG, 2, (0, (9, 9, 9))),
-            (ONE_NUMBER, SHORT, u64::MAX, (0, (9, 9, 9))),
-        ],
-    );
-}
-
-#[test]
-fn walks_of_two_pairs_go_on(rt: HostRuntime) {
-    expect_steps(
-        &rt,
-        &[
-            (ONE_NUMBER_TWICE, SHORT, 0, (1, (1, 1, 2))),
-            (ONE_NUMBER_TWICE, SHORT, 1, (1, (2, 1, 9))),
-            (ONE_NUMBER_TWICE, SHORT, 2, (0, (9, 9, 9))),
-        ],
-    );
-    expect_several(
-        &rt,
-        &[(
-            ONE_NUMBER_TWICE,
-            SHORT,
-            0,
-            2,
-            (1, 1, 2),
-            (2, 1, 9),
-            (9, 9, 9),
-        )],
-    );
-}
-
-#[test]
-fn several_pairs_are_stored_at_once(rt: HostRuntime) {
-    expect_several(
-        &rt,
-        &[
-            (ONE_NUMBER, SHORT, 0, 1, (2, 1, 2), (9, 9, 9), (9, 9, 9)),
-            (ONE_LONG_NUMBER, LONG, 1, 1, (2, 1, 2), (9, 9, 9), (9, 9, 9)),
-            (ONE_WIDE_NUMBER, WIDE, 2, 0, (9, 9, 9), (9, 9, 9), (9, 9, 9)),
-            (
-                ONE_WIDE_LONG_NUMBER,
-                WIDE_LONG,
-                0,
-                1,
-                (2, 1, 2),
-                (9, 9, 9),
-                (9, 9, 9),
-            ),
-            (
-                ONE_NUMBER,
-                SHORT,
-                u64::MAX,
-                0,
-                (9, 9, 9),
-                (9, 9, 9),
-                (9, 9, 9),
-            ),
         ],
     );
 }

@@ -25,6 +25,9 @@ pub(crate) const SET: u8 = 2;
 /// The code of an index map.
 pub(crate) const INDEX_MAP: u8 = 3;
 
+/// The code of an index set, whose values are units.
+pub(crate) const INDEX_SET: u8 = 4;
+
 /// The code of units.
 pub(crate) const UNIT: u8 = 1;
 

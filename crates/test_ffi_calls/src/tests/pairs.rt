@@ -1,7 +1,7 @@
 //! Tests of the pairs that calls take and store.
 
 use ffi_calls::laws;
-use ffi_calls::pairs::{Indexed, IndexedOf, Pair, PairOf, Step, StepOf};
+use ffi_calls::pairs::{Indexed, IndexedOf, Pair, PairOf};
 
 #[test]
 fn pairs_are_stored_as_they_are(rt: HostRuntime) {
@@ -12,8 +12,6 @@ fn pairs_are_stored_as_they_are(rt: HostRuntime) {
     };
     let stored = Pair::of_pair(pair).pair();
     expect_eq!(rt; (stored.value, stored.key), (2, 1));
-    let step = Step::of_step(Step { next: 3, pair });
-    expect_eq!(rt; (step.next, step.pair.value, step.pair.key), (3, 2, 1));
     let indexed = Indexed::of_indexed(Indexed {
         index: 4,
         value: 2u64,

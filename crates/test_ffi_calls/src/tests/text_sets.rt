@@ -5,9 +5,8 @@ use crate::tests::expect_equal;
 use crate::tests::opened::text_set_header;
 use crate::tests::support::{expect_outcome, expect_permitted, outcome_of};
 use ffi_calls::building::Built;
-use ffi_calls::pairs::{Pair, Step};
 use ffi_calls::text_set_items::{SetText, build_text_set};
-use ffi_calls::text_sets::{contains_text, next_text_members};
+use ffi_calls::text_sets::contains_text;
 use std::alloc::Global;
 use std::process::Abort;
 use test_support::archives::archive;
@@ -22,7 +21,7 @@ pub(crate) fn empty_text() -> [u8; 60] {
 }
 
 /// Returns the wide set of the empty text. Buckets from 0 on, controls from 32 on, header at 64.
-fn wide_empty_text() -> [u8; 88] {
+pub(crate) fn wide_empty_text() -> [u8; 88] {
     let front = [
         0xff, 0xff, 0xff, 0xff, 0xff, 0xff, 0xff, 0xff, 0xff, 0xff, 0xff, 0xff, 0xff, 0xff, 0xff,
         0xff, 0, 0, 0, 0, 0, 0, 0, 0, 0, 0, 0, 0, 0, 0, 0, 0, 0xff, 0x15, 0xff, 0x15,
@@ -49,60 +48,9 @@ fn found(archive: &[u8], wide: bool, item: &[u8]) -> Option<(usize, u32)> {
     Some((header.len(), contains_text(archive, wide, &header, item)))
 }
 
-// A member that no call stores.
-const OTHER: Step<Pair<&[u8], ()>> = Step {
-    next: 9,
-    pair: Pair {
-        value: (),
-        key: b"?",
-    },
-};
-
-// Returns how many texts are stored over one, from a bucket on, the next bucket, and whether the
-// item is `expected`. They are 9 and `?` at first.
-fn step(archive: &[u8], wide: bool, from: u64, expected: &[u8]) -> Option<(usize, u64, bool)> {
-    let header = text_set_header(archive, wide)?;
-    let mut members = [OTHER];
-    let count = next_text_members(archive, wide, &header, from, &mut members);
-    Some((count, members[0].next, members[0].pair.key == expected))
-}
-
-// Returns how many items are stored over two, and their lengths, which are 1 at first.
-fn several(archive: &[u8], wide: bool, from: u64) -> Option<(usize, usize, usize)> {
-    let header = text_set_header(archive, wide)?;
-    let mut members = [OTHER; 2];
-    let count = next_text_members(archive, wide, &header, from, &mut members);
-    Some((count, members[0].pair.key.len(), members[1].pair.key.len()))
-}
-
 // Fails the test unless a set has this number of items, and a lookup this status.
 fn expect_found(rt: &impl Abort, archive: &[u8], wide: bool, item: &[u8], expected: (usize, u32)) {
     expect_equal(rt, found(archive, wide, item), Some(expected));
-}
-
-// Fails the test unless this many texts are stored over one, from a bucket on, the next bucket is
-// this, and the item is or is not `item`. They are 9 and `?` at first.
-fn expect_step(
-    rt: &impl Abort,
-    archive: &[u8],
-    wide: bool,
-    from: u64,
-    item: &[u8],
-    expected: (usize, u64, bool),
-) {
-    expect_equal(rt, step(archive, wide, from, item), Some(expected));
-}
-
-// Fails the test unless this many items are stored over two, and have these lengths, which are 1
-// at first.
-fn expect_several(
-    rt: &impl Abort,
-    archive: &[u8],
-    wide: bool,
-    from: u64,
-    expected: (usize, usize, usize),
-) {
-    expect_equal(rt, several(archive, wide, from), Some(expected));
 }
 
 // Returns the status of a write of a set, and whether `built` has `bytes` if it is 0.
@@ -132,30 +80,6 @@ fn lookups_find_the_items_alone(rt: HostRuntime) {
     expect_found(&rt, &wide_empty_text(), true, b"", (1, 0));
     expect_found(&rt, &wide_empty_text(), true, &[0xc3], (1, 4));
     expect_found(&rt, NO_ITEMS, false, b"", (0, 1));
-}
-
-#[test]
-fn walks_visit_the_item_and_end(rt: HostRuntime) {
-    expect_step(&rt, &empty_text(), false, 0, b"", (1, 2, true));
-    expect_step(&rt, &empty_text(), false, 2, b"?", (0, 9, true));
-    expect_step(&rt, &wide_empty_text(), true, 0, b"", (1, 2, true));
-    expect_step(&rt, &wide_empty_text(), true, u64::MAX, b"?", (0, 9, true));
-}
-
-#[test]
-fn walks_of_two_items_go_on(rt: HostRuntime) {
-    let bytes = empty_text_twice();
-    expect_step(&rt, &bytes, false, 0, b"", (1, 1, true));
-    expect_step(&rt, &bytes, false, 1, b"", (1, 2, true));
-    expect_step(&rt, &bytes, false, 2, b"?", (0, 9, true));
-    expect_several(&rt, &bytes, false, 0, (2, 0, 0));
-}
-
-#[test]
-fn several_items_are_stored_at_once(rt: HostRuntime) {
-    expect_several(&rt, &empty_text(), false, 0, (1, 0, 1));
-    expect_several(&rt, &wide_empty_text(), true, 0, (1, 0, 1));
-    expect_several(&rt, &wide_empty_text(), true, 2, (0, 1, 1));
 }
 
 #[test]

@@ -1,12 +1,11 @@
 //! Tests of lookups, overwrites and walks of maps of texts.
 
-use crate::tests::archives::{EMPTY_TEXT, EMPTY_WIDE_TEXT, ONE_SYMBOL, empty_text_twice};
+use crate::tests::archives::{EMPTY_TEXT, EMPTY_WIDE_TEXT, ONE_SYMBOL};
 use crate::tests::expect_equal;
 use crate::tests::opened::text_map_header;
 use crate::tests::support::with_bytes;
 use ffi_calls::form::{Form, LONG, SHORT, WIDE, WIDE_LONG};
-use ffi_calls::pairs::{Pair, Step};
-use ffi_calls::texts::{get_text, is_text, next_texts, set_text};
+use ffi_calls::texts::{get_text, is_text, set_text};
 use std::process::Abort;
 
 // Returns the number of pairs, and the status and the value of a lookup that replaces the value 9.
@@ -15,46 +14,6 @@ fn lookup(archive: &[u8], form: Form, key: &[u8]) -> Option<(usize, u32, u64)> {
     let mut value = 9u64;
     let status = get_text(archive, form, &header, key, &mut value);
     Some((header.len(), status, value))
-}
-
-// A step that no call stores.
-const NINE: Step<Pair<&[u8], u64>> = Step {
-    next: 9,
-    pair: Pair {
-        value: 9,
-        key: b"?",
-    },
-};
-
-// Returns whether the step has these parts.
-fn is_step(step: Step<Pair<&[u8], u64>>, next: u64, key: &[u8], value: u64) -> bool {
-    step.next == next && step.pair.key == key && step.pair.value == value
-}
-
-// Returns how many pairs are stored over one, from the given bucket on, if the one is as expected
-// afterwards. It has the key `?` and the value 9 at first.
-fn step(archive: &[u8], form: Form, from: u64, next: u64, key: &[u8], value: u64) -> Option<usize> {
-    let header = text_map_header(archive, form)?;
-    let mut pairs = [NINE];
-    let count = next_texts(archive, form, &header, from, &mut pairs);
-    is_step(pairs[0], next, key, value).then_some(count)
-}
-
-// Returns how many pairs are stored over two, from the given bucket on, if the two are as expected
-// afterwards. Each has the key `?` and the value 9 at first.
-fn several(
-    archive: &[u8],
-    form: Form,
-    from: u64,
-    first: (u64, &[u8], u64),
-    second: (u64, &[u8], u64),
-) -> Option<usize> {
-    let header = text_map_header(archive, form)?;
-    let mut pairs = [NINE; 2];
-    let count = next_texts(archive, form, &header, from, &mut pairs);
-    let right = is_step(pairs[0], first.0, first.1, first.2)
-        && is_step(pairs[1], second.0, second.1, second.2);
-    right.then_some(count)
 }
 
 // Returns the status of an overwrite, if the archive is valid before and after it.
@@ -136,53 +95,6 @@ fn lookups_find_no_other_text(rt: HostRuntime) {
     expect_lookup(&rt, ONE_SYMBOL, LONG, b"mai", (1, 1, 9));
     expect_lookup(&rt, EMPTY_WIDE_TEXT, WIDE, &[0x61, 0xff], (1, 4, 9));
     expect_lookup(&rt, EMPTY_WIDE_TEXT, WIDE_LONG, &[0xc3], (1, 4, 9));
-}
-
-#[test]
-fn walks_visit_the_pair(rt: HostRuntime) {
-    expect_eq!(rt; step(EMPTY_TEXT, SHORT, 0, 2, b"", 7), Some(1));
-    expect_eq!(rt; step(ONE_SYMBOL, LONG, 0, 1, b"main", 4096), Some(1));
-    expect_eq!(rt; step(EMPTY_WIDE_TEXT, WIDE, 1, 2, b"", 7), Some(1));
-    expect_eq!(rt; step(EMPTY_WIDE_TEXT, WIDE_LONG, 0, 2, b"", 7), Some(1));
-}
-
-#[test]
-fn walks_end_behind_the_last_pair(rt: HostRuntime) {
-    expect_eq!(rt; step(EMPTY_TEXT, SHORT, 2, 9, b"?", 9), Some(0));
-    expect_eq!(rt; step(ONE_SYMBOL, LONG, 1, 9, b"?", 9), Some(0));
-    expect_eq!(rt;
-        step(EMPTY_WIDE_TEXT, WIDE, u64::MAX, 9, b"?", 9),
-        Some(0)
-    );
-    expect_eq!(rt; step(EMPTY_WIDE_TEXT, WIDE_LONG, 2, 9, b"?", 9), Some(0));
-}
-
-#[test]
-fn walks_of_two_pairs_go_on(rt: HostRuntime) {
-    let bytes = empty_text_twice();
-    expect_eq!(rt; step(&bytes, SHORT, 0, 1, b"", 7), Some(1));
-    expect_eq!(rt; step(&bytes, SHORT, 1, 2, b"", 8), Some(1));
-    expect_eq!(rt; step(&bytes, SHORT, 2, 9, b"?", 9), Some(0));
-}
-
-#[test]
-fn several_pairs_are_stored_at_once(rt: HostRuntime) {
-    let nine: (u64, &[u8], u64) = (9, b"?", 9);
-    let seven: (u64, &[u8], u64) = (2, b"", 7);
-    expect_eq!(rt; several(EMPTY_TEXT, SHORT, 0, seven, nine), Some(1));
-    expect_eq!(rt;
-        several(ONE_SYMBOL, LONG, 0, (1, b"main", 4096), nine),
-        Some(1)
-    );
-    expect_eq!(rt; several(EMPTY_WIDE_TEXT, WIDE, 1, seven, nine), Some(1));
-    expect_eq!(rt;
-        several(EMPTY_WIDE_TEXT, WIDE_LONG, 2, nine, nine),
-        Some(0)
-    );
-    expect_eq!(rt;
-        several(&empty_text_twice(), SHORT, 0, (1, b"", 7), (2, b"", 8)),
-        Some(2)
-    );
 }
 
 #[test]

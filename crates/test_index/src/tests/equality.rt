@@ -43,6 +43,7 @@ const MAPS: &[PairsRow] = &[
     (FOUR_PAIRS, FOUR_PAIRS, true),
     (FOUR_PAIRS, &[(7, 8), (5, 6), (3, 4), (1, 2)], false),
     (FOUR_PAIRS, &[(1, 2), (3, 4), (5, 6), (7, 9)], false),
+    (FOUR_PAIRS, &[(1, 2), (3, 4), (5, 6), (9, 8)], false),
     (FOUR_PAIRS, THREE_PAIRS, false),
     (THREE_PAIRS, FOUR_PAIRS, false),
 ];
@@ -67,6 +68,7 @@ const WIDE_MAPS: &[PairsRow] = &[
     (TWO_PAIRS, TWO_PAIRS, true),
     (TWO_PAIRS, &[(3, 4), (1, 2)], false),
     (TWO_PAIRS, &[(1, 2), (3, 5)], false),
+    (TWO_PAIRS, &[(1, 2), (5, 4)], false),
     (TWO_PAIRS, &[(1, 2)], false),
 ];
 
@@ -196,10 +198,14 @@ fn lists_are_equal_in_the_same_order(rt: HostRuntime) -> Result<(), Fail> {
     let equal = [
         pairs == OrderedPairs(vec![in alloc; (1, 2), (3, 4)]?),
         pairs == OrderedPairs(vec![in alloc; (3, 4), (1, 2)]?),
+        pairs == OrderedPairs(vec![in alloc; (1, 2), (5, 4)]?),
+        pairs == OrderedPairs(vec![in alloc; (1, 2), (3, 5)]?),
+        pairs == OrderedPairs(vec![in alloc; (1, 2)]?),
         items == OrderedItems(vec![in alloc; 1, 2]?),
+        items == OrderedItems(vec![in alloc; 1, 3]?),
         items == OrderedItems(vec![in alloc; 1]?),
     ];
-    expect_eq!(rt; equal, [true, false, true, false]);
+    expect_eq!(rt; equal, [true, false, false, false, false, true, false, false]);
     Ok(())
 }
 

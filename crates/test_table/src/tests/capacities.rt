@@ -84,3 +84,29 @@ fn errors_of_capacities_become_write_errors(rt: HostRuntime) {
     ];
     expect_eq!(rt; [fraction, size], expected);
 }
+
+const ERROR: CapacityError = CapacityError::InvalidLoadFactor {
+    numerator: 8,
+    denominator: 7,
+};
+
+// Each error but the first differs from the first one in one field or in its variant.
+#[test]
+fn errors_of_capacities_are_unequal_if_a_field_is(rt: HostRuntime) {
+    laws::equal_errors_are_the_same();
+    laws::clones_are_the_same();
+    let others = [
+        CapacityError::InvalidLoadFactor {
+            numerator: 9,
+            denominator: 7,
+        },
+        CapacityError::InvalidLoadFactor {
+            numerator: 8,
+            denominator: 6,
+        },
+        CapacityError::CapacityTooLarge { len: 8 },
+    ];
+    let same = [ERROR == others[0], ERROR == others[1], ERROR == others[2]];
+    let lengths = CapacityError::CapacityTooLarge { len: 9 } == others[2];
+    expect_eq!(rt; (ERROR == ERROR, same, lengths), (true, [false; 3], false));
+}

@@ -4,8 +4,8 @@ use crate::tests::archives::{hash_of_i8, hash_of_u32, two_archived};
 use rkyv_base::access::access;
 use rkyv_base::{Entry, VerifyError};
 use rkyv_table::table::laws;
-use rkyv_table::table::misplaced::{finds_another_or_none, is_past};
-use rkyv_table::{ArchivedHashTable, Strides, TableOf};
+use rkyv_table::table::misplaced::finds_another_or_none;
+use rkyv_table::{ArchivedHashTable, Strides, TableOf, controls};
 use std::cell::Cell;
 use std::cmp::Ordering;
 use test_support::archives::{four_pairs, no_items, one_key_twice, one_number, two_units};
@@ -44,12 +44,7 @@ fn an_item_is_misplaced_if_another_bucket_is_found(rt: HostRuntime) {
         finds_another_or_none(1, Some(2)),
         finds_another_or_none(1, None),
     ];
-    let past = [
-        is_past(2, 5, 3),
-        is_past(2, 6, 3),
-        is_past(1 << 63, (1 << 63) + 1, 3),
-    ];
-    expect_eq!(rt; (misplaced, past), ([false, true, true], [false, true, true]));
+    expect_eq!(rt; misplaced, [false, true, true]);
 }
 
 #[test]
@@ -183,11 +178,8 @@ fn each_item_is_looked_up_once_up_to_the_limit(rt: HostRuntime) {
 }
 
 // Returns the number of misplaced pairs of a table whose lookups read at most four strides. The
-// strides are counted in addition to earlier ones, of which there are at most 100.
+// strides are counted in addition to earlier ones.
 fn counted_behind(bytes: &[u8], strides: &mut Strides) -> Option<usize> {
-    if strides.count() > 100 {
-        return None;
-    }
     match access::<TableOf<Entry<i8, i8>>>(bytes) {
         Ok(view) => ArchivedHashTable::of(view).misplaced_up_to_by(
             |pair| hash_of_i8(pair.key().to_native()),
@@ -199,9 +191,11 @@ fn counted_behind(bytes: &[u8], strides: &mut Strides) -> Option<usize> {
     }
 }
 
-// Counts the misplaced pairs of a table twice, and returns the strides that both counts read.
-fn counted_twice(bytes: &[u8]) -> ([Option<usize>; 2], u64) {
+// Counts the misplaced pairs of a table twice, and returns the strides that both counts read,
+// with `earlier` ones.
+fn counted_twice(bytes: &[u8], earlier: u64) -> ([Option<usize>; 2], u64) {
     let mut strides = Strides::new();
+    strides.add(earlier);
     let misplaced = [
         counted_behind(bytes, &mut strides),
         counted_behind(bytes, &mut strides),
@@ -211,5 +205,24 @@ fn counted_twice(bytes: &[u8]) -> ([Option<usize>; 2], u64) {
 
 #[test]
 fn earlier_strides_stay_counted(rt: HostRuntime) {
-    expect_eq!(rt; counted_twice(&four_pairs()), ([Some(0), Some(0)], 8));
+    expect_eq!(rt; counted_twice(&four_pairs(), 0), ([Some(0), Some(0)], 8));
+}
+
+// The limit bounds the strides of one call, whatever was counted before.
+#[test]
+fn a_count_of_strides_ends_at_the_greatest(rt: HostRuntime) {
+    controls::laws::counts_add_up();
+    let counted = [
+        counted_twice(&four_pairs(), u64::MAX - 9),
+        counted_twice(&four_pairs(), u64::MAX - 5),
+        counted_twice(&four_pairs(), u64::MAX),
+    ];
+    expect_eq!(rt;
+        counted,
+        [
+            ([Some(0), Some(0)], u64::MAX - 1),
+            ([Some(0), Some(0)], u64::MAX),
+            ([Some(0), Some(0)], u64::MAX)
+        ]
+    );
 }
