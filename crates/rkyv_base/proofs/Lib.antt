@@ -1,6 +1,5 @@
 pub mod Ascii
 pub mod AtViews
-pub mod WritingSteps
 pub mod PairWriting
 pub mod RootWriting
 pub mod TextChecking

@@ -21,7 +21,7 @@ ghost use Rattle.rkyv_base.specs.declared.errors.WriteError.TheVariants as write
 
 use crate::adapter::EntryAdapter;
 use crate::archive::Archive;
-use crate::bytes::Bytes;
+use crate::bytes::{Bytes, BytesResolver};
 use crate::element::{HasSpec, PartRange, Represents};
 use crate::entry::{Entry, MAX_ELEMENT_SIZE};
 use crate::errors::{
@@ -235,6 +235,8 @@ pub fn clones_are_the_same()
         ↔ (clone ≡ a) }
     ensures text { (a clone : TextResolver) → ⟦<TextResolver as Clone>⟧.is_clone a clone
         ↔ (clone ≡ a) }
+    ensures byte_string { (a clone : BytesResolver) → ⟦<BytesResolver as Clone>⟧.is_clone a clone
+        ↔ (clone ≡ a) }
     ensures infallible_range { (a : PartRange) → ⟦<PartRange as Clone>⟧.is_infallible a }
     ensures infallible_mismatch { (a : IteratorLengthMismatch)
         → ⟦<IteratorLengthMismatch as Clone>⟧.is_infallible a }
@@ -246,6 +248,7 @@ pub fn clones_are_the_same()
     ensures infallible_round_trip { (a : RoundTripError)
         → ⟦<RoundTripError as Clone>⟧.is_infallible a }
     ensures infallible_text { (a : TextResolver) → ⟦<TextResolver as Clone>⟧.is_infallible a }
+    ensures infallible_byte_string { (a : BytesResolver) → ⟦<BytesResolver as Clone>⟧.is_infallible a }
     ensures infallible_narrow { (a : Narrow) → ⟦<Narrow as Clone>⟧.is_infallible a }
     ensures infallible_wide { (a : Wide) → ⟦<Wide as Clone>⟧.is_infallible a }
 {}

@@ -8,7 +8,7 @@ use Rattle.std.proofs.lemmas.List.{length-map}
 use Rattle.std.proofs.lemmas.Option.{slice_get-map}
 use Rattle.rkyv_base.specs.declared.errors.WriteError.{WriteError}
 use Rattle.rkyv_base.specs.{ElementSpec, Format, Output, SerializeFails, Serialized, Step, end_of, written_as}
-use Rattle.rkyv_base.proofs.WritingSteps.{fails_under}
+use Rattle.rkyv_base.specs.Lemmas.Writing.{fails_under}
 use Rattle.rkyv_table.specs.{Above, AreInSlots, ArePlaced, BeforeBuckets, BucketNext, BucketOverflows, BucketStep, Filled, InBuckets, PairsNext, PartsNext, SlotImages, SlotParts, TableBytes, TableNext, TableParts, TableResolver, TableWritten, filled, hashes_of, items_of, table_format}
 use Rattle.rkyv_table.proofs.Lists.{option_map_some}
 

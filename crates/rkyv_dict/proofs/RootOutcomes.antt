@@ -9,7 +9,7 @@ use Rattle.rkyv_base.specs.declared.writer.NoMemory.{NoMemory}
 use Rattle.rkyv_base.specs.{Appended, Appends, ArchiveOf, ElementSpec, Format, IsElement, IsFormat, Output, RootNext, ToBytesFails, Within, end_of, fresh, load_factor, padding, zeros}
 use Rattle.rkyv_base.specs.{capacity as too_large}
 use Rattle.rkyv_base.proofs.RootWriting.{archive_made, root_align_fails, root_append_fails, root_overflow_fails, root_wrote}
-use Rattle.rkyv_base.proofs.WritingSteps.{fails_under}
+use Rattle.rkyv_base.specs.Lemmas.Writing.{fails_under}
 use Rattle.rkyv_table.specs.{HasCapacity, IsLoadFactor, capacity, listed}
 use Rattle.rkyv_dict.specs.{is_allocation_failure}
 use Rattle.rkyv_dict.proofs.WriteOutcomes.{CanResolve, CanSerialize, append_outcome, capacity_reported, distance_reported, factor_reported}

@@ -10,7 +10,7 @@ use Rattle.rkyv_base.specs.declared.errors.WriteError.TheVariants.{DistanceTooLa
 use Rattle.rkyv_base.specs.declared.writer.NoMemory.{NoMemory}
 use Rattle.rkyv_base.specs.Lemmas.Text.{by_archive_word}
 use Rattle.rkyv_base.specs.{Appended, Appends, ElementSpec, Format, IsArchiveWord, Output, Within, WriteFails, end_of, padding, zeros}
-use Rattle.rkyv_base.proofs.WritingSteps.{appends_after, fails_under, grows, none_appended, within_after}
+use Rattle.rkyv_base.specs.Lemmas.Writing.{appends_after, fails_under, grows, none_appended, within_after}
 use Rattle.rkyv_table.specs.{ArePlaced, BucketNext, PairsNext, PartsNext, SlotParts, TableBytes, TableNext, WroteBuckets, capacity, fresh_controls, header_bytes, resolved_capacity, resolver_of, table_format, tag, with_control}
 use Rattle.rkyv_table.proofs.BucketSteps.{BucketsWritten, bucket_fails, down_end, down_init, down_none, down_room, down_some, overflow_fails}
 use Rattle.rkyv_table.proofs.FirstFree.{first_of_all}

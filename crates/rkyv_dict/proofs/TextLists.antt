@@ -7,7 +7,7 @@ use Rattle.rkyv_scan.specs.{HasherCall}
 use Rattle.rkyv_base.specs.{Format, PairRepresents, RootNext, Step, TextReads, fresh, pair_format, text_format, written_as}
 use Rattle.rkyv_base.specs.declared.pairs.EntryResolver.{EntryResolver}
 use Rattle.rkyv_base.specs.declared.errors.WriteError.{WriteError}
-use Rattle.rkyv_base.proofs.WritingSteps.{fails_under}
+use Rattle.rkyv_base.specs.Lemmas.Writing.{fails_under}
 use Rattle.rkyv_keys.specs.{text_calls}
 use Rattle.rkyv_table.specs.{HasCapacity, ListFails, PairsNext, TableParts, TableResolver, capacity, home_positions}
 use Rattle.rkyv_table.proofs.Lists.{option_map_some}

@@ -13,7 +13,7 @@ use Rattle.rkyv_base.specs.declared.pairs.EntryResolver.{EntryResolver}
 use Rattle.rkyv_base.specs.declared.writer.NoMemory.{NoMemory}
 use Rattle.rkyv_base.specs.{AppendFails, Appended, ElementSpec, Encoding, Format, IsSmall, Only, Output, SerializeFails, Serialized, TextNext, end_of, inline_bytes, out_of_line_bytes, pair_bytes, pair_format, piece, scalar_format, text_format, text_limit, text_size, value_offset, whole_size, zeros}
 use Rattle.rkyv_base.proofs.PairWriting.{key_fails, pair_serialized, value_fails}
-use Rattle.rkyv_base.proofs.WritingSteps.{fails_under, none_appended}
+use Rattle.rkyv_base.specs.Lemmas.Writing.{fails_under, none_appended}
 use Rattle.rkyv_dict.specs.{is_allocation_failure}
 
 -- `fails o e`: a write fails with `e` and leaves the output `o`. The error isn't an allocation failure

@@ -5,7 +5,7 @@ use Rattle.std.specs.Int.{Width}
 use Rattle.std.specs.Iterator.{Drains, Yields, YieldsFirst}
 use Rattle.rkyv_base.specs.declared.errors.WriteError.{WriteError}
 use Rattle.rkyv_base.specs.{Appends, ElementSpec, Encoding, Format, Only, Output, SerializeFails, Serialized, Step, Within, WriteFails, end_of, padding, piece, scalar_format, zeros}
-use Rattle.rkyv_base.proofs.WritingSteps.{appends_after, end-appends, fails_after, fails_under, grows, within_after}
+use Rattle.rkyv_base.specs.Lemmas.Writing.{appends_after, end-appends, fails_after, fails_under, grows, within_after}
 use Rattle.rkyv_table.specs.{PairsNext, TableResolver, WriteItemsFails, WroteItems, YieldsOtherCount, table_format}
 use Rattle.rkyv_table.proofs.TableSteps.{piece_fails, zeros_behind}
 use Rattle.rkyv_index.specs.{BeforeRow, BeforeZeros, IndexNext, NoOther, OwnOrSerializeFails, RowNext, RowParts, RowPartsNext, WroteRow, indices_from, row_format}

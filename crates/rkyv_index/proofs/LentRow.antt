@@ -10,7 +10,7 @@ use Rattle.std.specs.Option.{option_map}
 use Rattle.rkyv_base.specs.declared.errors.WriteError.{WriteError}
 use Rattle.rkyv_base.specs.declared.adapter.EntryAdapter.{EntryAdapter}
 use Rattle.rkyv_base.specs.{ElementSpec, Encoding, Format, Output, SerializeFails, Serialized, Step, end_of, entry_spec, pair_format, pair_of, scalar_format, written_as}
-use Rattle.rkyv_base.proofs.WritingSteps.{fails_under}
+use Rattle.rkyv_base.specs.Lemmas.Writing.{fails_under}
 use Rattle.rkyv_table.specs.{HasCapacity, OwnCause, PairsNext, TableParts, TableResolver, WriteItemsFails, WroteItems, pair_values}
 use Rattle.rkyv_index.specs.{Before, BeforeRow, BeforeZeros, IndexNext, IndexParts, IndexResolver, NoOther, OwnOrSerializeFails, RowImages, RowNext, RowParts, RowPartsNext, index_format, indices_from, pairs_of, row_format}
 use Rattle.rkyv_table.proofs.Through.{own_counted}

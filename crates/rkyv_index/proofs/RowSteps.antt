@@ -7,7 +7,7 @@ use Rattle.std.proofs.lemmas.Option.{get_or_from_slice_get, slice_get_read, slic
 use Rattle.rkyv_base.specs.declared.errors.WriteError.{WriteError}
 use Rattle.rkyv_base.specs.declared.errors.WriteError.TheVariants.{DistanceTooLarge}
 use Rattle.rkyv_base.specs.{Appends, Format, Only, Output, Within, WriteFails, end_of, piece}
-use Rattle.rkyv_base.proofs.WritingSteps.{appends_after, end-appends, fails_after, grows}
+use Rattle.rkyv_base.specs.Lemmas.Writing.{appends_after, end-appends, fails_after, grows}
 use Rattle.rkyv_table.proofs.PartSteps.{part_last, part_longer}
 use Rattle.rkyv_index.specs.{Before, RowImages, RowNext, RowParts, RowPartsNext}
 

@@ -3,7 +3,7 @@ use Rattle.std.proofs.lemmas.Grind.{common_steps}
 use Rattle.std.proofs.lemmas.List.{length-take}
 use Rattle.std.proofs.lemmas.Option.{slice_get_read}
 use Rattle.std.proofs.lemmas.Result.{err_from_is_err_and}
-use Rattle.rkyv_base.proofs.WritingSteps.{appends_after, grows, within_after}
+use Rattle.rkyv_base.specs.Lemmas.Writing.{appends_after, grows, within_after}
 use Rattle.rkyv_index.proofs.RowSteps.{parts_count, step_fails, step_part}
 use Rattle.rkyv_index.proofs.map.write.row.serialize_row.Goals as goal
 
