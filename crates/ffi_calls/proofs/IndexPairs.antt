@@ -1,4 +1,4 @@
--- The items of an index map at their indices, and those of the list that it represents.
+-- The items of an index map at their indices, and the items of the list that it represents.
 use Rattle.std.proofs.Common.{◌≡◌, ◌∙◌, ℕ, ◌+◌, ◌-◌, ◌<◌, List, Some, ap, arith, drop, length, min, refl, slice_set}
 use Rattle.std.specs.Prelude.{slice_get}
 use Rattle.std.proofs.lemmas.Grind.{drop_more_same}
@@ -11,7 +11,7 @@ use Rattle.ffi_calls.specs.declared.any_value.AnyItem.{AnyItem}
 use Rattle.ffi_calls.specs.declared.any_value.AnyValue.{AnyValue}
 
 module _ (m : MapAt) (key value : List ℕ → ℕ → AnyValue → Type 0) where
-  -- the first `n` items of `now` are those from index `from` on, and the others are those of `before`
+  -- the first `n` items of `now` are the map's from index `from` on, and the others are as in `before`
   pub record Stored (from : ℕ) (before : List AnyItem) (n : ℕ) (now : List AnyItem) : Type 0 where
     pub same : length now ≡ length before
     pub items : (i : ℕ) (item : AnyItem) → i < n → slice_get now i ≡ Some item → IsIndexItem m key value (from + i) item
@@ -32,7 +32,7 @@ module _ (m : MapAt) (key value : List ℕ → ℕ → AnyValue → Type 0) wher
         rest = drop-set-lt (n + 1) now n item (omega arith) ∙ drop_more_same now before n s.rest;
       }
 
--- items that are read from an index on are those of the list that the map represents
+-- items that are read from an index on are the items of the list that the map represents
 module _ {A B : Type 0} (m : MapAt) (native : NativePairs A B) (key value : List ℕ → ℕ → AnyValue → Type 0) (is_key : AnyValue → A → Type 0) (is_value : AnyValue → B → Type 0)
     (keys : Agrees key native.key is_key) (values : Agrees value native.value is_value) where
   pub stores_listed : (from : ℕ) (before : List AnyItem) (count : ℕ) (after : List AnyItem) → StoresItemsFrom m key value from before count after

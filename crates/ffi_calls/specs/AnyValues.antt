@@ -7,23 +7,23 @@ use mir.Val.{bits}
 use Rattle.rkyv_base.specs.{Encoding, text_at, value_at}
 use Rattle.ffi_calls.specs.declared.any_value.AnyValue.{AnyValue}
 
--- the number is that of a value with the encoding
+-- a value with the encoding has the number
 abbrev pub IsCodeNumber : {N : Type 0} → Encoding N → ℕ → Type 0
 IsCodeNumber e number = (number < 2 ^ bits e.word) × e.IsCode number
 
--- the number is that of no value with the encoding
+-- no value with the encoding has the number
 abbrev pub IsNoCode : {N : Type 0} → Encoding N → ℕ → Type 0
 IsNoCode e number = IsCodeNumber e number → ⊥
 
--- the number is that of the value
+-- the value has the number
 abbrev pub HasCode : {N : Type 0} → Encoding N → ℕ → N → Type 0
 HasCode e number value = IsCodeNumber e number × (number ≡ e.code value)
 
--- the number of `any` is that of the value
+-- `any` has the number of the value
 abbrev pub HasNumber : {N : Type 0} → Encoding N → AnyValue → N → Type 0
 HasNumber e any value = any.number ≡ e.code value
 
--- the bytes of `any` are those of the text
+-- `any` has the bytes of the text
 abbrev pub IsTextFor : AnyValue → Bor (List ℕ) → Type 0
 IsTextFor any text = any.bytes.now ≡ text.now
 

@@ -29,7 +29,7 @@ key_type code = cond (code == 0x14) (Some key.U32) (cond (code == 0x18) (Some ke
     (cond (code == 0x04) (Some key.Text) None))
 
 -- the type of values with the code, or `None` if no collection of the kind has such values.
--- Those of sets are units only.
+-- The values of sets are units.
 abbrev pub value_type : ℕ → ℕ → Option ValueType
 value_type kind code = let unit = cond (code == 0x01) (Some value.Unit) None in
     cond (kind == 2) unit (cond (kind == 4) unit

@@ -116,7 +116,7 @@ module _ (m : MapAt) (key value : List ℕ → ℕ → AnyValue → Type 0) wher
         → IsIndexItem (from + i) item
     pub rest : drop count after ≡ drop count before
 
--- `result` is the item at index `i`, or `None` if the map has no such index.
+-- `result` is the item at index `i`, or `None` if the map has no index `i`.
 -- `IsItem i item`: `item` is the item at index `i`
 abbrev pub IsItemAtIndex : MapAt → (ℕ → AnyItem → Type 0) → ℕ → Option AnyItem → Type 0
 IsItemAtIndex m IsItem i result =

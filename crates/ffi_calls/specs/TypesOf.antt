@@ -1,4 +1,4 @@
--- The types of a collection: those of its keys and values, and its width.
+-- The types of a collection: of its keys, of its values and of its width.
 use Rattle.std.specs.Prelude.{◌≡◌, ℕ, Bool, List, false, nat_eq}
 use Rattle.std.specs.Borrow.{Bor}
 use Rattle.std.specs.Int.{Width, w32, w64}

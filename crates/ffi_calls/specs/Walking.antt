@@ -24,7 +24,7 @@ IsNextBucket m from result = MatchOption result (buckets_from m from ≡ [])
     × (item.pos ≡ bucket_pair_pos m item.bucket))
 
 module _ (m : MapAt) (key value : List ℕ → ℕ → AnyValue → Type 0) where
-  -- `item` is that of the bucket, and its `next` is behind the bucket. `key` and `value`: the
+  -- `item` is the bucket's item, and its `next` is behind the bucket. `key` and `value`: the
   -- stored key and the stored value at a position
   abbrev pub IsItemIn : ℕ → AnyItem → Type 0
   IsItemIn bucket item =
@@ -37,7 +37,7 @@ module _ (m : MapAt) (key value : List ℕ → ℕ → AnyValue → Type 0) wher
       (λ (item : AnyItem). (bucket : ℕ)
       × (buckets_from m from ≡ bucket ∷ buckets_from m (bucket + 1)) × IsItemIn bucket item)
 
-  -- each item is that of the bucket at its index
+  -- each item is the item of the bucket at its index
   abbrev pub AreItemsIn : List ℕ → List AnyItem → Type 0
   AreItemsIn [] items = items ≡ []
   AreItemsIn (bucket ∷ buckets) [] = ⊥

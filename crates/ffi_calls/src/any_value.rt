@@ -42,7 +42,7 @@ pub trait FromAny<P>: Copy {
     // The value in the form `P` is this one.
     ghost shows: { P → Self → Type 0 };
 
-    // There is no value of this type, and the status is that of the error.
+    // There is no value of this type, and the status is the error's.
     ghost is_none: { P → ℕ → Type 0 };
 
     /// Returns the value.
@@ -53,7 +53,7 @@ pub trait FromAny<P>: Copy {
 
 /// A scalar whose number has at most 64 bits.
 pub trait Number: Scalar {
-    /// Returns the value of a number, or `None` if the number is that of no value.
+    /// Returns the value of a number, or `None` if no value has the number.
     fn of_number(number: u64) -> Option<Self>
         ensures { MatchOption result (IsNoCode Self.encoding number)
             (HasCode Self.encoding number) };

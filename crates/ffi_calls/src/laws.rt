@@ -99,7 +99,7 @@ pub fn clones_are_the_same<'a>()
 
 /// States that pairs and indexed values are cloned by their parts.
 ///
-/// Cloning them fails only if that of a part does.
+/// Cloning them fails only if cloning a part does.
 pub fn pairs_are_cloned_by_their_parts<K: Clone, V: Clone>()
     ensures pair { (x clone : _) → ⟦<Pair<K, V> as Clone>⟧.is_clone x clone
         ↔ (V.is_clone x.value clone.value × K.is_clone x.key clone.key) }

@@ -1,7 +1,7 @@
 //! The types of collections, and the one place that leads from them to the types of elements.
 //!
 //! An `Operation` is generic over the types of keys and values, and over the width. `dispatch`
-//! calls it for those of a `Collection`.
+//! calls it for the types of a `Collection`.
 
 ghost use Rattle.std.specs.Prelude.{List};
 ghost use Rattle.ffi_calls.specs.Lemmas.AnyValues.{numbers_agree, texts_agree, units_agree};
@@ -18,7 +18,7 @@ use rkyv_keys::{KeyElement, NativeKey, ScalarKey};
 
 /// An element of keys, whose native type is `A`.
 pub trait StoredKey<A>: KeyElement + Represents<A> + ToAny {
-    // The stored value is that of a native key.
+    // The stored value is a native key's.
     ghost is_of: { AnyValue → A → Type 0 };
 
     ghost agrees: { Agrees Self.any Self.represents is_of };
@@ -38,7 +38,7 @@ impl<'a, W: Width> StoredKey<&'a str> for Text<W> {
 
 /// An element of values, whose native type is `B`.
 pub trait StoredValue<B>: Represents<B> + ToAny {
-    // The stored value is that of a native value.
+    // The stored value is a native value's.
     ghost is_of: { AnyValue → B → Type 0 };
 
     ghost agrees: { Agrees Self.any Self.represents is_of };

@@ -28,7 +28,7 @@ byte_string_at w b p = byte_string_of w (fixed_bytes w b p) b p
 abbrev pub ByteStringReads : Width → List ℕ → ℕ → List ℕ → Type 0
 ByteStringReads w b p t = byte_string_at w b p ≡ t
 
--- the byte string at position `p` is that of the value `q`
+-- the byte string at position `p` has the bytes of the value `q`
 abbrev pub IsByteStringOf : {Q : Type 0} → Width → (Q → List ℕ) → List ℕ → ℕ → Q → Type 0
 IsByteStringOf w as_value b p q = ByteStringReads w b p (as_value q)
 

@@ -85,7 +85,7 @@ pub fn texts_are_their_bytes<'t, W: Width>()
 
 /// States the layout of byte strings, and that `&[u8]` and `Vec<u8>` are archived as their bytes.
 ///
-/// Without a width, a byte string is that of a narrow archive.
+/// Without a width, a byte string is one of a narrow archive.
 pub fn byte_strings_are_their_bytes<'t, W: Width>()
     ensures spec { SameSpec ⟦<Bytes<W> as HasSpec>⟧.spec (byte_string_spec W.word) }
     ensures default { SameSpec ⟦<Bytes as HasSpec>⟧.spec (byte_string_spec w32) }
@@ -248,7 +248,8 @@ pub fn clones_are_the_same()
     ensures infallible_round_trip { (a : RoundTripError)
         → ⟦<RoundTripError as Clone>⟧.is_infallible a }
     ensures infallible_text { (a : TextResolver) → ⟦<TextResolver as Clone>⟧.is_infallible a }
-    ensures infallible_byte_string { (a : BytesResolver) → ⟦<BytesResolver as Clone>⟧.is_infallible a }
+    ensures infallible_byte_string { (a : BytesResolver)
+        → ⟦<BytesResolver as Clone>⟧.is_infallible a }
     ensures infallible_narrow { (a : Narrow) → ⟦<Narrow as Clone>⟧.is_infallible a }
     ensures infallible_wide { (a : Wide) → ⟦<Wide as Clone>⟧.is_infallible a }
 {}

@@ -53,7 +53,7 @@ module _ (k v : ElementSpec) (kl : IsElement k) (vl : IsElement v) where
             agree_on_part b c 0 valid.0 0 l (omega arith) (omega (arith, one, low.2)) (omega arith) (same.parts valid.0 e);
       }
 
-  -- a write of the value alone is one of the entry, and keeps the key
+  -- a write of only the value is one of the entry, and keeps the key
   module _ (b c : List ℕ) (q : ℕ) (view : Viewable S b q) (sealed : ModifiesOnly b (value_pos k v q) v.size c) (keeps : StaysValid v b c (value_pos k v q)) where
     pub entry_keeps : ModifiesOnly b q S.size c × StaysValid S b c q
     entry_keeps =

@@ -51,7 +51,7 @@ pub fn written_lists_represent<W: Width, U: Archive<W>, X: Lend<U>>()
 ///
 /// Each item is in its home bucket, and the walk visits these buckets and no others. With a range
 /// around the table, `look_over` never returns `Verify`. Its lookup finds the first accepted item,
-/// within the bound. The conditions on the comparison are those of `write_and_look_over`.
+/// within the bound. The comparison has the conditions of `write_and_look_over`.
 pub fn written_lists_are_found<
     W: Width,
     U: Archive<W>,

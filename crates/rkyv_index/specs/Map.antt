@@ -159,7 +159,7 @@ module _ {K V H W : Type 0} {ks : Specs K} {vs : Specs V} {wt : Words W} where
   ReadsWithinBound m before after =
       ReadsWithin (index_len m) (probe_capacity (index_cap m) / 16) before after
 
-  -- At most `limit` strides are counted and those of one more lookup, and `result` is `None` if
+  -- At most `limit` strides and one more lookup's are counted, and `result` is `None` if
   -- and only if more than `limit` are. `before`, `after`: counts of strides
   abbrev pub ReadsUpTo : ArchivedIndexMap K V H W ks vs wt → ℕ → ℕ → ℕ → Option ℕ → Type 0
   ReadsUpTo m limit before after result =

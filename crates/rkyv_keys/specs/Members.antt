@@ -1,4 +1,4 @@
--- The ghost members of bounds, as clauses name them: those of a hasher, of a key and of a query.
+-- The ghost members of bounds, as clauses name them: of a hasher, of a key and of a query.
 use Rattle.std.specs.Prelude.{ℕ, Bool, List}
 use Rattle.rkyv_scan.specs.{Hasher, HasherCall}
 use Rattle.rkyv_base.specs.{ElementSpec, IsElement}

@@ -1,4 +1,4 @@
--- The masks and groups of each kind, by what they hold.
+-- The marks of masks and the control bytes of groups, by their kind.
 use Rattle.std.specs.Prelude.{ℕ, Bool, List}
 use Rattle.rkyv_scan.specs.declared.simd.bytewise.Bitmask.{Bitmask as FlagMask}
 use Rattle.rkyv_scan.specs.declared.simd.bytewise.Group.{Group as ByteGroup}

@@ -19,7 +19,7 @@ pub cap_small : {T W : Type 0} {ts : Specs T} {wt : Words W} (t : ArchivedHashTa
 cap_small t = rw t.decoded.cap at t.decoded.small
 
 -- Lookups read strides until their number is above a limit. `left`: rest of the limit, `own`: strides
--- of one more lookup, of which `read` are counted
+-- of one more lookup, `read` of them counted
 module _ {limit left own read : ℕ} (within : left ≤ limit) (is : read ≡ own) (all rest : ℕ) (spent : all ≡ limit - left + own + rest) where
   -- the rest of the limit after the lookup, and the strides that all lookups read
   pub spent_on : read ≤ left → all ≡ limit - (left - read) + rest

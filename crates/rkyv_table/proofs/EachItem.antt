@@ -13,7 +13,7 @@ use Rattle.rkyv_table.proofs.SealedItems.{cursor_kept}
 abbrev pub positions_left : {T : Type 0} → Width → ElementSpec → ℕ → RawIterSeal T → List ℕ
 positions_left w s p r = map (item_at w s.size r.archive.now p) (cursor_buckets_left w p r)
 
--- a call with a seal of a valid value writes the value alone, and keeps it valid
+-- a call with a seal of a valid value writes only the value, and keeps it valid
 pub sealed_keeps : {F T : Type 0} (post : F → MutBor (Seal T) → Unit {0} → MutBor (Seal T) → Type 0) (s : ElementSpec) (write : F) (b c : List ℕ) (q : ℕ) → KeepsSeals post s write → Viewable s b q → SealedBy post write tt b q c
     → ModifiesOnly b q s.size c × StaysValid s b c q
 sealed_keeps {F} {T} post s write b c q keeps viewable by =

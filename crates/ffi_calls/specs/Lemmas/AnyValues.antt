@@ -1,4 +1,4 @@
--- Values of any type that are stored are those of the native values that the bytes represent.
+-- A stored value of any type is the native value that the bytes represent.
 use Rattle.std.proofs.Common.{◌∙◌, ap}
 use Rattle.std.specs.Int.{Width}
 use Rattle.rkyv_base.specs.{Encoding, ScalarRepresents, unit_represents}

@@ -15,19 +15,19 @@ use Rattle.rkyv_keys.specs.{DeserializeErrors, DeserializeMembers, entry_deseria
 use Rattle.rkyv_table.specs.{item_positions, len_at}
 use Rattle.rkyv_collections.specs.declared.std_maps.hashed.Hashed.{Hashed}
 
--- the map or set of std inside the wrapper
+-- std's map or set inside the wrapper
 abbrev pub inner : {M H : Type 0} → Hashed M H → M
 inner hashed = hashed.map
 
--- the entries of the map of std inside the wrapper
+-- the entries of the wrapped std map
 abbrev pub inner_entries : {A B S H : Type 0} → Hashed (HashMap A B S) H → List (A × B)
 inner_entries hashed = hashed.map.entries
 
--- the keys of the set of std inside the wrapper
+-- the keys of the wrapped std set
 abbrev pub inner_keys : {A S H : Type 0} → Hashed (HashSet A S) H → List A
 inner_keys hashed = hashed.map.keys
 
--- the wrapper with another map or set of std inside
+-- the wrapper with another std map or set inside
 abbrev pub with_inner : {M H : Type 0} → Hashed M H → M → Hashed M H
 with_inner hashed map = record { map = map; hasher = hashed.hasher }
 

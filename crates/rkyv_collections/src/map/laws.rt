@@ -2,7 +2,7 @@
 //!
 //! - This module has laws of equality, lookups, walks and clones.
 //! - `written` is about the bytes of written maps, and `list_archives` about root maps.
-//! - `in_place` is about writes of one value, `each` about those of all values.
+//! - `in_place` is about writes of one value, `each` about writes of all values.
 //! - `nested` is about maps that are values of maps.
 ghost use Rattle.std.specs.Int.{w32};
 ghost use Rattle.std.specs.Prelude.{◌↔◌, ◌≡◌};

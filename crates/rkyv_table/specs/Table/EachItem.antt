@@ -15,20 +15,20 @@ abbrev pub MaySealAny : {F T : Type 0} → (F → MutBor (Seal T) → Type 0) �
 MaySealAny {F} {T} pre s write = (x : MutBor (Seal T)) → LiesIn s x.now
     → Viewable s (bytes_in x.now) (seal_pos x.now) → pre write x
 
--- the seal `y` is the seal `x` after a write of its value alone that keeps the value valid
+-- the seal `y` is the seal `x` after a write of only its value that keeps the value valid
 pub record KeepsSeal {T : Type 0} (s : ElementSpec) (x y : Seal T) : Type 0 where
   pub stays : SealStays x y
   pub sealed : ModifiesOnly (bytes_in x) (seal_pos x) s.size (bytes_in y)
   pub is_valid : StaysValid s (bytes_in x) (bytes_in y) (seal_pos x)
 
--- a call of `write` with a seal of a valid value writes the value alone, and keeps it valid
+-- a call of `write` with a seal of a valid value writes only the value, and keeps it valid
 abbrev pub KeepsSeals : {F T : Type 0} → (F → MutBor (Seal T) → Unit {0} → MutBor (Seal T) → Type 0)
     → ElementSpec → F → Type 0
 KeepsSeals {F} {T} post s write = (x y : MutBor (Seal T)) → LiesIn s x.now
     → Viewable s (bytes_in x.now) (seal_pos x.now) → post write x tt y → KeepsSeal s x.now y.now
 
--- `write` can be called with a seal of each valid value of any bytes. Each such call writes
--- the value alone, and keeps it valid
+-- `write` can be called with a seal of each valid value of any bytes. Each of these calls
+-- writes only the value, and keeps it valid
 pub record WritesValues {F T : Type 0} (pre : F → MutBor (Seal T) → Type 0)
     (post : F → MutBor (Seal T) → Unit {0} → MutBor (Seal T) → Type 0) (s : ElementSpec)
     (write : F) : Type 0 where

@@ -117,7 +117,7 @@ module _ {T W : Type 0} {ts : Specs T} {wt : Words W} where
       (after ≤ count_after before (table_strides generic_kind t hash_of same))
       (λ n. after ≡ count_after before (table_strides generic_kind t hash_of same))
 
-  -- For any two functions: at most `limit` strides are counted and those of one more lookup, and
+  -- For any two functions: at most `limit` strides and one more lookup's are counted, and
   -- `result` is `None` if and only if more than `limit` are. `before`, `after`: counts of strides
   abbrev pub ReadsUpTo : ArchivedHashTable T W ts wt → ℕ → ℕ → ℕ → Option ℕ → Type 0
   ReadsUpTo t limit before after result =

@@ -1,7 +1,7 @@
 //! Laws of tables, over their definitions alone.
 //!
 //! - `written` is about the bytes of written tables, `misplaced` about misplaced items.
-//! - `in_place` is about writes of one item in place, `each` about those of each item.
+//! - `in_place` is about writes of one item in place, `each` about writes of each item.
 //! - `in_bytes` is about lookups in a table's bytes.
 ghost use Rattle.std.specs.Int.{w32};
 ghost use Rattle.std.specs.Iterator.{YieldsFirstBy, at_most};
@@ -103,7 +103,7 @@ pub fn tables_are_laid_out<W: Width, T: Element>()
     ensures default { SameSpec ⟦<TableOf<T> as HasSpec>⟧.spec (table_spec w32 T.spec) }
 {}
 
-/// States that without a width, a table and a resolver are those of a narrow archive.
+/// States that without a width, a table and a resolver are of a narrow archive.
 ///
 /// The table is valid in the narrow width, and its capacity is below 2^32.
 pub fn tables_are_narrow<'a, T: Element>(table: ArchivedHashTable<'a, T>, r: &HashTableResolver)

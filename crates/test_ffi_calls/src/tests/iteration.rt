@@ -20,7 +20,7 @@ use ffi_calls::laws;
 use rkyv_base::Narrow;
 use std::process::Abort;
 
-// The parts of an item: its `next`, the number and the bytes of its key, and those of its value.
+// The parts of an item: its `next`, number and bytes of the key, number and bytes of the value.
 type Parts<'a> = (u64, u64, &'a [u8], u64, &'a [u8]);
 
 // An item that no call stores.

@@ -69,10 +69,10 @@ pub fn cursors_keep_bytes<T: Element, W: Width>(archive: &mut [u8], pos: u64, st
     }
 }
 
-/// States that a write of one item in place replaces it in a list of items that lend values.
+/// States that a write of one item in place replaces it in a list of items that are borrowed.
 ///
-/// The conditions are those of `items_written_represent`. The written bytes must represent the
-/// value that the new item lends.
+/// It has the conditions of `items_written_represent`. The written bytes must represent the
+/// value that is borrowed from the new item.
 pub fn lent_items_written_represent<W: Width, U: Archive<W>, X: Lend<U>>()
     ensures { ItemsWrittenRepresent W.word U.Archived.spec
         (RepresentsAs X.lent U.Archived.represents) }
