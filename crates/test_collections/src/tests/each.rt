@@ -1,6 +1,7 @@
 //! Tests of the call that writes all values of a map by a closure.
+ghost use Rattle.std.specs.Int.{w32};
 ghost use Rattle.std.specs.Prelude.{IfOk};
-ghost use Rattle.rkyv_base.specs.{LiesIn, Viewable};
+ghost use Rattle.rkyv_base.specs.{LiesIn, Viewable, text_spec};
 ghost use Rattle.rkyv_table.specs.{KeepsSeal};
 ghost use Rattle.rkyv_collections.specs.{map_spec};
 
@@ -92,7 +93,10 @@ fn uppercase_each(bytes: &mut [u8]) -> Result<(), VerifyError> {
     ArchivedHashMap::<Text, Text, FxHasher64, Narrow>::for_each_value(
         bytes,
         root,
-        |value: &mut Seal<'_, Text>| {
+        |value: &mut Seal<'_, Text>|
+            requires { LiesIn (text_spec w32) value.old }
+            ensures { KeepsSeal (text_spec w32) value.old value.new }
+        {
             let _is_inline = value.make_ascii_uppercase();
         },
     );
