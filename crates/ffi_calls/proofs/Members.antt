@@ -1,5 +1,5 @@
 -- Lookups in sets, as lookups in maps to the unit value.
-use Rattle.std.proofs.Common.{◌≡◌, ℕ, Bool, List, [], ◌∷◌, None, Option, Some, cond, false, refl, true}
+use Rattle.std.proofs.Common.{◌≡◌, ℕ, Bool, List, [], ◌∷◌, None, Option, Some, ap, cond, false, map, refl, true}
 use Rattle.std.specs.List.{find}
 use Rattle.std.specs.Option.{option_map}
 use Rattle.std.specs.Prelude.{MatchOption}
@@ -28,3 +28,8 @@ module _ {B : Type 0} (At : ℕ → B → Type 0) where
   pub missing_status : (o : Option B) (target : Option ℕ) → target ≡ None → MatchOption o (target ≡ None) (λ x. (q : ℕ) × (target ≡ Some q) × At q x) → IsFoundStatus o 1
   missing_status None target none h = refl
   missing_status (Some x) target none h = absurd (let wrong = h.1 in cc)
+
+-- pairs with the unit value are those of their keys
+pub with_units_of_keys : {A : Type 0} (pairs : List (A × Unit {0})) → with_units (map (λ (pair : A × Unit {0}). pair.0) pairs) ≡ pairs
+with_units_of_keys [] = refl
+with_units_of_keys (x ∷ xs) = ap (λ pairs. x ∷ pairs) (with_units_of_keys xs)

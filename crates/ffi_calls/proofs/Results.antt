@@ -1,12 +1,7 @@
--- Results whose error is another's, and the error of `ok_or`.
-use Rattle.std.proofs.Common.{◌≡◌, ℕ, Err, MatchResult, None, Ok, Option, Result, Some, ok_or, subst, sym}
+-- Results whose error is another's.
+use Rattle.std.proofs.Common.{◌≡◌, ℕ, Err, MatchResult, Ok, Result, subst, sym}
 use Rattle.rkyv_base.specs.declared.errors.WriteError.{WriteError}
 use Rattle.ffi_calls.specs.{write_status}
-
--- the error of `ok_or`
-pub error_of : {T E : Type 0} (o : Option T) (error e : E) → Err e ≡ ok_or o error → e ≡ error
-error_of None error e is = cc
-error_of (Some x) error e is = absurd cc
 
 -- a result with the status of an error in place of the error
 pub status_of : {T F : Type 0} (archive : Result T (WriteError F)) (result : Result T ℕ) {Writes Goal : T → Type 0} {Fails : WriteError F → Type 0} (GoalFails : ℕ → Type 0)

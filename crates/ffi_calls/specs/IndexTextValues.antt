@@ -1,30 +1,19 @@
--- Index maps to texts: their archives, lookups, the pairs from an index on, and their write.
-use Rattle.std.specs.Prelude.{◌≡◌, ℕ, ◌⊎◌, Bool, List, MatchResult, Option, Result}
+-- Index maps to texts: their archives, lookups, and the pairs from an index on.
+use Rattle.std.specs.Prelude.{◌≡◌, ℕ, ◌⊎◌, Bool, List, Option}
 use Rattle.std.specs.Borrow.{Bor}
 use Rattle.std.specs.Str.{IsUtf8}
-use Rattle.std.specs.declared.vec.Vec.{Vec}
-use Rattle.rkyv_base.specs.{ElementSpec, IsValidArchive, scalar_spec, text_at}
-use Rattle.rkyv_base.specs.{unsigned}
-use Rattle.rkyv_base.specs.declared.errors.WriteError.{WriteError}
-use Rattle.rkyv_base.specs.declared.writer.NoMemory.{NoMemory}
-use Rattle.rkyv_keys.specs.{NativePairs, PairFormat, one_call, same_bytes, scalar_fits, text_calls}
+use Rattle.rkyv_base.specs.{ElementSpec, IsValidArchive, text_at}
+use Rattle.rkyv_keys.specs.{one_call, same_bytes, scalar_fits, text_calls}
 use Rattle.rkyv_collections.specs.{MapAt, ValueQuery}
-use Rattle.rkyv_index.specs.{indices}
 use Rattle.ffi_calls.specs.Archives.{limit_of, word_of}
 use Rattle.ffi_calls.specs.IndexArchives.{ReturnsIndexed, found_index, index_in}
 use Rattle.ffi_calls.specs.IndexArchives.{index_map}
-use Rattle.ffi_calls.specs.IndexItems.{IndexFails, IndexWidth, IsIndexOf}
 use Rattle.ffi_calls.specs.IndexLists.{ReturnsFirstIndexed}
 use Rattle.ffi_calls.specs.Keys.{NumberKey, NumberKeysAt}
 use Rattle.ffi_calls.specs.Listed.{TextRepresents, query_of_number, query_of_text}
 use Rattle.ffi_calls.specs.Reading.{HasBytesOf, ReadsText}
-use Rattle.ffi_calls.specs.Status.{write_status}
-use Rattle.ffi_calls.specs.TextItems.{AreNumberTexts, AreTextTexts, NumberTextsFail, TextTextsFail}
-use Rattle.ffi_calls.specs.TextItems.{number_texts_format, number_texts_natives, text_texts_format}
-use Rattle.ffi_calls.specs.TextItems.{text_texts_natives, width_by}
 use Rattle.ffi_calls.specs.TextValues.{text_by}
 use Rattle.ffi_calls.specs.declared.pairs.Indexed.{Indexed}
-use Rattle.ffi_calls.specs.declared.pairs.Pair.{Pair}
 
 -- the result of a lookup whose index and text replace `before`. `at`: the index that is found
 abbrev pub ReturnsIndexedTextAt : Bool → MapAt → Option ℕ → Indexed (Bor (List ℕ)) → ℕ
@@ -99,71 +88,3 @@ module _ (wide : Bool) where
       → Indexed (Bor (List ℕ)) → Type 0
   ReturnsFirstIndexedTextOfText b key =
       ReturnsFirstIndexedTextAt wide (text_text_index_in b) (query_of_text (word_of wide) key)
-
--- the results of a write as an index map. `ArePairs`: pairs of the items, `Fails`: status of items
--- without pairs
-module _ {I A B P R Q : Type 0} (ArePairs : List I → List (A × B) → Type 0) (Fails : List I → ℕ
-    → Type 0) (width : IndexWidth P) (format : PairFormat A B R Q) where
-  -- `b` is the archive of the pairs of the items as an index map
-  abbrev pub IndexWriteOk : NativePairs A B → List I → List ℕ → Type 0
-  IndexWriteOk native items b = (pairs : List (A × B)) × ArePairs items pairs
-      × IsIndexOf width format native pairs b
-
-  -- `status` is that of items without pairs, or of the error of the write of their pairs
-  abbrev pub IndexWriteFails : List I → ℕ → Type 0
-  IndexWriteFails items status = Fails items status
-      ⊎ ((pairs : List (A × B)) × (error : WriteError NoMemory) × ArePairs items pairs
-      × IndexFails width format pairs error × (status ≡ write_status error))
-
-module _ {A P : Type 0} (k : NumberKey A) (width : IndexWidth P) where
-  -- a list of bytes is the archive of the pairs of numbers and texts as an index map
-  abbrev pub NumberTextIndexWriteOk : List (Pair A (Bor (List ℕ))) → List ℕ → Type 0
-  NumberTextIndexWriteOk = IndexWriteOk AreNumberTexts NumberTextsFail width
-      (number_texts_format k width.archive) (number_texts_natives k width.archive)
-
-  -- a status is the error of the write of the pairs of numbers and texts as an index map
-  abbrev pub NumberTextIndexWriteFails : List (Pair A (Bor (List ℕ))) → ℕ → Type 0
-  NumberTextIndexWriteFails =
-      IndexWriteFails AreNumberTexts NumberTextsFail width (number_texts_format k width.archive)
-
--- the result of the write of the pairs of the items: the archive, or the status of an error
-abbrev pub WritesNumberTextIndex : {A P Z : Type 0} → NumberKey A → IndexWidth P
-    → List (Pair A (Bor (List ℕ))) → Result (Vec ℕ Z) ℕ → Type 0
-WritesNumberTextIndex k width items result =
-    MatchResult result (λ a. NumberTextIndexWriteOk k width items a.items)
-    (NumberTextIndexWriteFails k width items)
-
-module _ {P : Type 0} (width : IndexWidth P) where
-  -- a list of bytes is the archive of the pairs of texts as an index map
-  abbrev pub TextTextIndexWriteOk : List (Pair (Bor (List ℕ)) (Bor (List ℕ))) → List ℕ → Type 0
-  TextTextIndexWriteOk =
-      IndexWriteOk AreTextTexts TextTextsFail width (text_texts_format width.archive)
-      (text_texts_natives width.archive)
-
-  -- a status is the error of the write of the pairs of texts as an index map
-  abbrev pub TextTextIndexWriteFails : List (Pair (Bor (List ℕ)) (Bor (List ℕ))) → ℕ → Type 0
-  TextTextIndexWriteFails =
-      IndexWriteFails AreTextTexts TextTextsFail width (text_texts_format width.archive)
-
--- the width of an archive of an index map, narrow or wide
-abbrev pub index_width_by : Bool → IndexWidth ℕ
-index_width_by wide = let e = unsigned (word_of wide) in
-    record { archive = width_by wide; indices = indices (scalar_spec e) e }
-
--- a list of bytes is the archive of the pairs of numbers and texts as an index map, narrow or wide
-abbrev pub IsIndexOfNumberTexts : {A : Type 0} → NumberKey A → Bool
-    → List (Pair A (Bor (List ℕ))) → List ℕ → Type 0
-IsIndexOfNumberTexts k wide = NumberTextIndexWriteOk k (index_width_by wide)
-
--- a status is the error of the write of such an index map
-abbrev pub IndexOfNumberTextsFails : {A : Type 0} → NumberKey A → Bool
-    → List (Pair A (Bor (List ℕ))) → ℕ → Type 0
-IndexOfNumberTextsFails k wide = NumberTextIndexWriteFails k (index_width_by wide)
-
--- a list of bytes is the archive of the pairs of texts as an index map, narrow or wide
-abbrev pub IsIndexOfTextTexts : Bool → List (Pair (Bor (List ℕ)) (Bor (List ℕ))) → List ℕ → Type 0
-IsIndexOfTextTexts wide = TextTextIndexWriteOk (index_width_by wide)
-
--- a status is the error of the write of such an index map
-abbrev pub IndexOfTextTextsFails : Bool → List (Pair (Bor (List ℕ)) (Bor (List ℕ))) → ℕ → Type 0
-IndexOfTextTextsFails wide = TextTextIndexWriteFails (index_width_by wide)

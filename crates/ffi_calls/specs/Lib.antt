@@ -5,15 +5,12 @@ pub mod Keys
 pub mod Archives
 pub mod Lists
 pub mod Listed
-pub mod Items
 pub mod Walking
 pub mod Calls
 pub mod TextValues
-pub mod TextItems
 pub mod Containers
 pub mod Explanation
 pub mod Sets
-pub mod SetItems
 pub mod IndexArchives
 pub mod IndexLists
 pub mod IndexItems
@@ -23,6 +20,7 @@ pub mod TypesOf
 pub mod Iteration
 pub mod IndexTextValues
 pub mod Collections
+pub mod Building
 pub mod Misplaced
 pub mod Lemmas
 unfoldable pub use Status.{container_status, verify_status, write_status}
@@ -35,19 +33,12 @@ unfoldable pub use Archives.{map_in, most_of, number_map, numbers_in, text_key, 
 unfoldable pub use Archives.{value_encoding, value_found, value_spec, word_of}
 unfoldable pub use Lists.{ArchiveFails, ArchivesRepresent, IsArchiveOf, IsWritten, PairsRepresent}
 unfoldable pub use Lists.{PosOfFirst, ReturnsFirst, SetsFirstOf, SetsFirstPair, WalksVisitListed}
-unfoldable pub use Lists.{archive_width, format_of, fx_pairs, header_spec, natives, pairs_format}
-unfoldable pub use Lists.{query_of_key, query_pairs}
+unfoldable pub use Lists.{archive_width, fx_hash_at, fx_pairs, header_spec, pairs_format}
+unfoldable pub use Lists.{query_of_key, query_pairs, width_by}
 pub use Lists.{ArchiveWidth}
 unfoldable pub use Listed.{FindsFirst, ReturnsFirstNumber, ReturnsFirstText, SetsFirstNumber}
-unfoldable pub use Listed.{SetsFirstText, TextRepresents, number_natives, query_of_number}
-unfoldable pub use Listed.{query_of_text, text_natives}
+unfoldable pub use Listed.{SetsFirstText, TextRepresents, query_of_number, query_of_text}
 pub use Listed.{OverwritesText}
-unfoldable pub use Items.{ArchiveOfNumbersFails, ArchiveOfTextsFails, ArePairsOfNumbers}
-unfoldable pub use Items.{ArePairsOfTexts, FirstUnfit, IsArchiveOfNumbers, IsArchiveOfTextPairs}
-unfoldable pub use Items.{IsArchiveOfTexts, NumberFits, NumbersWriteFails, NumbersWriteOk, Outputs}
-unfoldable pub use Items.{PairsOfNumbersFail, PairsOfTextsFail, TextFits, TextItemFails}
-unfoldable pub use Items.{TextPairsFail, TextsWriteFails, TextsWriteOk, WritesNumbers, number_pair}
-unfoldable pub use Items.{numbers_format, text_number_model, text_pair, width_of}
 unfoldable pub use Walking.{AreItemsIn, FindsNextItem, IsItemIn, IsNextBucket, StoresNextItems}
 unfoldable pub use Walking.{bucket_pair_pos, buckets_from}
 unfoldable pub use Calls.{ReturnsNumber, ReturnsText, SetsNumber, SetsText, number_found}
@@ -57,14 +48,6 @@ unfoldable pub use TextValues.{ReturnsFirstTextOfText, ReturnsFirstTextValue, Re
 unfoldable pub use TextValues.{ReturnsTextOfNumber, ReturnsTextOfText, number_text_map}
 unfoldable pub use TextValues.{number_texts_in, text_by, text_of_text_found, text_text_map}
 unfoldable pub use TextValues.{text_texts_in, to_texts_in}
-unfoldable pub use TextItems.{ArchiveOfNumberTextsFails, ArchiveOfTextTextsFails, AreNumberTexts}
-unfoldable pub use TextItems.{ArePairsOf, AreTextTexts, IsArchiveOfNumberTexts}
-unfoldable pub use TextItems.{IsArchiveOfTextTexts, ItemsWriteFails, ItemsWriteOk, NumberTextFits}
-unfoldable pub use TextItems.{NumberTextsFail, NumberTextsWriteFails, NumberTextsWriteOk, PairsFail}
-unfoldable pub use TextItems.{TextTextFits, TextTextsFail, TextTextsWriteFails, TextTextsWriteOk}
-unfoldable pub use TextItems.{bytes_format, number_text_image, number_text_model}
-unfoldable pub use TextItems.{number_texts_format, number_texts_natives, text_text_image}
-unfoldable pub use TextItems.{text_text_model, text_texts_format, text_texts_natives, width_by}
 unfoldable pub use Containers.{AreUnknown, HasCodes, IsWrittenAs, MatchCodes, OpensAs}
 unfoldable pub use Containers.{OpensContainer, OpensOwn, OpensOwnCodes, ReadsWidth}
 unfoldable pub use Containers.{UpdatesContainer, WritesContainerHeader, codes_of}
@@ -75,12 +58,6 @@ pub use Explanation.{Explains}
 unfoldable pub use Sets.{FindsItem, FindsListedNumber, FindsListedText, FindsNumber, FindsText}
 unfoldable pub use Sets.{IsFoundStatus, IsNumberSet, IsTextSet, member_found, number_set}
 unfoldable pub use Sets.{number_set_in, set_in, text_set, text_set_in}
-unfoldable pub use SetItems.{ArchiveOfNumberSetFails, ArchiveOfTextSetFails, AreSetTexts}
-unfoldable pub use SetItems.{IsArchiveOfNumberSet, IsArchiveOfTextSet, IsSetArchive}
-unfoldable pub use SetItems.{NumberSetWriteFails, NumberSetWriteOk, SetArchiveFails}
-unfoldable pub use SetItems.{SetArchivesRepresent, SetTextFits, SetTextsFail, TextSetWriteFails}
-unfoldable pub use SetItems.{TextSetWriteOk, fx_hash_at, items_format, number_items, set_text_image}
-unfoldable pub use SetItems.{set_text_model, text_items}
 unfoldable pub use IndexArchives.{IsIndexArchive, IsIndexItem, IsItemAtIndex, IsNumberIndex}
 unfoldable pub use IndexArchives.{IsTextIndex, ReturnsIndexed, ReturnsIndexedBytes}
 unfoldable pub use IndexArchives.{ReturnsIndexedNumber, ReturnsIndexedText, found_index, index_at}
@@ -90,11 +67,8 @@ unfoldable pub use IndexArchives.{text_index_found, text_index_in, value_pos_at}
 pub use IndexArchives.{StoresItemsFrom}
 unfoldable pub use IndexLists.{HasValueAt, IndexRepresentsPairs, ReturnsFirstIndexed}
 unfoldable pub use IndexLists.{ReturnsFirstIndexedNumber, ReturnsFirstIndexedText, StoresListed}
-unfoldable pub use IndexItems.{IndexFails, IndexOfNumbersFails, IndexOfTextsFails, IndexesRepresent}
-unfoldable pub use IndexItems.{IsIndexOf, IsIndexOfNumbers, IsIndexOfTexts, NumberIndexWriteFails}
-unfoldable pub use IndexItems.{NumberIndexWriteOk, TextIndexWriteFails, TextIndexWriteOk}
-unfoldable pub use IndexItems.{WritesNumberIndex, WritesTextIndex, index_header_spec}
-unfoldable pub use IndexItems.{index_pairs_format, index_width, index_width_of}
+unfoldable pub use IndexItems.{IndexFails, IndexesRepresent, IsIndexOf, index_header_spec}
+unfoldable pub use IndexItems.{index_pairs_format, index_width, index_width_by}
 pub use IndexItems.{IndexWidth}
 unfoldable pub use IndexInPlace.{SetsFirstIndexed, SetsFirstIndexedNumber, SetsFirstIndexedText}
 unfoldable pub use IndexInPlace.{SetsIndexedBytes, SetsIndexedNumber, SetsIndexedText}
@@ -110,20 +84,21 @@ pub use TypesOf.{KeyTypes, Types, ValueTypes}
 unfoldable pub use Iteration.{IsArchiveOfTypes, StoresItems, StoresItemsByCodes, StoresItemsIn}
 unfoldable pub use Iteration.{types_in, types_spec}
 pub use Iteration.{CanIterate, StoresFromIndex}
-unfoldable pub use IndexTextValues.{IndexOfNumberTextsFails, IndexOfTextTextsFails, IndexWriteFails}
-unfoldable pub use IndexTextValues.{IndexWriteOk, IsIndexOfNumberTexts, IsIndexOfTextTexts}
-unfoldable pub use IndexTextValues.{IsNumberTextIndex, IsTextTextIndex, NumberTextIndexWriteFails}
-unfoldable pub use IndexTextValues.{NumberTextIndexWriteOk, ReturnsFirstIndexedTextAt}
+unfoldable pub use IndexTextValues.{IsNumberTextIndex, IsTextTextIndex, ReturnsFirstIndexedTextAt}
 unfoldable pub use IndexTextValues.{ReturnsFirstIndexedTextOfNumber, ReturnsFirstIndexedTextOfText}
 unfoldable pub use IndexTextValues.{ReturnsIndexedTextAt, ReturnsIndexedTextOfBytes}
 unfoldable pub use IndexTextValues.{ReturnsIndexedTextOfNumber, ReturnsIndexedTextOfText}
-unfoldable pub use IndexTextValues.{TextTextIndexWriteFails, TextTextIndexWriteOk}
-unfoldable pub use IndexTextValues.{WritesNumberTextIndex, index_width_by, number_text_index}
-unfoldable pub use IndexTextValues.{number_text_index_in, text_text_index, text_text_index_in}
+unfoldable pub use IndexTextValues.{number_text_index, number_text_index_in, text_text_index}
+unfoldable pub use IndexTextValues.{text_text_index_in}
 unfoldable pub use Collections.{ExplainsByCodes, IsHeaderByCodes, IsValidByCodes, OpensByCodes}
 unfoldable pub use Collections.{collection_by, collection_in, collection_of, collection_spec}
 unfoldable pub use Collections.{index_flag, key_type, key_type_spec, root_in, root_spec, value_type}
 unfoldable pub use Collections.{value_type_spec, wide_flag}
+unfoldable pub use Building.{ArchiveOfItemsFails, ArchiveOfPairsFails, ArePairsOf, BuildsByCodes}
+unfoldable pub use Building.{CanBuild, FirstUnfit, HasNoPair, HasPair, IsArchiveOfItems}
+unfoldable pub use Building.{IsArchiveOfPairs, IsPairOf, Outputs, PairsFail, SetArchivesRepresent}
+unfoldable pub use Building.{WritesArchive, WritesItems, taken_keys, taken_values, types_format}
+unfoldable pub use Building.{types_natives}
 unfoldable pub use Misplaced.{CountsIn, CountsMisplaced, StoresMisplaced, index_with_keys}
 unfoldable pub use Misplaced.{key_type_calls, key_type_same, misplaced_in, misplaced_of}
 unfoldable pub use Misplaced.{number_calls, number_same, strides_in, strides_of}

@@ -3,13 +3,13 @@ use Rattle.std.specs.Prelude.{ℕ, List}
 use Rattle.std.specs.Borrow.{Bor}
 use Rattle.std.specs.Int.{Width}
 use Rattle.rkyv_base.specs.{Encoding, IsTextOf, ScalarRepresents}
-use Rattle.rkyv_keys.specs.{NativePairs, same_bytes, scalar_calls, text_key_calls}
+use Rattle.rkyv_keys.specs.{same_bytes, scalar_calls, text_key_calls}
 use Rattle.rkyv_collections.specs.{MapAt, ValueQuery}
 use Rattle.ffi_calls.specs.Archives.{IsTextArchive, KeepsHeader, Overwrites, numbers_in, texts_in}
 use Rattle.ffi_calls.specs.Archives.{value_encoding, word_of}
 use Rattle.ffi_calls.specs.Calls.{text_found}
 use Rattle.ffi_calls.specs.Keys.{NumberKey, NumbersAt}
-use Rattle.ffi_calls.specs.Lists.{ReturnsFirst, SetsFirstOf, natives, query_of_key}
+use Rattle.ffi_calls.specs.Lists.{ReturnsFirst, SetsFirstOf, query_of_key}
 use Rattle.ffi_calls.specs.Reading.{IsNumberOf}
 use Rattle.ffi_calls.specs.declared.form.Form.{Form}
 
@@ -18,18 +18,9 @@ abbrev pub query_of_number : {A : Type 0} → NumberKey A → A → ValueQuery A
 query_of_number k key =
     query_of_key (ScalarRepresents k.encoding) (scalar_calls k.encoding k.call) (k.eq key)
 
--- the pairs of numbers that a map represents, by the encoding of its values
-abbrev pub number_natives : {A N : Type 0} → NumberKey A → Encoding N → NativePairs A N
-number_natives k e = natives (ScalarRepresents k.encoding) (scalar_calls k.encoding k.call) e
-
 -- the text at a position is equal to the given one
 abbrev pub TextRepresents : Width → List ℕ → ℕ → Bor (List ℕ) → Type 0
 TextRepresents w = IsTextOf w (λ text. text.now)
-
--- the pairs of texts and numbers that a map in an archive of the word represents, by the encoding
--- of its values
-abbrev pub text_natives : {N : Type 0} → Width → Encoding N → NativePairs (Bor (List ℕ)) N
-text_natives w e = natives (TextRepresents w) (text_key_calls w) e
 
 -- the lookup of the text `key`
 abbrev pub query_of_text : Width → List ℕ → ValueQuery (Bor (List ℕ))

@@ -4,15 +4,15 @@ use Rattle.std.specs.Prelude.{Option, Some}
 use Rattle.std.specs.Int.{Width}
 use mir.Val.{bits}
 use Rattle.rkyv_base.specs.{ArchiveOf, ElementSpec, Encoding, Format, IsValidArchive}
-use Rattle.rkyv_base.specs.{ScalarRepresents, ToBytesFails, WidthMembers, scalar_format}
-use Rattle.rkyv_scan.specs.{HasherCall, fx_hasher, low_halves}
+use Rattle.rkyv_base.specs.{ScalarRepresents, ToBytesFails, WidthMembers}
+use Rattle.rkyv_scan.specs.{HasherCall, fx_hasher, hash_of_calls, low_halves}
 use Rattle.rkyv_base.specs.declared.errors.WriteError.{WriteError}
 use Rattle.rkyv_table.specs.{TableResolver}
 use Rattle.rkyv_collections.specs.{MapAt, MapRepresents, ValueQuery, WalksVisitPairs, map_spec}
 use Rattle.rkyv_collections.specs.{pairs_under, query_of_value}
-use Rattle.rkyv_keys.specs.{NativePairs, PairFormat, first_pair, first_value, fx_format, with_first}
+use Rattle.rkyv_keys.specs.{NativePairs, PairFormat, first_pair, first_value, with_first}
 use Rattle.rkyv_keys.specs.{native_pairs}
-use Rattle.ffi_calls.specs.Archives.{map_in}
+use Rattle.ffi_calls.specs.Archives.{limit_of, map_in, most_of, word_of}
 
 -- the pairs that bytes represent. `key` and `value`: what represents the keys and the values,
 -- `key_calls`: hasher calls of the key at a position
@@ -20,18 +20,9 @@ abbrev pub fx_pairs : {A B : Type 0} → (List ℕ → ℕ → A → Type 0) →
     → (List ℕ → ℕ → List HasherCall) → NativePairs A B
 fx_pairs key value key_calls = native_pairs key value (fx_hasher low_halves) key_calls
 
--- the pairs of numbers under keys that `represents` relates to bytes, with the hasher calls
--- `key_calls`
-abbrev pub natives : {A N : Type 0} → (List ℕ → ℕ → A → Type 0)
-    → (List ℕ → ℕ → List HasherCall) → Encoding N → NativePairs A N
-natives represents key_calls e = fx_pairs represents (ScalarRepresents e) key_calls
-
--- how pairs of keys and numbers are written: by the specs of keys and values, the format and the
--- hasher calls of a key, and the encoding of values
-abbrev pub format_of : {A N R : Type 0} → ElementSpec → ElementSpec → Format A R → (A
-    → List HasherCall)
-    → Encoding N → PairFormat A N R (Unit {0})
-format_of k v format calls e = fx_format k v format (scalar_format e) calls
+-- the hash of the key at a position, by its hasher calls
+abbrev pub fx_hash_at : (List ℕ → ℕ → List HasherCall) → List ℕ → ℕ → ℕ
+fx_hash_at calls b q = hash_of_calls (fx_hasher low_halves) (calls b q)
 
 -- the lookup of keys by the values that they represent
 abbrev pub query_of_key : {A : Type 0} → (List ℕ → ℕ → A → Type 0) → (List ℕ → ℕ → List HasherCall)
@@ -96,6 +87,10 @@ pub record ArchiveWidth : Type 0 where
   pub word : Width
   pub limit : ℕ
   pub most : ℕ
+
+-- the width of an archive, narrow or wide
+abbrev pub width_by : Bool → ArchiveWidth
+width_by wide = record { word = word_of wide; limit = limit_of wide; most = most_of wide }
 
 -- the width with the members of a `Width`
 abbrev pub archive_width : WidthMembers → ArchiveWidth

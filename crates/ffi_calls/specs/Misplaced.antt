@@ -9,7 +9,7 @@ use Rattle.rkyv_index.specs.{Index, index_misplaced, keys_strides}
 use Rattle.ffi_calls.specs.Archives.{word_of}
 use Rattle.ffi_calls.specs.Collections.{collection_in, collection_of}
 use Rattle.ffi_calls.specs.Keys.{NumberKey, long_key, short_key}
-use Rattle.ffi_calls.specs.SetItems.{fx_hash_at}
+use Rattle.ffi_calls.specs.Lists.{fx_hash_at}
 use Rattle.ffi_calls.specs.declared.collection.Collection.{Collection}
 use Rattle.ffi_calls.specs.declared.collection.KeyType.{KeyType}
 use Rattle.ffi_calls.specs.declared.collection.KeyType.TheVariants as key

@@ -1,5 +1,5 @@
 -- The types of a collection: of its keys, of its values and of its width.
-use Rattle.std.specs.Prelude.{◌≡◌, ℕ, Bool, List, false, nat_eq}
+use Rattle.std.specs.Prelude.{◌≡◌, ℕ, Bool, List, nat_eq}
 use Rattle.std.specs.Borrow.{Bor}
 use Rattle.std.specs.Int.{Width, w32, w64}
 use Rattle.std.specs.Str.{IsUtf8}
@@ -12,8 +12,8 @@ use Rattle.rkyv_keys.specs.{Comparison, one_call, same_bytes, scalar_calls, scal
 use Rattle.rkyv_keys.specs.{scalar_same, text_calls, text_fits, text_key_calls, text_same}
 use Rattle.ffi_calls.specs.AnyValues.{HasNumber, IsAny, IsCodeNumber, IsNoCode, IsNoText, IsTextFor}
 use Rattle.ffi_calls.specs.AnyValues.{Never, ReadsBytes, ReadsNumber, ReadsUnit}
-use Rattle.ffi_calls.specs.Archives.{form_of, word_of}
-use Rattle.ffi_calls.specs.IndexItems.{IndexWidth, index_width_of}
+use Rattle.ffi_calls.specs.Archives.{word_of}
+use Rattle.ffi_calls.specs.IndexItems.{IndexWidth, index_width_by}
 use Rattle.ffi_calls.specs.Listed.{TextRepresents}
 use Rattle.ffi_calls.specs.declared.any_value.AnyValue.{AnyValue}
 use Rattle.ffi_calls.specs.declared.collection.Collection.{Collection}
@@ -247,5 +247,5 @@ value_type_of w value.Unit = unit_values
 
 -- the types of a collection
 abbrev pub types_of : Collection → Types AnyValue
-types_of c = types_by c.indexed (index_width_of (form_of false c.wide))
+types_of c = types_by c.indexed (index_width_by c.wide)
     (key_type_of (word_of c.wide) c.key) (value_type_of (word_of c.wide) c.value)

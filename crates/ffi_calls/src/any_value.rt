@@ -9,6 +9,7 @@ ghost use Rattle.ffi_calls.specs.{HasCode, HasNumber, IsCodeNumber, IsNoCode, Is
 ghost use Rattle.ffi_calls.specs.{ReadsNumber, ReadsUnit, IsTextFor, Never, IsAny};
 ghost use Rattle.ffi_calls.specs.declared.any_value.AnyValue.{AnyValue};
 
+use crate::from_any::FromAny;
 use crate::status::{NOT_TEXT, VALUE_TOO_LARGE};
 use rkyv_base::{Element, Scalar, Text, View, Width};
 
@@ -34,21 +35,14 @@ pub struct AnyItem<'a> {
     pub value: AnyValue<'a>,
 }
 
-/// A native type whose values calls take as `P`.
-pub trait FromAny<P>: Copy {
-    // There is a value of this type in the form `P`.
-    ghost is_value: { P → Type 0 };
-
-    // The value in the form `P` is this one.
-    ghost shows: { P → Self → Type 0 };
-
-    // There is no value of this type, and the status is the error's.
-    ghost is_none: { P → ℕ → Type 0 };
-
-    /// Returns the value.
-    fn from_any(value: P) -> Result<Self, u32>
-        ensures { MatchResult result (λ native. is_value value × shows value native)
-            (is_none value) };
+/// A key and a value to be archived. An item of a set is a key, and its value is not read.
+#[repr(C)]
+#[derive(Clone, Copy)]
+pub struct AnyPair<'a> {
+    /// The key.
+    pub key: AnyValue<'a>,
+    /// The value.
+    pub value: AnyValue<'a>,
 }
 
 /// A scalar whose number has at most 64 bits.

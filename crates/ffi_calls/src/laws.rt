@@ -1,19 +1,18 @@
-//! Laws of archives that represent lists, of the pairs that calls take and store, and of clones.
+//! Laws of archives that represent lists, of the results that calls store, and of clones.
 //!
 //! Each law is a function whose contract is the statement.
 
 ghost use Rattle.std.specs.Prelude.{◌↔◌, ◌≡◌};
-ghost use Rattle.rkyv_keys.specs.{fx_format, fx_key_format};
+ghost use Rattle.rkyv_keys.specs.{fx_format};
 ghost use Rattle.ffi_calls.specs.{ArchivesRepresent, IndexesRepresent, SetArchivesRepresent};
 ghost use Rattle.ffi_calls.specs.{WalksVisitListed, archive_width, fx_pairs, index_width};
 
-use crate::any_value::{AnyItem, AnyValue};
+use crate::any_value::{AnyItem, AnyPair, AnyValue};
 use crate::collection::{Collection, KeyType, ValueType};
 use crate::containers::Codes;
 use crate::explanation::Explanation;
 use crate::form::Form;
-use crate::pairs::{Indexed, IndexedOf, Pair, PairOf};
-use crate::text_set_items::SetText;
+use crate::pairs::{Indexed, IndexedOf};
 use rkyv_base::{Archive, Represents, Width};
 use rkyv_collections::map::laws::walks_visit_each;
 use rkyv_collections::{FxHasher64, KeyElement, NativeKey};
@@ -42,13 +41,12 @@ where
         (fx_pairs A.Archived.represents B.Archived.represents A.Archived.key_calls) }
 {}
 
-/// States that a set that is written from a list of items is valid, and represents the list.
+/// States that a map of keys to units that is written from a list is a valid set of the keys.
 pub fn set_archives_represent_their_lists<A: NativeKey<A::Archived> + Archive<W>, W: Width>()
 where
     A::Archived: KeyElement,
     ensures { SetArchivesRepresent (archive_width W.Width)
-        (fx_key_format A.Archived.spec A.format A.calls) A.Archived.represents
-        A.Archived.key_calls }
+        A.Archived.spec A.format A.calls A.Archived.represents A.Archived.key_calls }
 {}
 
 /// States that an index map that is written from a list of pairs is valid, and represents the list.
@@ -63,13 +61,12 @@ where
         (fx_pairs K.represents V.represents K.key_calls) }
 {}
 
-/// States that a call takes a `Pair` and stores an `Indexed` as it is.
-pub fn pairs_are_stored_as_they_are<K: Copy, V: Copy>()
-    ensures pair { (x : _) → ⟦<Pair<K, V> as PairOf<K, V>>⟧.pair_of x ≡ x }
-    ensures indexed { (x : _) → ⟦<Indexed<V> as IndexedOf<V>>⟧.indexed_of x ≡ x }
+/// States that a call stores an `Indexed` as it is.
+pub fn indices_are_stored_as_they_are<V: Copy>()
+    ensures { (x : _) → ⟦<Indexed<V> as IndexedOf<V>>⟧.indexed_of x ≡ x }
 {}
 
-/// States that a clone of codes, forms, collections, explanations, texts and items is the value
+/// States that a clone of codes, forms, collections, explanations, values and items is the value
 /// itself.
 ///
 /// Cloning them can't fail.
@@ -82,9 +79,9 @@ pub fn clones_are_the_same<'a>()
         ↔ (clone ≡ a) }
     ensures explanation { (a clone : Explanation) → ⟦<Explanation as Clone>⟧.is_clone a clone
         ↔ (clone ≡ a) }
-    ensures text { (a clone : _) → ⟦<SetText<'a> as Clone>⟧.is_clone a clone ↔ (clone ≡ a) }
     ensures any_value { (a clone : _) → ⟦<AnyValue<'a> as Clone>⟧.is_clone a clone
         ↔ (clone ≡ a) }
+    ensures any_pair { (a clone : _) → ⟦<AnyPair<'a> as Clone>⟧.is_clone a clone ↔ (clone ≡ a) }
     ensures any_item { (a clone : _) → ⟦<AnyItem<'a> as Clone>⟧.is_clone a clone ↔ (clone ≡ a) }
     ensures infallible_codes { (a : Codes) → ⟦<Codes as Clone>⟧.is_infallible a }
     ensures infallible_form { (a : Form) → ⟦<Form as Clone>⟧.is_infallible a }
@@ -94,19 +91,15 @@ pub fn clones_are_the_same<'a>()
     ensures infallible_explanation { (a : Explanation) → ⟦<Explanation as Clone>⟧.is_infallible a }
     ensures infallible_any_value { (a : _) → ⟦<AnyValue<'a> as Clone>⟧.is_infallible a }
     ensures infallible_any_item { (a : _) → ⟦<AnyItem<'a> as Clone>⟧.is_infallible a }
-    ensures infallible_text { (a : _) → ⟦<SetText<'a> as Clone>⟧.is_infallible a }
+    ensures infallible_any_pair { (a : _) → ⟦<AnyPair<'a> as Clone>⟧.is_infallible a }
 {}
 
-/// States that pairs and indexed values are cloned by their parts.
+/// States that indexed values are cloned by their parts.
 ///
-/// Cloning them fails only if cloning a part does.
-pub fn pairs_are_cloned_by_their_parts<K: Clone, V: Clone>()
-    ensures pair { (x clone : _) → ⟦<Pair<K, V> as Clone>⟧.is_clone x clone
-        ↔ (V.is_clone x.value clone.value × K.is_clone x.key clone.key) }
+/// Cloning one fails only if cloning its value does.
+pub fn indices_are_cloned_by_their_parts<V: Clone>()
     ensures indexed { (x clone : _) → ⟦<Indexed<V> as Clone>⟧.is_clone x clone
         ↔ ((clone.index ≡ x.index) × V.is_clone x.value clone.value) }
-    ensures infallible_pair { (x : _) → ⟦<Pair<K, V> as Clone>⟧.is_infallible x
-        ↔ (V.is_infallible x.value × K.is_infallible x.key) }
     ensures infallible_indexed { (x : _) → ⟦<Indexed<V> as Clone>⟧.is_infallible x
         ↔ V.is_infallible x.value }
 {}

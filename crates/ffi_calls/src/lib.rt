@@ -3,21 +3,20 @@
 //! - `collection` validates archives and decodes their headers, by the codes of their contents.
 //!   `misplaced` counts the keys that a lookup of the key itself doesn't find.
 //! - `numbers` and `texts` look up, overwrite and walk maps to numbers.
-//!   `number_items` and `text_items` write their archives.
 //! - `numbers_to_texts` and `texts_to_texts` are the same for maps to texts, without overwrites.
-//!   `numbers_to_texts_items` and `texts_to_texts_items` write their archives.
-//! - `number_sets` and `text_sets` are the same for sets. `number_sets` writes archives of sets of
-//!   numbers, and `text_set_items` those of sets of texts.
+//! - `number_sets` and `text_sets` are the same for sets.
 //! - `index_numbers`, `index_texts`, `index_numbers_to_texts` and `index_texts_to_texts` look up in
 //!   and read index maps, and share the calls of `index`. The first two overwrite too.
-//!   `index_items` and `index_text_items` write their archives.
-//! - `building` writes the archive of a list of pairs, and leaks its bytes to the caller.
+//! - `iteration` stores the items of any collection, by the codes of its contents.
+//! - `building` writes the archive of a list of items as any collection, and leaks its bytes to the
+//!   caller.
 //! - `containers` writes the headers of containers, opens containers, and updates their checksums.
-//! - `pairs` has the pairs that calls take and store, and `reading` the form of keys and values.
+//! - `any_value` and `from_any` have keys and values of any type, `pairs` the results of lookups in
+//!   index maps, and `reading` the form of keys and values.
 //! - `explanation` explains the first error of an archive or of a container, with its numbers.
 //! - `form` has the two flags of a map's form, and `status` the statuses that calls return.
 //! - `laws` states that archives represent their lists, that walks visit each pair once, that the
-//!   pairs of `pairs` are stored as they are, and that clones are equal to their values.
+//!   results of `pairs` are stored as they are, and that clones are equal to their values.
 #![tactic(auto)]
 
 pub mod any_value;
@@ -27,33 +26,27 @@ pub mod collection;
 pub mod containers;
 pub mod explanation;
 pub mod form;
+pub mod from_any;
 mod index;
 mod index_in_place;
-pub mod index_items;
 pub mod index_numbers;
 pub mod index_numbers_to_texts;
-pub mod index_text_items;
 pub mod index_texts;
 pub mod index_texts_to_texts;
 pub mod iteration;
 pub mod laws;
 mod lookup;
 pub mod misplaced;
-pub mod number_items;
 pub mod number_sets;
 pub mod numbers;
 pub mod numbers_to_texts;
-pub mod numbers_to_texts_items;
 pub mod pairs;
 pub mod reading;
 mod sets;
 pub mod status;
-pub mod text_items;
-pub mod text_set_items;
 pub mod text_sets;
 pub mod texts;
 pub mod texts_to_texts;
-pub mod texts_to_texts_items;
 pub mod types;
 mod value;
 mod walk;

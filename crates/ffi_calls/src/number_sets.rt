@@ -1,21 +1,14 @@
 //! Sets of numbers.
 //!
-//! `build_number_set` writes an archive. The other calls require a valid one.
+//! The calls require a valid archive.
 
-ghost use Rattle.std.specs.Prelude.{MatchResult};
-ghost use Rattle.ffi_calls.specs.{ArchiveOfNumberSetFails, FindsListedNumber, FindsNumber};
-ghost use Rattle.ffi_calls.specs.{IsArchiveOfNumberSet, IsHeaderOf, IsNumberSet};
-ghost use Rattle.ffi_calls.specs.{NumberSetWriteFails, NumberSetWriteOk, Outputs};
-ghost use Rattle.ffi_calls.specs.{archive_width};
+ghost use Rattle.ffi_calls.specs.{FindsListedNumber, FindsNumber, IsHeaderOf, IsNumberSet};
 ghost use Rattle.ffi_calls.specs.{number_set_in};
 
-use crate::building::{Built, leak_into};
 use crate::reading::NumberKey;
-use crate::sets::{contains_in, set_archive_of};
-use crate::status::or_status;
-use rkyv_base::{Narrow, Wide, Width};
+use crate::sets::contains_in;
+use rkyv_base::{Narrow, Wide};
 use rkyv_table::table::decoded::Decoded;
-use std::alloc::Global;
 
 /// Looks up an item, and returns `DONE` if it is found.
 ///
@@ -39,47 +32,4 @@ pub fn contains_number<K: NumberKey>(archive: &[u8], wide: bool, header: &Decode
     } else {
         contains_in::<K, K, Narrow>(archive, header, &item)
     }
-}
-
-/// Writes the archive of the items.
-fn archive_in<K: NumberKey, W: Width>(alloc: Global, items: &[K]) -> Result<Vec<u8>, u32>
-    ensures { MatchResult result
-        (λ v. NumberSetWriteOk K.NumberKey (archive_width W.Width) items.now
-        v.items) (NumberSetWriteFails K.NumberKey (archive_width W.Width) items.now) }
-{
-    or_status(set_archive_of::<K, W>(alloc, items))
-}
-
-/// Writes the archive of the items, narrow or wide.
-fn archive_by<K: NumberKey>(alloc: Global, items: &[K], wide: bool) -> Result<Vec<u8>, u32>
-    ensures { MatchResult result (λ v. IsArchiveOfNumberSet K.NumberKey wide items.now v.items)
-        (ArchiveOfNumberSetFails K.NumberKey wide items.now) }
-{
-    if wide {
-        archive_in::<K, Wide>(alloc, items)
-    } else {
-        archive_in::<K, Narrow>(alloc, items)
-    }
-}
-
-/// Writes the archive of a set of the items, in insertion order, and leaks its bytes into `built`.
-///
-/// Equal items are kept. The set is under the load factor 7 / 8.
-///
-/// # Errors
-///
-/// - `NO_MEMORY`: an allocation fails.
-/// - 23 to 29: the status of the write error.
-///
-/// After an error `built` is unchanged.
-pub fn build_number_set<K: NumberKey>(
-    alloc: Global,
-    items: &[K],
-    wide: bool,
-    built: &mut Built<'_>,
-) -> u32
-    ensures { Outputs (IsArchiveOfNumberSet K.NumberKey wide items.now)
-        (ArchiveOfNumberSetFails K.NumberKey wide items.now) built.old result built.new }
-{
-    leak_into(archive_by(alloc, items, wide), built)
 }

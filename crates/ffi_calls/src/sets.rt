@@ -1,18 +1,14 @@
-//! Sets: the lookup of an item, and the archive of a list of items.
+//! Sets: the lookup of an item.
 
-ghost use Rattle.std.specs.Prelude.{IfErr, IfOk};
 ghost use Rattle.rkyv_base.specs.{unit_spec};
-ghost use Rattle.rkyv_keys.specs.{fx_key_format};
-ghost use Rattle.ffi_calls.specs.{FindsItem, IsFoundStatus, IsHeaderOf, IsMapArchive, IsSetArchive};
-ghost use Rattle.ffi_calls.specs.{SetArchiveFails, archive_width, query_of_key, set_in};
-ghost use Rattle.ffi_calls.specs.{value_found};
+ghost use Rattle.ffi_calls.specs.{FindsItem, IsFoundStatus, IsHeaderOf, IsMapArchive};
+ghost use Rattle.ffi_calls.specs.{query_of_key, set_in, value_found};
 
 use crate::lookup::value_pos_in;
 use crate::status::{DONE, NOT_FOUND};
-use rkyv_base::{NoMemory, Represents, Serialize, VecWriter, Width, WriteError, to_bytes_in};
-use rkyv_collections::{KeyElement, NativeKey, SetItems};
+use rkyv_base::{Represents, Width};
+use rkyv_collections::{KeyElement, NativeKey};
 use rkyv_table::table::decoded::Decoded;
-use std::alloc::Global;
 
 /// Looks up an item of the set in a valid archive, by its decoded header.
 ///
@@ -38,20 +34,4 @@ pub(crate) fn contains_in<A: NativeKey<K>, K: KeyElement + Represents<A>, W: Wid
         Some(_) => DONE,
         None => NOT_FOUND,
     }
-}
-
-/// Writes the archive of a set of the items, in insertion order, under the load factor 7 / 8.
-pub(crate) fn set_archive_of<A: NativeKey<A::Archived> + Serialize<VecWriter, W>, W: Width>(
-    alloc: Global,
-    items: &[A],
-) -> Result<Vec<u8>, WriteError<NoMemory>>
-where
-    A::Archived: KeyElement,
-    ensures ok { IfOk result (λ v. IsSetArchive (archive_width W.Width)
-        (fx_key_format A.Archived.spec A.format A.calls) A.Archived.represents A.Archived.key_calls
-        items.now v.items) }
-    ensures err { IfErr result (SetArchiveFails (archive_width W.Width)
-        (fx_key_format A.Archived.spec A.format A.calls) items.now) }
-{
-    to_bytes_in::<W, SetItems<'_, A>>(alloc, &SetItems::new(items))
 }

@@ -10,8 +10,9 @@ ghost use Rattle.ffi_calls.specs.{key_members, key_type_of, types_by, types_of, 
 ghost use Rattle.ffi_calls.specs.{value_type_of};
 ghost use Rattle.ffi_calls.specs.declared.any_value.AnyValue.{AnyValue};
 
-use crate::any_value::{AnyValue, FromAny, Number, ToAny};
+use crate::any_value::{AnyValue, Number, ToAny};
 use crate::collection::{Collection, KeyType, ValueType};
+use crate::from_any::FromAny;
 use rkyv_base::{Archive, Narrow, Represents, Serialize, Text, VecWriter, Wide, Width};
 use rkyv_index::IndexWidth;
 use rkyv_keys::{KeyElement, NativeKey, ScalarKey};

@@ -1,7 +1,0 @@
-use Rattle.ffi_calls.proofs.index_text_items.text_texts_by.Goals as goal
-
-pub returns-then-wide : goal.returns-then-wide
-returns-then-wide g c = rw c.if-wide.true c.text_texts_in.ensures
-
-pub returns-else-wide : goal.returns-else-wide
-returns-else-wide g c = rw c.if-wide.false c.text_texts_in-else-wide.ensures
