@@ -1,19 +1,23 @@
-//! The calls that open archives, count misplaced keys and iterate, by the codes of the contents.
+//! The calls that open archives, count misplaced keys, iterate and build, by the codes of the
+//! contents.
 //!
 //! The codes are those in the header of a container. The library has maps of fewer contents than a
 //! container may have: all other codes are unknown here.
 
 ghost use Rattle.std.specs.Prelude.{◌≡◌};
-ghost use Rattle.ffi_calls.specs.{CountsMisplaced, ExplainsByCodes, IsHeaderByCodes};
+ghost use Rattle.ffi_calls.specs.{BuildsByCodes, CountsMisplaced, ExplainsByCodes};
+ghost use Rattle.ffi_calls.specs.{IsHeaderByCodes};
 ghost use Rattle.ffi_calls.specs.{IsValidByCodes, OpensByCodes, StoresItemsByCodes, codes_of};
 
-use ffi_calls::any_value::AnyItem;
+use ffi_calls::any_value::{AnyItem, AnyPair};
+use ffi_calls::building::{Built, build};
 use ffi_calls::collection::{decode_header, explain_archive, open_archive};
 use ffi_calls::containers::Codes;
 use ffi_calls::explanation::Explanation;
 use ffi_calls::iteration::next_items;
 use ffi_calls::misplaced::misplaced_up_to;
 use rkyv_table::table::decoded::Decoded;
+use std::alloc::Global;
 
 /// Validates the archive of the collection with the codes.
 ///
@@ -159,4 +163,41 @@ pub extern "C" fn rkyv_c_next<'a>(
         width,
     };
     next_items(archive, codes, header, from, items)
+}
+
+/// Writes the archive of the items as the collection with the codes, and stores its bytes in
+/// `built`.
+///
+/// The items are inserted in order, and items with equal keys are kept. The load factor is 7 / 8.
+/// A number is read from `number`, and a text from `bytes`. The values of a set are not read. The
+/// bytes of the archive are a block of `rattle_alloc` or `rattle_realloc`, which the caller frees.
+///
+/// # Errors
+///
+/// - 7: no collection of this library has the codes.
+/// - 12: an allocation fails.
+/// - 3 or 4, of the first item with an error, the key before the value: a number has more bits than
+///   its type, or the bytes of a text aren't UTF-8.
+/// - 23 to 29: the error of the write, which is 27 if a text is too long.
+///
+/// After an error `built` is unchanged.
+#[unsafe(no_mangle)]
+pub extern "C" fn rkyv_c_build<'a>(
+    alloc: Global,
+    kind: u8,
+    key: u8,
+    value: u8,
+    width: u8,
+    items: &'a [AnyPair<'a>],
+    built: &mut Built<'_>,
+) -> u32
+    ensures { BuildsByCodes (codes_of kind key value width) items.now built.old result built.new }
+{
+    let codes = Codes {
+        kind,
+        key,
+        value,
+        width,
+    };
+    build(alloc, codes, items, built)
 }

@@ -1,18 +1,10 @@
 //! The calls for maps of numbers of 64 bits.
 
-ghost use Rattle.std.specs.Prelude.{map};
-ghost use Rattle.ffi_calls.specs.{ArchiveOfNumbersFails, IsArchiveOfNumbers};
-ghost use Rattle.ffi_calls.specs.{IsNumberArchive, KeepsHeader, Outputs, SetsFirstNumber};
-ghost use Rattle.ffi_calls.specs.{SetsNumber, form_of, long_key, numbers_at};
-ghost use Rattle.ffi_calls.specs.{numbers_in};
-ghost use Rattle.ffi_rkyv.specs.Pairs.{long_number_pair};
+ghost use Rattle.ffi_calls.specs.{IsNumberArchive, KeepsHeader, SetsFirstNumber, SetsNumber};
+ghost use Rattle.ffi_calls.specs.{form_of, long_key, numbers_at, numbers_in};
 
-use crate::pairs::LongNumberPair;
-use ffi_calls::building::Built;
 use ffi_calls::form::Form;
-use ffi_calls::number_items::build_numbers;
 use ffi_calls::numbers::set_number;
-use std::alloc::Global;
 
 /// Looks up a key, and overwrites its value in place.
 ///
@@ -46,31 +38,4 @@ pub extern "C" fn rkyv_c_set_long_number(
         key value result archive.new }
 {
     set_number::<u64>(archive, Form { long_values, wide }, key, value)
-}
-
-/// Writes the archive of the items, in insertion order, and stores its bytes in `built`.
-///
-/// The archive is a map under the load factor 7 / 8. Its bytes are a block of `rattle_alloc` or
-/// `rattle_realloc`, which the caller frees.
-///
-/// # Errors
-///
-/// - 12: an allocation fails.
-/// - 3: a value has more bits than the values of the map.
-/// - 23 to 29: the error of the write.
-///
-/// After an error `built` is unchanged.
-#[unsafe(no_mangle)]
-pub extern "C" fn rkyv_c_build_long_numbers(
-    alloc: Global,
-    items: &[LongNumberPair],
-    long_values: bool,
-    wide: bool,
-    built: &mut Built<'_>,
-) -> u32
-    ensures { let pairs = map long_number_pair items.now in let f = form_of long_values wide in
-        Outputs (IsArchiveOfNumbers long_key f pairs) (ArchiveOfNumbersFails long_key f pairs)
-        built.old result built.new }
-{
-    build_numbers::<u64, _>(alloc, items, Form { long_values, wide }, built)
 }
