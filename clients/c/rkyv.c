@@ -48,21 +48,18 @@ typedef struct any_value {
     text bytes;
 } any_value;
 
+/* An item of any collection that is to be archived. The value of an item of a set is not read. */
+typedef struct any_pair {
+    any_value key;
+    any_value value;
+} any_pair;
+
 /* A pair of any collection, and the bucket or the index at which iteration continues. */
 typedef struct any_item {
     uint64_t next;
     any_value key;
     any_value value;
 } any_item;
-
-/* The calls of the proved library for maps whose values are numbers, which have 64 bits if `longer` is
- * true. The width is 64 if `wide` is true. Arrays of items have no type here: each call takes those of
- * its map. */
-typedef uint32_t build_numbers(const void *items, size_t count, bool longer, bool wide,
-                               built *built);
-
-/* The same for maps to texts and sets. */
-typedef uint32_t build_others(const void *items, size_t count, bool wide, built *built);
 
 /* The calls that look up. Each is of one type of values and one width. */
 typedef uint32_t get_number(const uint8_t *archive, size_t length, const rkyv_table_header *header,
@@ -122,14 +119,6 @@ extern "C" {
  * valid bytes: the function that opens has returned 0 for them. A decoded header is that of these
  * bytes. Setting a value leaves the header unchanged. The header of a container has 32 bytes. No
  * pointer is null, and memory that a function writes overlaps no other argument. */
-build_numbers rkyv_c_build_numbers, rkyv_c_build_long_numbers, rkyv_c_build_texts;
-build_numbers rkyv_c_index_build_numbers, rkyv_c_index_build_long_numbers;
-build_numbers rkyv_c_index_build_texts;
-build_others rkyv_c_build_numbers_to_texts, rkyv_c_build_long_numbers_to_texts;
-build_others rkyv_c_build_texts_to_texts, rkyv_c_index_build_numbers_to_texts;
-build_others rkyv_c_index_build_long_numbers_to_texts, rkyv_c_index_build_texts_to_texts;
-build_others rkyv_c_build_number_set, rkyv_c_build_long_number_set, rkyv_c_build_text_set;
-
 get_number rkyv_c_get_number_u32_narrow, rkyv_c_get_number_u64_narrow;
 get_number rkyv_c_get_number_u32_wide, rkyv_c_get_number_u64_wide;
 get_long_number rkyv_c_get_long_number_u32_narrow, rkyv_c_get_long_number_u64_narrow;
@@ -165,7 +154,7 @@ bool rkyv_c_is_text(const uint8_t *bytes, size_t length);
  * link with a library of another interface. */
 void rkyv_c_interface_2(void);
 
-/* The library's functions that open archives, iterate and count misplaced keys, and those for
+/* The library's functions that open archives, iterate, count misplaced keys and build, and those for
  * containers, by the codes of their contents. */
 uint32_t rkyv_c_open(const uint8_t *archive, size_t length, uint8_t collection, uint8_t key,
                      uint8_t value, uint8_t width);
@@ -179,6 +168,8 @@ size_t rkyv_c_next(const uint8_t *archive, size_t length, uint8_t collection, ui
 uint32_t rkyv_c_misplaced_up_to(const uint8_t *archive, size_t length, uint8_t collection,
                                 uint8_t key, uint8_t value, uint8_t width,
                                 const rkyv_table_header *header, uint64_t limit, uint64_t *count);
+uint32_t rkyv_c_build(uint8_t collection, uint8_t key, uint8_t value, uint8_t width,
+                      const any_pair *items, size_t count, built *built);
 uint32_t rkyv_c_write_header(const uint8_t *archive, size_t length, uint8_t collection, uint8_t key,
                              uint8_t value, uint8_t width, bool checked, uint8_t *header,
                              size_t header_length);
@@ -204,40 +195,37 @@ static const uint8_t nothing[1] = {0};
 enum { HASH_MAP = 1, HASH_SET = 2, INDEX_MAP = 3 };
 enum { NUMBER = 0, UNIT = 0x01, TEXT = 0x04, U32 = 0x14, U64 = 0x18 };
 
-/* The collection and the types of a kind, and the call that builds its maps: for values that are
- * numbers, or for others. */
+/* The collection and the types of a kind. */
 typedef struct contents {
     uint8_t collection;
     uint8_t key;
     uint8_t value;
-    build_numbers *numbers;
-    build_others *others;
 } contents;
 
 /* The contents by the number of the kind. No kind has the number 0. */
 static const contents kinds[] = {
-    /* none */                           {0, 0, 0, NULL, NULL},
-    /* RKYV_NUMBER_TO_U32 */             {HASH_MAP, U32, U32, rkyv_c_build_numbers, NULL},
-    /* RKYV_NUMBER_TO_U64 */             {HASH_MAP, U32, U64, rkyv_c_build_numbers, NULL},
-    /* RKYV_TEXT_TO_U32 */               {HASH_MAP, TEXT, U32, rkyv_c_build_texts, NULL},
-    /* RKYV_TEXT_TO_U64 */               {HASH_MAP, TEXT, U64, rkyv_c_build_texts, NULL},
-    /* RKYV_INDEX_NUMBER_TO_U32 */       {INDEX_MAP, U32, U32, rkyv_c_index_build_numbers, NULL},
-    /* RKYV_INDEX_NUMBER_TO_U64 */       {INDEX_MAP, U32, U64, rkyv_c_index_build_numbers, NULL},
-    /* RKYV_INDEX_TEXT_TO_U32 */         {INDEX_MAP, TEXT, U32, rkyv_c_index_build_texts, NULL},
-    /* RKYV_INDEX_TEXT_TO_U64 */         {INDEX_MAP, TEXT, U64, rkyv_c_index_build_texts, NULL},
-    /* RKYV_NUMBER_TO_TEXT */            {HASH_MAP, U32, TEXT, NULL, rkyv_c_build_numbers_to_texts},
-    /* RKYV_TEXT_TO_TEXT */              {HASH_MAP, TEXT, TEXT, NULL, rkyv_c_build_texts_to_texts},
-    /* RKYV_SET_OF_NUMBERS */            {HASH_SET, U32, UNIT, NULL, rkyv_c_build_number_set},
-    /* RKYV_SET_OF_TEXTS */              {HASH_SET, TEXT, UNIT, NULL, rkyv_c_build_text_set},
-    /* RKYV_LONG_NUMBER_TO_U32 */        {HASH_MAP, U64, U32, rkyv_c_build_long_numbers, NULL},
-    /* RKYV_LONG_NUMBER_TO_U64 */        {HASH_MAP, U64, U64, rkyv_c_build_long_numbers, NULL},
-    /* RKYV_SET_OF_LONG_NUMBERS */       {HASH_SET, U64, UNIT, NULL, rkyv_c_build_long_number_set},
-    /* RKYV_LONG_NUMBER_TO_TEXT */       {HASH_MAP, U64, TEXT, NULL, rkyv_c_build_long_numbers_to_texts},
-    /* RKYV_INDEX_LONG_NUMBER_TO_U32 */  {INDEX_MAP, U64, U32, rkyv_c_index_build_long_numbers, NULL},
-    /* RKYV_INDEX_LONG_NUMBER_TO_U64 */  {INDEX_MAP, U64, U64, rkyv_c_index_build_long_numbers, NULL},
-    /* RKYV_INDEX_NUMBER_TO_TEXT */      {INDEX_MAP, U32, TEXT, NULL, rkyv_c_index_build_numbers_to_texts},
-    /* RKYV_INDEX_TEXT_TO_TEXT */        {INDEX_MAP, TEXT, TEXT, NULL, rkyv_c_index_build_texts_to_texts},
-    /* RKYV_INDEX_LONG_NUMBER_TO_TEXT */ {INDEX_MAP, U64, TEXT, NULL, rkyv_c_index_build_long_numbers_to_texts},
+    /* none */                           {0, 0, 0},
+    /* RKYV_NUMBER_TO_U32 */             {HASH_MAP, U32, U32},
+    /* RKYV_NUMBER_TO_U64 */             {HASH_MAP, U32, U64},
+    /* RKYV_TEXT_TO_U32 */               {HASH_MAP, TEXT, U32},
+    /* RKYV_TEXT_TO_U64 */               {HASH_MAP, TEXT, U64},
+    /* RKYV_INDEX_NUMBER_TO_U32 */       {INDEX_MAP, U32, U32},
+    /* RKYV_INDEX_NUMBER_TO_U64 */       {INDEX_MAP, U32, U64},
+    /* RKYV_INDEX_TEXT_TO_U32 */         {INDEX_MAP, TEXT, U32},
+    /* RKYV_INDEX_TEXT_TO_U64 */         {INDEX_MAP, TEXT, U64},
+    /* RKYV_NUMBER_TO_TEXT */            {HASH_MAP, U32, TEXT},
+    /* RKYV_TEXT_TO_TEXT */              {HASH_MAP, TEXT, TEXT},
+    /* RKYV_SET_OF_NUMBERS */            {HASH_SET, U32, UNIT},
+    /* RKYV_SET_OF_TEXTS */              {HASH_SET, TEXT, UNIT},
+    /* RKYV_LONG_NUMBER_TO_U32 */        {HASH_MAP, U64, U32},
+    /* RKYV_LONG_NUMBER_TO_U64 */        {HASH_MAP, U64, U64},
+    /* RKYV_SET_OF_LONG_NUMBERS */       {HASH_SET, U64, UNIT},
+    /* RKYV_LONG_NUMBER_TO_TEXT */       {HASH_MAP, U64, TEXT},
+    /* RKYV_INDEX_LONG_NUMBER_TO_U32 */  {INDEX_MAP, U64, U32},
+    /* RKYV_INDEX_LONG_NUMBER_TO_U64 */  {INDEX_MAP, U64, U64},
+    /* RKYV_INDEX_NUMBER_TO_TEXT */      {INDEX_MAP, U32, TEXT},
+    /* RKYV_INDEX_TEXT_TO_TEXT */        {INDEX_MAP, TEXT, TEXT},
+    /* RKYV_INDEX_LONG_NUMBER_TO_TEXT */ {INDEX_MAP, U64, TEXT},
 };
 
 /* Whether there is such a kind. The kind of a handle of no open map is 0. */
@@ -245,10 +233,15 @@ static bool is_kind(uint32_t kind) {
     return kind != 0 && kind < sizeof kinds / sizeof *kinds;
 }
 
+/* Whether the values of a kind are numbers. */
+static bool has_numbers(uint32_t kind) {
+    return kinds[kind].value == U32 || kinds[kind].value == U64;
+}
+
 /* Whether the maps of a kind have keys of a type, and values of one. */
 static bool has_types(uint32_t kind, uint8_t key, uint8_t value) {
     return is_kind(kind) && kinds[kind].key == key
-        && (value == NUMBER ? kinds[kind].numbers != NULL : kinds[kind].value == value);
+        && (value == NUMBER ? has_numbers(kind) : kinds[kind].value == value);
 }
 
 static bool has_long_values(uint32_t kind) {
@@ -1149,153 +1142,6 @@ READ(rkyv_index_long_number_text_at, rkyv_index_long_number_texts_from,
 READ(rkyv_index_text_text_at, rkyv_index_text_texts_from, rkyv_index_text_text_pair, check_kind,
      RKYV_INDEX_TEXT_TO_TEXT, {BYTES(value), BYTES(key)})
 
-/* Builds the archive of the map of the kind. `items` may be null if there are none. */
-static rkyv_status build_archive(const void *items, size_t count, uint32_t kind, uint32_t width,
-                                 built *made) {
-    static const uint64_t no_items[1] = {0};
-    const contents *of = &kinds[kind];
-    const void *some = items != NULL ? items : no_items;
-    return (rkyv_status)(
-        of->numbers != NULL
-            ? of->numbers(some, count, has_long_values(kind), width == 64, made)
-            : of->others(some, count, width == 64, made));
-}
-
-/* Stores what was built. */
-static rkyv_status store_built(rkyv_status status, built made, uint8_t **bytes, size_t *length) {
-    if (status == RKYV_OK) {
-        *bytes = made.bytes;
-        *length = made.length;
-    }
-    return status;
-}
-
-/* The types of the items that a call takes, their size, and the position and the number of the texts
- * in each, which are one behind the other. */
-typedef struct layout {
-    uint8_t key;
-    uint8_t value;
-    size_t size;
-    size_t position;
-    size_t texts;
-} layout;
-
-/* RKYV_OK if each of the items has texts that are not null and may be there. The first item with an
- * error decides: RKYV_NULL if one of its texts is null, else RKYV_TOO_LONG. */
-static rkyv_status check_texts(const void *items, size_t count, layout of) {
-    rkyv_status status = RKYV_OK;
-    if (of.texts == 0) {
-        return RKYV_OK;
-    }
-    for (size_t i = 0; status == RKYV_OK && i < count; i++) {
-        const uint8_t *at = (const uint8_t *)items + i * of.size + of.position;
-        for (size_t k = 0; k < of.texts; k++) {
-            text one;
-            memcpy(&one, at + k * sizeof one, sizeof one);
-            if (one.text == NULL) {
-                status = RKYV_NULL;
-            } else if (status == RKYV_OK) {
-                status = check_bytes(one.text, one.length);
-            }
-        }
-    }
-    return status;
-}
-
-/* Builds the archive of the `count` items of a layout. */
-static rkyv_status build(const void *items, size_t count, layout of, uint32_t kind, uint32_t width,
-                         uint8_t **bytes, size_t *length) {
-    uint8_t none[1];
-    built made = {none, 0};
-    rkyv_status status = check_types(kind, width);
-    if (status == RKYV_OK && !has_types(kind, of.key, of.value)) {
-        status = RKYV_WRONG_KIND;
-    }
-    if (status == RKYV_OK && (bytes == NULL || length == NULL || (items == NULL && count != 0))) {
-        status = RKYV_NULL;
-    }
-    if (status == RKYV_OK && count > PTRDIFF_MAX / of.size) {
-        status = RKYV_TOO_LONG;
-    }
-    if (status == RKYV_OK) {
-        status = check_texts(items, count, of);
-    }
-    if (status == RKYV_OK) {
-        status = build_archive(items, count, kind, width, &made);
-    }
-    return store_built(status, made, bytes, length);
-}
-
-rkyv_status rkyv_build_numbers(const rkyv_number_item *items, size_t count, uint32_t kind,
-                               uint32_t width, uint8_t **bytes, size_t *length) {
-    const layout of = {U32, NUMBER, sizeof *items, 0, 0};
-    return build(items, count, of, kind, width, bytes, length);
-}
-
-rkyv_status rkyv_build_long_numbers(const rkyv_long_number_item *items, size_t count, uint32_t kind,
-                                    uint32_t width, uint8_t **bytes, size_t *length) {
-    const layout of = {U64, NUMBER, sizeof *items, 0, 0};
-    return build(items, count, of, kind, width, bytes, length);
-}
-
-rkyv_status rkyv_build_texts(const rkyv_text_item *items, size_t count, uint32_t kind,
-                             uint32_t width, uint8_t **bytes, size_t *length) {
-    const layout of = {TEXT, NUMBER, sizeof *items, offsetof(rkyv_text_item, key), 1};
-    return build(items, count, of, kind, width, bytes, length);
-}
-
-rkyv_status rkyv_build_number_texts(const rkyv_number_text_item *items, size_t count,
-                                    uint32_t kind, uint32_t width, uint8_t **bytes,
-                                    size_t *length) {
-    const layout of = {U32, TEXT, sizeof *items, offsetof(rkyv_number_text_item, value), 1};
-    return build(items, count, of, kind, width, bytes, length);
-}
-
-rkyv_status rkyv_build_long_number_texts(const rkyv_long_number_text_item *items, size_t count,
-                                         uint32_t kind, uint32_t width, uint8_t **bytes,
-                                         size_t *length) {
-    const layout of = {U64, TEXT, sizeof *items, offsetof(rkyv_long_number_text_item, value), 1};
-    return build(items, count, of, kind, width, bytes, length);
-}
-
-rkyv_status rkyv_build_text_texts(const rkyv_text_text_item *items, size_t count, uint32_t kind,
-                                  uint32_t width, uint8_t **bytes, size_t *length) {
-    const layout of = {TEXT, TEXT, sizeof *items, offsetof(rkyv_text_text_item, value), 2};
-    return build(items, count, of, kind, width, bytes, length);
-}
-
-rkyv_status rkyv_build_number_set(const uint32_t *items, size_t count, uint32_t width,
-                                  uint8_t **bytes, size_t *length) {
-    const layout of = {U32, UNIT, sizeof *items, 0, 0};
-    return build(items, count, of, RKYV_SET_OF_NUMBERS, width, bytes, length);
-}
-
-rkyv_status rkyv_build_long_number_set(const uint64_t *items, size_t count, uint32_t width,
-                                       uint8_t **bytes, size_t *length) {
-    const layout of = {U64, UNIT, sizeof *items, 0, 0};
-    return build(items, count, of, RKYV_SET_OF_LONG_NUMBERS, width, bytes, length);
-}
-
-rkyv_status rkyv_build_text_set(const rkyv_set_text *items, size_t count, uint32_t width,
-                                uint8_t **bytes, size_t *length) {
-    const layout of = {TEXT, UNIT, sizeof *items, offsetof(rkyv_set_text, text), 1};
-    return build(items, count, of, RKYV_SET_OF_TEXTS, width, bytes, length);
-}
-
-/* The pairs, an array of items with keys of the kind, as `rkyv_text_item`, and the concatenated bytes
- * of the text keys. The arrays move when they grow. So a `rkyv_text_item` gets the address of its key
- * when an archive is built. */
-struct rkyv_builder {
-    void *items;
-    size_t count;
-    size_t room;
-    uint8_t *keys;
-    size_t keys_length;
-    size_t keys_room;
-    uint32_t kind;
-    uint32_t width;
-};
-
 /* Ensures room for `more` elements behind the `count` of an array, which has room for `*room` of
  * `size` bytes each. After an error the array is unchanged. */
 static rkyv_status grow(void **array, size_t *room, size_t count, size_t more, size_t size) {
@@ -1322,6 +1168,185 @@ static rkyv_status grow(void **array, size_t *room, size_t count, size_t more, s
     return RKYV_OK;
 }
 
+/* The types of the items that a call takes, their size, and the positions of the key and of the value
+ * in each. */
+typedef struct layout {
+    uint8_t key;
+    uint8_t value;
+    size_t size;
+    size_t key_at;
+    size_t value_at;
+} layout;
+
+/* The layout of the items of a type. */
+#define LAYOUT(key_type, value_type, type)                                                         \
+    {key_type, value_type, sizeof(type), offsetof(type, key), offsetof(type, value)}
+
+static const layout number_items = LAYOUT(U32, NUMBER, rkyv_number_item);
+static const layout long_number_items = LAYOUT(U64, NUMBER, rkyv_long_number_item);
+static const layout text_items = LAYOUT(TEXT, NUMBER, rkyv_text_item);
+
+/* The key or the value of a type at an address. A value that is a number has 64 bits there. */
+static any_value value_at(const uint8_t *at, uint8_t type) {
+    any_value found = {0, {NO_TEXT, 0}};
+    uint32_t number = 0;
+    if (type == U32) {
+        memcpy(&number, at, sizeof number);
+        found.number = number;
+    } else if (type == U64 || type == NUMBER) {
+        memcpy(&found.number, at, sizeof found.number);
+    } else if (type == TEXT) {
+        memcpy(&found.bytes, at, sizeof found.bytes);
+    }
+    return found;
+}
+
+/* The item at an index. */
+static any_pair pair_at(const void *items, size_t index, layout of) {
+    const uint8_t *at = (const uint8_t *)items + index * of.size;
+    const any_pair item = {value_at(at + of.key_at, of.key), value_at(at + of.value_at, of.value)};
+    return item;
+}
+
+/* Builds the archive of the collection of the kind. `items` may be null if there are none. */
+static rkyv_status build_archive(const void *items, size_t count, layout of, uint32_t kind,
+                                 uint32_t width, built *made) {
+    const any_pair none = {{0, {NO_TEXT, 0}}, {0, {NO_TEXT, 0}}};
+    const contents *its = &kinds[kind];
+    void *array = NULL;
+    size_t room = 0;
+    rkyv_status status = grow(&array, &room, 0, count, sizeof none);
+    any_pair *pairs = (any_pair *)array;
+    if (status == RKYV_OK) {
+        for (size_t i = 0; i < count; i++) {
+            pairs[i] = pair_at(items, i, of);
+        }
+        status = (rkyv_status)rkyv_c_build(its->collection, its->key, its->value,
+                                           width_code(width == 64), pairs != NULL ? pairs : &none,
+                                           count, made);
+    }
+    rkyv_bytes_free((uint8_t *)array);
+    return status;
+}
+
+/* Stores what was built. */
+static rkyv_status store_built(rkyv_status status, built made, uint8_t **bytes, size_t *length) {
+    if (status == RKYV_OK) {
+        *bytes = made.bytes;
+        *length = made.length;
+    }
+    return status;
+}
+
+/* RKYV_OK if each of the items has texts that are not null and may be there. The first item with an
+ * error decides: RKYV_NULL if one of its texts is null, else RKYV_TOO_LONG. */
+static rkyv_status check_texts(const void *items, size_t count, layout of) {
+    rkyv_status status = RKYV_OK;
+    if (of.key != TEXT && of.value != TEXT) {
+        return RKYV_OK;
+    }
+    for (size_t i = 0; status == RKYV_OK && i < count; i++) {
+        const any_pair item = pair_at(items, i, of);
+        const text key = item.key.bytes;
+        const text value = item.value.bytes;
+        status = key.text == NULL || value.text == NULL
+            ? RKYV_NULL
+            : first(check_bytes(key.text, key.length), check_bytes(value.text, value.length));
+    }
+    return status;
+}
+
+/* Builds the archive of the `count` items of a layout. */
+static rkyv_status build(const void *items, size_t count, layout of, uint32_t kind, uint32_t width,
+                         uint8_t **bytes, size_t *length) {
+    uint8_t none[1];
+    built made = {none, 0};
+    rkyv_status status = check_types(kind, width);
+    if (status == RKYV_OK && !has_types(kind, of.key, of.value)) {
+        status = RKYV_WRONG_KIND;
+    }
+    if (status == RKYV_OK && (bytes == NULL || length == NULL || (items == NULL && count != 0))) {
+        status = RKYV_NULL;
+    }
+    if (status == RKYV_OK && count > PTRDIFF_MAX / of.size) {
+        status = RKYV_TOO_LONG;
+    }
+    if (status == RKYV_OK) {
+        status = check_texts(items, count, of);
+    }
+    if (status == RKYV_OK) {
+        status = build_archive(items, count, of, kind, width, &made);
+    }
+    return store_built(status, made, bytes, length);
+}
+
+rkyv_status rkyv_build_numbers(const rkyv_number_item *items, size_t count, uint32_t kind,
+                               uint32_t width, uint8_t **bytes, size_t *length) {
+    return build(items, count, number_items, kind, width, bytes, length);
+}
+
+rkyv_status rkyv_build_long_numbers(const rkyv_long_number_item *items, size_t count, uint32_t kind,
+                                    uint32_t width, uint8_t **bytes, size_t *length) {
+    return build(items, count, long_number_items, kind, width, bytes, length);
+}
+
+rkyv_status rkyv_build_texts(const rkyv_text_item *items, size_t count, uint32_t kind,
+                             uint32_t width, uint8_t **bytes, size_t *length) {
+    return build(items, count, text_items, kind, width, bytes, length);
+}
+
+rkyv_status rkyv_build_number_texts(const rkyv_number_text_item *items, size_t count,
+                                    uint32_t kind, uint32_t width, uint8_t **bytes,
+                                    size_t *length) {
+    const layout of = LAYOUT(U32, TEXT, rkyv_number_text_item);
+    return build(items, count, of, kind, width, bytes, length);
+}
+
+rkyv_status rkyv_build_long_number_texts(const rkyv_long_number_text_item *items, size_t count,
+                                         uint32_t kind, uint32_t width, uint8_t **bytes,
+                                         size_t *length) {
+    const layout of = LAYOUT(U64, TEXT, rkyv_long_number_text_item);
+    return build(items, count, of, kind, width, bytes, length);
+}
+
+rkyv_status rkyv_build_text_texts(const rkyv_text_text_item *items, size_t count, uint32_t kind,
+                                  uint32_t width, uint8_t **bytes, size_t *length) {
+    const layout of = LAYOUT(TEXT, TEXT, rkyv_text_text_item);
+    return build(items, count, of, kind, width, bytes, length);
+}
+
+rkyv_status rkyv_build_number_set(const uint32_t *items, size_t count, uint32_t width,
+                                  uint8_t **bytes, size_t *length) {
+    const layout of = {U32, UNIT, sizeof *items, 0, 0};
+    return build(items, count, of, RKYV_SET_OF_NUMBERS, width, bytes, length);
+}
+
+rkyv_status rkyv_build_long_number_set(const uint64_t *items, size_t count, uint32_t width,
+                                       uint8_t **bytes, size_t *length) {
+    const layout of = {U64, UNIT, sizeof *items, 0, 0};
+    return build(items, count, of, RKYV_SET_OF_LONG_NUMBERS, width, bytes, length);
+}
+
+rkyv_status rkyv_build_text_set(const rkyv_set_text *items, size_t count, uint32_t width,
+                                uint8_t **bytes, size_t *length) {
+    const layout of = {TEXT, UNIT, sizeof *items, offsetof(rkyv_set_text, text), 0};
+    return build(items, count, of, RKYV_SET_OF_TEXTS, width, bytes, length);
+}
+
+/* The pairs, an array of items with keys of the kind, as `rkyv_text_item`, and the concatenated bytes
+ * of the text keys. The arrays move when they grow. So a `rkyv_text_item` gets the address of its key
+ * when an archive is built. */
+struct rkyv_builder {
+    void *items;
+    size_t count;
+    size_t room;
+    uint8_t *keys;
+    size_t keys_length;
+    size_t keys_room;
+    uint32_t kind;
+    uint32_t width;
+};
+
 rkyv_status rkyv_builder_new(uint32_t kind, uint32_t width, rkyv_builder **builder) {
     const rkyv_builder empty = {NULL, 0, 0, NULL, 0, 0, kind, width};
     if (builder == NULL) {
@@ -1332,7 +1357,7 @@ rkyv_status rkyv_builder_new(uint32_t kind, uint32_t width, rkyv_builder **build
     if (status != RKYV_OK) {
         return status;
     }
-    if (kinds[kind].numbers == NULL) {
+    if (!has_numbers(kind)) {
         return RKYV_WRONG_KIND;
     }
     struct rattle_block made = rattle_alloc(sizeof(rkyv_builder), 8);
@@ -1414,11 +1439,13 @@ rkyv_status rkyv_builder_finish(rkyv_builder *builder, uint8_t **bytes, size_t *
     if (builder == NULL || bytes == NULL || length == NULL) {
         return RKYV_NULL;
     }
-    if (kinds[builder->kind].key == TEXT) {
+    const uint8_t key = kinds[builder->kind].key;
+    const layout of = key == TEXT ? text_items : key == U64 ? long_number_items : number_items;
+    if (key == TEXT) {
         point_to_keys(builder);
     }
     rkyv_status status =
-        build_archive(builder->items, builder->count, builder->kind, builder->width, &made);
+        build_archive(builder->items, builder->count, of, builder->kind, builder->width, &made);
     return store_built(status, made, bytes, length);
 }
 

@@ -1184,11 +1184,16 @@ static void failing_memory(uint32_t kind) {
     same("blocks", blocks, 0);
 }
 
-/* The pairs that a builder passes to the proved library, after it has tested keys and values. */
-struct text_item {
-    uint64_t value;
-    const void *key;
-    size_t key_length;
+/* A key or a value that rkyv.c passes to the proved library, and the pair of both. */
+struct part {
+    uint64_t number;
+    const void *bytes;
+    size_t length;
+};
+
+struct pair {
+    struct part key;
+    struct part value;
 };
 
 struct built {
@@ -1199,30 +1204,35 @@ struct built {
 #ifdef __cplusplus
 extern "C"
 #endif
-uint32_t rkyv_c_build_texts(const struct text_item *items, size_t count, bool longer, bool wide,
-                            struct built *built);
+uint32_t rkyv_c_build(uint8_t collection, uint8_t key, uint8_t value, uint8_t width,
+                      const struct pair *items, size_t count, struct built *built);
 
-static rkyv_status build_texts(const struct text_item *items, size_t count, bool longer,
+/* Builds a narrow hash map of texts to numbers, which have the type with this code. */
+static rkyv_status build_texts(const struct pair *items, size_t count, uint8_t value,
                                struct built *built) {
-    return (rkyv_status)rkyv_c_build_texts(items, count, longer, false, built);
+    return (rkyv_status)rkyv_c_build(1, 0x04, value, 4, items, count, built);
 }
 
-/* The errors of the library's own tests of keys and values. The bytes of the long text are zeros
- * that are only read, so they take no memory. */
+/* The errors of the library's own tests of codes, keys and values. The bytes of the long text are
+ * zeros that are only read, so they take no memory. */
 static void invalid_items(void) {
     uint8_t none[1];
     struct built built = {none, 0};
     size_t limit = (size_t)1 << 30;
     void *zeros = calloc(limit, 1);
-    struct text_item items[] = {
-        {2, "a", 1}, {2, "\xff", 1}, {1ull << 32, "b", 1}, {2, zeros, limit},
+    struct pair items[] = {
+        {{0, "a", 1}, {2, "", 0}},
+        {{0, "\xff", 1}, {2, "", 0}},
+        {{0, "b", 1}, {1ull << 32, "", 0}},
+        {{0, zeros, limit}, {2, "", 0}},
     };
-    returns("no text", build_texts(items, 2, true, &built), RKYV_NOT_TEXT);
-    returns("a large value", build_texts(items + 2, 1, false, &built), RKYV_VALUE_TOO_LARGE);
+    returns("no text", build_texts(items, 2, 0x18, &built), RKYV_NOT_TEXT);
+    returns("a large value", build_texts(items + 2, 1, 0x14, &built), RKYV_VALUE_TOO_LARGE);
+    returns("signed values", build_texts(items, 1, 0x34, &built), RKYV_UNKNOWN_KIND);
     if (zeros == NULL) {
         fail("no memory for the long text");
     }
-    returns("a long text", build_texts(items + 3, 1, false, &built), RKYV_TEXT_TOO_LONG);
+    returns("a long text", build_texts(items + 3, 1, 0x14, &built), RKYV_TEXT_TOO_LONG);
     same("kept", built.bytes == none && built.length == 0, 1);
     same("blocks", blocks, 0);
     free(zeros);
