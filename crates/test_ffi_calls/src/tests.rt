@@ -16,21 +16,19 @@ macro_rules! expect_eq {
 }
 
 mod archives;
+mod building;
 mod containers;
 mod index_archives;
-mod index_items;
 mod index_numbers;
 mod index_numbers_to_texts;
 mod index_opening;
 mod index_overwrites;
 mod index_text_archives;
-mod index_text_items;
 mod index_texts;
 mod index_texts_to_texts;
 mod iteration;
 mod long_numbers;
 mod misplaced;
-mod number_items;
 mod number_sets;
 mod numbers;
 mod numbers_to_texts;
@@ -39,8 +37,6 @@ mod opening;
 mod pairs;
 mod support;
 mod text_archives;
-mod text_items;
 mod text_sets;
-mod text_value_items;
 mod texts;
 mod texts_to_texts;

@@ -5,7 +5,7 @@ use crate::tests::index_archives::{NO_PAIRS, NO_WIDE_PAIRS};
 use crate::tests::index_text_archives::{EMPTY_TO_TEXT, EMPTY_TO_WIDE_TEXT, TWO_TEXTS};
 use crate::tests::opened::text_index_texts_header;
 use ffi_calls::index_texts_to_texts::get_index_text_of_text;
-use ffi_calls::pairs::{Indexed, Pair};
+use ffi_calls::pairs::Indexed;
 use std::process::Abort;
 
 // Returns the number of pairs, and the status and the index of a lookup, if the value is `expected`
@@ -16,11 +16,6 @@ fn lookup(archive: &[u8], wide: bool, key: &[u8], expected: &[u8]) -> Option<(us
     let mut found = Indexed { index: 8, value };
     let status = get_index_text_of_text(archive, wide, &header, key, &mut found);
     (found.value == expected).then_some((header.len(), status, found.index))
-}
-
-// Returns whether the pair has these parts.
-fn is_pair(pair: Pair<&[u8], &[u8]>, parts: [&[u8]; 2]) -> bool {
-    pair.key == parts[0] && pair.value == parts[1]
 }
 
 // A lookup: the archive, whether it is wide, the key, the value afterwards, and the result.

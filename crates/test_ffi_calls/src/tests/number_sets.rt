@@ -1,14 +1,10 @@
-//! Tests of lookups, walks and archives of sets of numbers.
+//! Tests of lookups in sets of numbers.
 
 use crate::tests::archives::{HEADER, HEADER_OF_TWO, NO_ITEMS, WIDE_HEADER};
 use crate::tests::expect_equal;
 use crate::tests::opened::CodedKey;
-use crate::tests::support::{GREAT, expect_outcome, expect_permitted, outcome_of};
-use ffi_calls::building::Built;
-use ffi_calls::laws;
-use ffi_calls::number_sets::{build_number_set, contains_number};
-use rkyv_base::Narrow;
-use std::alloc::Global;
+use crate::tests::support::GREAT;
+use ffi_calls::number_sets::contains_number;
 use std::process::Abort;
 use test_support::archives::archive;
 
@@ -39,7 +35,7 @@ pub(crate) fn wide_one() -> [u8; 64] {
 }
 
 /// Returns the set of 1, with 64 bits. Buckets from 0 on, controls from 16 on, header at 48.
-fn long_one() -> [u8; 60] {
+pub(crate) fn long_one() -> [u8; 60] {
     archive(LONG_BUCKETS, HEADER)
 }
 
@@ -79,15 +75,6 @@ fn expect_long_found(
     expect_equal(rt, found(archive, wide, item), Some(expected));
 }
 
-// Returns the status of a write of a set, and whether `built` has `bytes` if it is 0.
-// After an error the flag is whether `built` is unchanged.
-fn write<K: CodedKey>(alloc: Global, items: &[K], wide: bool, bytes: &[u8]) -> (u32, bool) {
-    let mut before = [1, 2];
-    let mut built = Built { bytes: &mut before };
-    let status = build_number_set(alloc, items, wide, &mut built);
-    outcome_of(status, built, bytes)
-}
-
 #[test]
 fn lookups_find_the_items_alone(rt: HostRuntime) {
     expect_found(&rt, &one(), false, 1, (1, 0));
@@ -106,32 +93,4 @@ fn lookups_of_long_numbers_compare_all_64_bits(rt: HostRuntime) {
     expect_long_found(&rt, &wide_long_one(), true, 1, (1, 0));
     expect_long_found(&rt, &wide_long_one(), true, u64::MAX, (1, 1));
     expect_long_found(&rt, NO_ITEMS, false, 1, (0, 1));
-}
-
-#[test]
-fn sets_have_their_bytes_or_no_memory(rt: HostRuntime) {
-    let alloc = rt.alloc();
-    expect_permitted(&rt, write(alloc, &[1u32], false, &one()));
-    expect_permitted(&rt, write(alloc, &[GREAT], false, &great()));
-}
-
-#[test]
-fn a_write_of_numbers_succeeds(rt: HostRuntime) {
-    laws::set_archives_represent_their_lists::<u32, Narrow>();
-    let alloc = rt.alloc();
-    let done = (0, true);
-    expect_outcome(&rt, write(alloc, &[1u32], false, &one()), done);
-    expect_outcome(&rt, write(alloc, &[1u32], true, &wide_one()), done);
-    expect_outcome(&rt, write(alloc, &[1u32, 1], false, &one_twice()), done);
-    expect_outcome(&rt, write::<u32>(alloc, &[], false, NO_ITEMS), done);
-}
-
-#[test]
-fn a_write_of_long_numbers_succeeds(rt: HostRuntime) {
-    let alloc = rt.alloc();
-    let done = (0, true);
-    expect_outcome(&rt, write(alloc, &[1u64], false, &long_one()), done);
-    expect_outcome(&rt, write(alloc, &[GREAT], false, &great()), done);
-    expect_outcome(&rt, write(alloc, &[1u64], true, &wide_long_one()), done);
-    expect_outcome(&rt, write::<u64>(alloc, &[], false, NO_ITEMS), done);
 }
