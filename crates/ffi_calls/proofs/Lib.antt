@@ -1,5 +1,4 @@
 pub mod Writing
-pub mod Forms
 pub mod Collected
 pub mod First
 pub mod Members
@@ -10,5 +9,6 @@ pub mod Codes
 pub mod Together
 pub mod IndexPairs
 pub mod IndexFound
+pub mod FoundIndexed
 pub mod IndexWriting
 pub mod StoredArchive

@@ -3,8 +3,7 @@ use Rattle.std.specs.Prelude.{◌≡◌, ℕ, ◌⊎◌, List, Option}
 use Rattle.std.specs.Str.{IsUtf8}
 use Rattle.rkyv_base.specs.{text_at}
 use Rattle.rkyv_keys.specs.{one_call, same_bytes, scalar_fits, text_calls}
-use Rattle.ffi_calls.specs.Archives.{Overwrites, ReturnsAt, numbers_in, texts_in, value_encoding}
-use Rattle.ffi_calls.specs.Archives.{value_found, word_of}
+use Rattle.ffi_calls.specs.Archives.{ReturnsAt, numbers_in, texts_in, value_found, word_of}
 use Rattle.ffi_calls.specs.Keys.{NumberKey, NumbersAt}
 use Rattle.ffi_calls.specs.Reading.{ReadsWord}
 use Rattle.ffi_calls.specs.declared.form.Form.{Form}
@@ -21,11 +20,6 @@ module _ {A : Type 0} (m : NumbersAt A) where
   ReturnsNumber key = ReturnsAt (ReadsWord (word_of m.form.long_values) m.bytes)
       (number_found m.key m.form m.bytes key)
 
-  -- the result of an overwrite of the value of the number `key` in the bytes of `m`
-  abbrev pub SetsNumber : A → ℕ → ℕ → List ℕ → Type 0
-  SetsNumber key = Overwrites (value_encoding m.form) m.bytes
-      (number_found m.key m.form m.bytes key)
-
 -- the position of the value that a lookup of the text `key` finds
 abbrev pub text_found : Form → List ℕ → List ℕ → Option ℕ
 text_found form b key = value_found (texts_in form b) (text_calls key)
@@ -39,10 +33,3 @@ ReturnsText form b key before status after =
     ⊎ (IsUtf8 key
     × ReturnsAt (ReadsWord (word_of form.long_values) b) (text_found form b key) before
     status after)
-
--- the result of an overwrite of the value of `key` in `b`.
--- The status is 4 and no byte is changed if `key` isn't UTF-8.
-abbrev pub SetsText : Form → List ℕ → List ℕ → ℕ → ℕ → List ℕ → Type 0
-SetsText form b key value status c =
-    ((IsUtf8 key → ⊥) × (status ≡ 4) × (c ≡ b))
-    ⊎ (IsUtf8 key × Overwrites (value_encoding form) b (text_found form b key) value status c)

@@ -18,9 +18,10 @@ pub mod IndexInPlace
 pub mod AnyValues
 pub mod TypesOf
 pub mod Iteration
-pub mod IndexTextValues
+pub mod IndexLookup
 pub mod Collections
 pub mod Building
+pub mod Overwrite
 pub mod Misplaced
 pub mod Lemmas
 unfoldable pub use Status.{container_status, verify_status, write_status}
@@ -36,13 +37,11 @@ unfoldable pub use Lists.{PosOfFirst, ReturnsFirst, SetsFirstOf, SetsFirstPair, 
 unfoldable pub use Lists.{archive_width, fx_hash_at, fx_pairs, header_spec, pairs_format}
 unfoldable pub use Lists.{query_of_key, query_pairs, width_by}
 pub use Lists.{ArchiveWidth}
-unfoldable pub use Listed.{FindsFirst, ReturnsFirstNumber, ReturnsFirstText, SetsFirstNumber}
-unfoldable pub use Listed.{SetsFirstText, TextRepresents, query_of_number, query_of_text}
-pub use Listed.{OverwritesText}
+unfoldable pub use Listed.{FindsFirst, ReturnsFirstNumber, ReturnsFirstText, TextRepresents}
+unfoldable pub use Listed.{query_of_number, query_of_text}
 unfoldable pub use Walking.{AreItemsIn, FindsNextItem, IsItemIn, IsNextBucket, StoresNextItems}
 unfoldable pub use Walking.{bucket_pair_pos, buckets_from}
-unfoldable pub use Calls.{ReturnsNumber, ReturnsText, SetsNumber, SetsText, number_found}
-unfoldable pub use Calls.{text_found}
+unfoldable pub use Calls.{ReturnsNumber, ReturnsText, number_found, text_found}
 unfoldable pub use TextValues.{IsNumberTextArchive, IsTextTextArchive, ReturnsFirstTextOfNumber}
 unfoldable pub use TextValues.{ReturnsFirstTextOfText, ReturnsFirstTextValue, ReturnsTextAt}
 unfoldable pub use TextValues.{ReturnsTextOfNumber, ReturnsTextOfText, number_text_map}
@@ -58,22 +57,15 @@ pub use Explanation.{Explains}
 unfoldable pub use Sets.{FindsItem, FindsListedNumber, FindsListedText, FindsNumber, FindsText}
 unfoldable pub use Sets.{IsFoundStatus, IsNumberSet, IsTextSet, member_found, number_set}
 unfoldable pub use Sets.{number_set_in, set_in, text_set, text_set_in}
-unfoldable pub use IndexArchives.{IsIndexArchive, IsIndexItem, IsItemAtIndex, IsNumberIndex}
-unfoldable pub use IndexArchives.{IsTextIndex, ReturnsIndexed, ReturnsIndexedBytes}
-unfoldable pub use IndexArchives.{ReturnsIndexedNumber, ReturnsIndexedText, found_index, index_at}
-unfoldable pub use IndexArchives.{index_in, index_map, index_root, number_index, number_index_found}
-unfoldable pub use IndexArchives.{number_index_in, pair_count, pair_pos_at, text_index}
-unfoldable pub use IndexArchives.{text_index_found, text_index_in, value_pos_at}
+unfoldable pub use IndexArchives.{FindsIndexed, IsIndexArchive, IsIndexItem, IsItemAtIndex}
+unfoldable pub use IndexArchives.{found_index, index_at, index_in, index_map, index_root}
+unfoldable pub use IndexArchives.{pair_count, pair_pos_at, value_pos_at}
 pub use IndexArchives.{StoresItemsFrom}
-unfoldable pub use IndexLists.{HasValueAt, IndexRepresentsPairs, ReturnsFirstIndexed}
-unfoldable pub use IndexLists.{ReturnsFirstIndexedNumber, ReturnsFirstIndexedText, StoresListed}
+unfoldable pub use IndexLists.{FindsFirstIndexed, HasValueAt, IndexRepresentsPairs, StoresListed}
 unfoldable pub use IndexItems.{IndexFails, IndexesRepresent, IsIndexOf, index_header_spec}
 unfoldable pub use IndexItems.{index_pairs_format, index_width, index_width_by}
 pub use IndexItems.{IndexWidth}
-unfoldable pub use IndexInPlace.{SetsFirstIndexed, SetsFirstIndexedNumber, SetsFirstIndexedText}
-unfoldable pub use IndexInPlace.{SetsIndexedBytes, SetsIndexedNumber, SetsIndexedText}
-unfoldable pub use IndexInPlace.{value_found_in}
-pub use IndexInPlace.{OverwritesIndexedText}
+unfoldable pub use IndexInPlace.{SetsFirstIndexed, value_found_in}
 unfoldable pub use AnyValues.{HasCode, HasNumber, IsAny, IsCodeNumber, IsNoCode, IsNoText}
 unfoldable pub use AnyValues.{IsTextFor, Never, ReadsBytes, ReadsNumber, ReadsUnit}
 unfoldable pub use TypesOf.{NativeKeyMembers, NativeValueMembers, StoredKeyMembers}
@@ -84,12 +76,9 @@ pub use TypesOf.{KeyTypes, Types, ValueTypes}
 unfoldable pub use Iteration.{IsArchiveOfTypes, StoresItems, StoresItemsByCodes, StoresItemsIn}
 unfoldable pub use Iteration.{types_in, types_spec}
 pub use Iteration.{CanIterate, StoresFromIndex}
-unfoldable pub use IndexTextValues.{IsNumberTextIndex, IsTextTextIndex, ReturnsFirstIndexedTextAt}
-unfoldable pub use IndexTextValues.{ReturnsFirstIndexedTextOfNumber, ReturnsFirstIndexedTextOfText}
-unfoldable pub use IndexTextValues.{ReturnsIndexedTextAt, ReturnsIndexedTextOfBytes}
-unfoldable pub use IndexTextValues.{ReturnsIndexedTextOfNumber, ReturnsIndexedTextOfText}
-unfoldable pub use IndexTextValues.{number_text_index, number_text_index_in, text_text_index}
-unfoldable pub use IndexTextValues.{text_text_index_in}
+unfoldable pub use IndexLookup.{FindsShown, LooksUpIn, LooksUpIndexed, ReturnsIndexedByCodes}
+unfoldable pub use IndexLookup.{ReturnsIndexedIn}
+pub use IndexLookup.{CanLookUp, FindsKey}
 unfoldable pub use Collections.{ExplainsByCodes, IsHeaderByCodes, IsValidByCodes, OpensByCodes}
 unfoldable pub use Collections.{collection_by, collection_in, collection_of, collection_spec}
 unfoldable pub use Collections.{index_flag, key_type, key_type_spec, root_in, root_spec, value_type}
@@ -99,6 +88,9 @@ unfoldable pub use Building.{CanBuild, FirstUnfit, HasNoPair, HasPair, IsArchive
 unfoldable pub use Building.{IsArchiveOfPairs, IsPairOf, Outputs, PairsFail, SetArchivesRepresent}
 unfoldable pub use Building.{WritesArchive, WritesItems, taken_keys, taken_values, types_format}
 unfoldable pub use Building.{types_natives}
+unfoldable pub use Overwrite.{KeepsHeaderByCodes, RepresentsBy, SetsByCodes, SetsKeyOf, SetsShown}
+unfoldable pub use Overwrite.{value_found_by}
+pub use Overwrite.{KeepsRoot, SetsKey}
 unfoldable pub use Misplaced.{CountsIn, CountsMisplaced, StoresMisplaced, index_with_keys}
 unfoldable pub use Misplaced.{key_type_calls, key_type_same, misplaced_in, misplaced_of}
 unfoldable pub use Misplaced.{number_calls, number_same, strides_in, strides_of}

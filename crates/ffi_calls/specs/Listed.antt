@@ -5,11 +5,9 @@ use Rattle.std.specs.Int.{Width}
 use Rattle.rkyv_base.specs.{Encoding, IsTextOf, ScalarRepresents}
 use Rattle.rkyv_keys.specs.{same_bytes, scalar_calls, text_key_calls}
 use Rattle.rkyv_collections.specs.{MapAt, ValueQuery}
-use Rattle.ffi_calls.specs.Archives.{IsTextArchive, KeepsHeader, Overwrites, numbers_in, texts_in}
-use Rattle.ffi_calls.specs.Archives.{value_encoding, word_of}
-use Rattle.ffi_calls.specs.Calls.{text_found}
+use Rattle.ffi_calls.specs.Archives.{numbers_in, texts_in, value_encoding, word_of}
 use Rattle.ffi_calls.specs.Keys.{NumberKey, NumbersAt}
-use Rattle.ffi_calls.specs.Lists.{ReturnsFirst, SetsFirstOf, query_of_key}
+use Rattle.ffi_calls.specs.Lists.{ReturnsFirst, query_of_key}
 use Rattle.ffi_calls.specs.Reading.{IsNumberOf}
 use Rattle.ffi_calls.specs.declared.form.Form.{Form}
 
@@ -38,26 +36,7 @@ module _ {A : Type 0} (m : NumbersAt A) where
       FindsFirst (numbers_in m.key m.form m.bytes) (query_of_number m.key key)
       (value_encoding m.form)
 
-  -- an overwrite of the value of `key` changes that of the first pair with the number
-  abbrev pub SetsFirstNumber : A → ℕ → ℕ → List ℕ → Type 0
-  SetsFirstNumber key =
-      SetsFirstOf (numbers_in m.key m.form m.bytes) (query_of_number m.key key)
-      (value_encoding m.form)
-
 -- the result of a lookup of `key` is the value of the first pair with the text
 abbrev pub ReturnsFirstText : Form → List ℕ → List ℕ → ℕ → ℕ → ℕ → Type 0
 ReturnsFirstText form b key =
     FindsFirst (texts_in form b) (query_of_text (word_of form.wide) key) (value_encoding form)
-
--- an overwrite of the value of `key` changes that of the first pair with the text
-abbrev pub SetsFirstText : Form → List ℕ → List ℕ → ℕ → ℕ → List ℕ → Type 0
-SetsFirstText form b key =
-    SetsFirstOf (texts_in form b) (query_of_text (word_of form.wide) key) (value_encoding form)
-
--- `c` is `b` after an overwrite of the value of the text `key`: still valid, with the same header
-pub record OverwritesText (form : Form) (b key : List ℕ) (value status : ℕ) (c : List ℕ) : Type 0
-  where
-    pub kept : IsTextArchive form c
-    pub header : KeepsHeader (texts_in form b) (texts_in form c)
-    pub sets : Overwrites (value_encoding form) b (text_found form b key) value status c
-    pub listed : SetsFirstText form b key value status c

@@ -45,6 +45,16 @@ pub struct AnyPair<'a> {
     pub value: AnyValue<'a>,
 }
 
+/// The index of a pair in insertion order, and its value, which is the unit in an index set.
+#[repr(C)]
+#[derive(Clone, Copy)]
+pub struct IndexedValue<'a> {
+    /// The index of the pair.
+    pub index: usize,
+    /// The value of the pair.
+    pub value: AnyValue<'a>,
+}
+
 /// A scalar whose number has at most 64 bits.
 pub trait Number: Scalar {
     /// Returns the value of a number, or `None` if no value has the number.

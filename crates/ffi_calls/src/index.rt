@@ -2,16 +2,12 @@
 
 ghost use Rattle.std.specs.Prelude.{◌+◌, ◌<◌, ◌^◌, ◌≡◌};
 ghost use Rattle.rkyv_index.specs.{index_bytes, index_pos};
-ghost use Rattle.ffi_calls.specs.{IsHeaderOf, IsIndexArchive, IsIndexItem, IsItemAtIndex};
-ghost use Rattle.ffi_calls.specs.{ReturnsFirstIndexed, ReturnsIndexed, StoresItemsFrom};
-ghost use Rattle.ffi_calls.specs.{StoresListed};
+ghost use Rattle.ffi_calls.specs.{FindsFirstIndexed, FindsIndexed, IsHeaderOf, IsIndexArchive};
+ghost use Rattle.ffi_calls.specs.{IsIndexItem, IsItemAtIndex, StoresItemsFrom, StoresListed};
 ghost use Rattle.ffi_calls.specs.{found_index, fx_pairs, index_at, index_in, index_root};
 ghost use Rattle.ffi_calls.specs.{query_of_key};
 
-use crate::any_value::{AnyItem, ToAny};
-use crate::pairs::{Indexed, IndexedOf};
-use crate::reading::{ReadAs, StoresNative};
-use crate::status::{DONE, NOT_FOUND};
+use crate::any_value::{AnyItem, IndexedValue, ToAny};
 use crate::types::{StoredKey, StoredValue};
 use rkyv_base::{Element, Represents, access_unchecked};
 use rkyv_index::map::laws::lookups_find_listed;
@@ -26,22 +22,6 @@ pub(crate) fn index_header_of<K: Element, V: Element, W: IndexWidth>(archive: &[
     ensures { IsHeaderOf (index_in W.word K.spec V.spec archive.now) result }
 {
     ArchivedIndexMap::of(access_unchecked::<IndexMapOf<K, V, FxHasher64, W>>(archive)).header()
-}
-
-/// Returns the header of an index map of these types, as it is.
-///
-/// Its clauses are the conditions of calls that read values. A caller then has them as facts.
-#[inline]
-pub(crate) fn typed_index_header<K: Element, V: Element, W: IndexWidth>(
-    archive: &[u8],
-    header: &Decoded,
-) -> Decoded
-    requires { IsIndexArchive W.word W.LIMIT K.spec V.spec archive.now
-        × IsHeaderOf (index_in W.word K.spec V.spec archive.now) header.now }
-    ensures archive { IsIndexArchive W.word W.LIMIT K.spec V.spec archive.now }
-    ensures header { IsHeaderOf (index_in W.word K.spec V.spec archive.now) result }
-{
-    *header
 }
 
 /// Returns the index map in a valid archive, by its decoded header.
@@ -59,41 +39,32 @@ pub(crate) fn index_of<'a, K: Element, V: Element, W: IndexWidth>(
     ArchivedIndexMap::with_header(root, *header)
 }
 
-/// Looks up a key in a valid archive, and stores the index and the value of its pair in `found`.
+/// Looks up a key in a valid archive, and returns the index and the value of its pair.
 ///
-/// # Errors
-///
-/// - `NOT_FOUND`: the lookup doesn't find the key; `found` is unchanged then.
+/// Returns `None` if the lookup doesn't find the key.
 #[inline]
 pub(crate) fn find_in<
     'a,
     A: NativeKey<K>,
-    Y: Copy,
     B,
-    I: IndexedOf<Y>,
     K: KeyElement + Represents<A>,
-    V: ReadAs<'a, Y> + StoresNative<Y, B>,
+    V: StoredValue<B>,
     W: IndexWidth,
->(archive: &'a [u8], header: &Decoded, key: &A, found: &mut I) -> u32
+>(archive: &'a [u8], header: &Decoded, key: &A) -> Option<IndexedValue<'a>>
     requires archive { IsIndexArchive W.word W.LIMIT K.spec V.spec archive.now }
     requires header { IsHeaderOf (index_in W.word K.spec V.spec archive.now) header.now }
-    ensures outcome { let m = index_in W.word K.spec V.spec archive.now in ReturnsIndexed m V.reads
-        (found_index m (A.calls key.now) (A.fits key.now archive.now)) (I.indexed_of found.old)
-        result (I.indexed_of found.new) }
-    ensures listed { ReturnsFirstIndexed (index_in W.word K.spec V.spec archive.now)
-        (query_of_key K.represents K.key_calls (A.eq key.now)) V.represents V.is_of
-        (I.indexed_of found.old) result (I.indexed_of found.new) }
+    ensures finds { let m = index_in W.word K.spec V.spec archive.now in FindsIndexed m V.any
+        (found_index m (A.calls key.now) (A.fits key.now archive.now)) result }
+    ensures first { FindsFirstIndexed (index_in W.word K.spec V.spec archive.now)
+        (query_of_key K.represents K.key_calls (A.eq key.now)) V.represents V.is_of result }
 {
     lookups_find_listed::<A, B, K, V, FxHasher64, W>();
     match index_of::<K, V, W>(archive, header).get_full(key) {
-        Some((index, _, value)) => {
-            *found = I::of_indexed(Indexed {
-                index,
-                value: V::read_as(value),
-            });
-            DONE
-        }
-        None => NOT_FOUND,
+        Some((index, _, value)) => Some(IndexedValue {
+            index,
+            value: V::to_any(value),
+        }),
+        None => None,
     }
 }
 

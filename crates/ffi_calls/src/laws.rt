@@ -7,12 +7,11 @@ ghost use Rattle.rkyv_keys.specs.{fx_format};
 ghost use Rattle.ffi_calls.specs.{ArchivesRepresent, IndexesRepresent, SetArchivesRepresent};
 ghost use Rattle.ffi_calls.specs.{WalksVisitListed, archive_width, fx_pairs, index_width};
 
-use crate::any_value::{AnyItem, AnyPair, AnyValue};
+use crate::any_value::{AnyItem, AnyPair, AnyValue, IndexedValue};
 use crate::collection::{Collection, KeyType, ValueType};
 use crate::containers::Codes;
 use crate::explanation::Explanation;
 use crate::form::Form;
-use crate::pairs::{Indexed, IndexedOf};
 use rkyv_base::{Archive, Represents, Width};
 use rkyv_collections::map::laws::walks_visit_each;
 use rkyv_collections::{FxHasher64, KeyElement, NativeKey};
@@ -61,11 +60,6 @@ where
         (fx_pairs K.represents V.represents K.key_calls) }
 {}
 
-/// States that a call stores an `Indexed` as it is.
-pub fn indices_are_stored_as_they_are<V: Copy>()
-    ensures { (x : _) → ⟦<Indexed<V> as IndexedOf<V>>⟧.indexed_of x ≡ x }
-{}
-
 /// States that a clone of codes, forms, collections, explanations, values and items is the value
 /// itself.
 ///
@@ -83,6 +77,8 @@ pub fn clones_are_the_same<'a>()
         ↔ (clone ≡ a) }
     ensures any_pair { (a clone : _) → ⟦<AnyPair<'a> as Clone>⟧.is_clone a clone ↔ (clone ≡ a) }
     ensures any_item { (a clone : _) → ⟦<AnyItem<'a> as Clone>⟧.is_clone a clone ↔ (clone ≡ a) }
+    ensures indexed { (a clone : _) → ⟦<IndexedValue<'a> as Clone>⟧.is_clone a clone
+        ↔ (clone ≡ a) }
     ensures infallible_codes { (a : Codes) → ⟦<Codes as Clone>⟧.is_infallible a }
     ensures infallible_form { (a : Form) → ⟦<Form as Clone>⟧.is_infallible a }
     ensures infallible_key { (a : KeyType) → ⟦<KeyType as Clone>⟧.is_infallible a }
@@ -92,14 +88,5 @@ pub fn clones_are_the_same<'a>()
     ensures infallible_any_value { (a : _) → ⟦<AnyValue<'a> as Clone>⟧.is_infallible a }
     ensures infallible_any_item { (a : _) → ⟦<AnyItem<'a> as Clone>⟧.is_infallible a }
     ensures infallible_any_pair { (a : _) → ⟦<AnyPair<'a> as Clone>⟧.is_infallible a }
-{}
-
-/// States that indexed values are cloned by their parts.
-///
-/// Cloning one fails only if cloning its value does.
-pub fn indices_are_cloned_by_their_parts<V: Clone>()
-    ensures indexed { (x clone : _) → ⟦<Indexed<V> as Clone>⟧.is_clone x clone
-        ↔ ((clone.index ≡ x.index) × V.is_clone x.value clone.value) }
-    ensures infallible_indexed { (x : _) → ⟦<Indexed<V> as Clone>⟧.is_infallible x
-        ↔ V.is_infallible x.value }
+    ensures infallible_indexed { (a : _) → ⟦<IndexedValue<'a> as Clone>⟧.is_infallible a }
 {}

@@ -2,21 +2,20 @@
 //!
 //! - `collection` validates archives and decodes their headers, by the codes of their contents.
 //!   `misplaced` counts the keys that a lookup of the key itself doesn't find.
-//! - `numbers` and `texts` look up, overwrite and walk maps to numbers.
-//! - `numbers_to_texts` and `texts_to_texts` are the same for maps to texts, without overwrites.
-//! - `number_sets` and `text_sets` are the same for sets.
-//! - `index_numbers`, `index_texts`, `index_numbers_to_texts` and `index_texts_to_texts` look up in
-//!   and read index maps, and share the calls of `index`. The first two overwrite too.
+//! - `numbers` and `texts` look up in maps to numbers, `numbers_to_texts` and `texts_to_texts` in
+//!   maps to texts, and `number_sets` and `text_sets` in sets.
+//! - `index_lookup` looks up in any index map and index set.
+//! - `overwrite` overwrites values that are numbers, in any map.
 //! - `iteration` stores the items of any collection, by the codes of its contents.
 //! - `building` writes the archive of a list of items as any collection, and leaks its bytes to the
 //!   caller.
 //! - `containers` writes the headers of containers, opens containers, and updates their checksums.
-//! - `any_value` and `from_any` have keys and values of any type, `pairs` the results of lookups in
-//!   index maps, and `reading` the form of keys and values.
+//! - `any_value` and `from_any` have keys and values of any type, and `reading` the form of keys and
+//!   values.
 //! - `explanation` explains the first error of an archive or of a container, with its numbers.
 //! - `form` has the two flags of a map's form, and `status` the statuses that calls return.
-//! - `laws` states that archives represent their lists, that walks visit each pair once, that the
-//!   results of `pairs` are stored as they are, and that clones are equal to their values.
+//! - `laws` states that archives represent their lists, that walks visit each pair once, and that
+//!   clones are equal to their values.
 #![tactic(auto)]
 
 pub mod any_value;
@@ -29,10 +28,7 @@ pub mod form;
 pub mod from_any;
 mod index;
 mod index_in_place;
-pub mod index_numbers;
-pub mod index_numbers_to_texts;
-pub mod index_texts;
-pub mod index_texts_to_texts;
+pub mod index_lookup;
 pub mod iteration;
 pub mod laws;
 mod lookup;
@@ -40,7 +36,7 @@ pub mod misplaced;
 pub mod number_sets;
 pub mod numbers;
 pub mod numbers_to_texts;
-pub mod pairs;
+pub mod overwrite;
 pub mod reading;
 mod sets;
 pub mod status;

@@ -2,13 +2,12 @@
 //!
 //! All calls require a valid archive.
 
-ghost use Rattle.ffi_calls.specs.{IsHeaderOf, IsNumberArchive, KeepsHeader, ReturnsFirstNumber};
-ghost use Rattle.ffi_calls.specs.{ReturnsNumber, SetsFirstNumber, SetsNumber};
+ghost use Rattle.ffi_calls.specs.{IsHeaderOf, IsNumberArchive, ReturnsFirstNumber, ReturnsNumber};
 ghost use Rattle.ffi_calls.specs.{numbers_at, numbers_in};
 
 use crate::archives::typed_header;
 use crate::form::Form;
-use crate::lookup::{get_in, set_in};
+use crate::lookup::get_in;
 use crate::reading::NumberKey;
 use rkyv_base::{Narrow, Wide};
 use rkyv_table::table::decoded::Decoded;
@@ -63,37 +62,5 @@ pub fn get_number<K: NumberKey>(
             &key,
             value,
         ),
-    }
-}
-
-/// Looks up a key, and overwrites its value in place.
-///
-/// The archive stays valid, and its header is unchanged.
-///
-/// # Requires
-///
-/// - The archive is valid: `open_archive` returned `DONE` for the map's codes.
-///
-/// # Errors
-///
-/// - `VALUE_TOO_LARGE`: the values of the map have 32 bits and the new one has more.
-/// - `NOT_FOUND`: the lookup doesn't find the key.
-///
-/// After an error no byte is changed.
-pub fn set_number<K: NumberKey>(archive: &mut [u8], form: Form, key: K, value: u64) -> u32
-    requires { IsNumberArchive K.NumberKey form archive.old }
-    ensures kept { IsNumberArchive K.NumberKey form archive.new }
-    ensures header { KeepsHeader (numbers_in K.NumberKey form archive.old) (numbers_in K.NumberKey
-        form archive.new) }
-    ensures sets { SetsNumber (numbers_at K.NumberKey form archive.old) key value result
-        archive.new }
-    ensures listed { SetsFirstNumber (numbers_at K.NumberKey form archive.old) key value result
-        archive.new }
-{
-    match (form.long_values, form.wide) {
-        (false, false) => set_in::<K, K, u32, Narrow>(archive, &key, value),
-        (true, false) => set_in::<K, K, u64, Narrow>(archive, &key, value),
-        (false, true) => set_in::<K, K, u32, Wide>(archive, &key, value),
-        (true, true) => set_in::<K, K, u64, Wide>(archive, &key, value),
     }
 }

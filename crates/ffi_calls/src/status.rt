@@ -19,7 +19,8 @@ pub const VALUE_TOO_LARGE: u32 = 3;
 /// The bytes of a key, a value or an item aren't UTF-8.
 pub const NOT_TEXT: u32 = 4;
 
-/// No contents of a container, or no collection of this library, have the codes.
+/// No contents of a container, or no collection of this library, have the codes. Or the call isn't
+/// for collections with the codes.
 pub const UNKNOWN_CODES: u32 = 7;
 
 /// An allocation failed.

@@ -4,14 +4,12 @@
 
 ghost use Rattle.std.specs.Prelude.{IsTrue, MatchOption, ◌↔◌, ◌≡◌};
 ghost use Rattle.std.specs.Str.{IsUtf8};
-ghost use Rattle.ffi_calls.specs.{IsHeaderOf, IsTextArchive, KeepsHeader, OverwritesText};
-ghost use Rattle.ffi_calls.specs.{ReadsWord, ReturnsAt, ReturnsFirstText, ReturnsText};
-ghost use Rattle.ffi_calls.specs.{SetsFirstText, SetsText, text_found, texts_in};
-ghost use Rattle.ffi_calls.specs.{word_of};
+ghost use Rattle.ffi_calls.specs.{IsHeaderOf, IsTextArchive, ReadsWord, ReturnsAt};
+ghost use Rattle.ffi_calls.specs.{ReturnsFirstText, ReturnsText, text_found, texts_in, word_of};
 
 use crate::archives::typed_header;
 use crate::form::Form;
-use crate::lookup::{get_in, set_in};
+use crate::lookup::get_in;
 use crate::status::NOT_TEXT;
 use rkyv_base::{Narrow, Text, Wide};
 use rkyv_table::table::decoded::Decoded;
@@ -92,48 +90,6 @@ pub fn get_text(archive: &[u8], form: Form, header: &Decoded, key: &[u8], value:
 {
     match text_of(key) {
         Some(text) => get_of(archive, form, header, text, value),
-        None => NOT_TEXT,
-    }
-}
-
-/// Looks up a text, and overwrites its value in place.
-fn set_of(archive: &mut [u8], form: Form, key: &str, value: u64) -> u32
-    requires { IsTextArchive form archive.old }
-    ensures { OverwritesText form archive.old key.now value result archive.new }
-{
-    match (form.long_values, form.wide) {
-        (false, false) => set_in::<&str, Text<Narrow>, u32, Narrow>(archive, &key, value),
-        (true, false) => set_in::<&str, Text<Narrow>, u64, Narrow>(archive, &key, value),
-        (false, true) => set_in::<&str, Text<Wide>, u32, Wide>(archive, &key, value),
-        (true, true) => set_in::<&str, Text<Wide>, u64, Wide>(archive, &key, value),
-    }
-}
-
-/// Looks up a key, and overwrites its value in place.
-///
-/// The archive stays valid, and its header is unchanged.
-///
-/// # Requires
-///
-/// - The archive is valid: `open_archive` returned `DONE` for the map's codes.
-///
-/// # Errors
-///
-/// - `NOT_TEXT`: the bytes of the key aren't UTF-8.
-/// - `VALUE_TOO_LARGE`: the values of the map have 32 bits and the new one has more.
-/// - `NOT_FOUND`: the lookup doesn't find the key.
-///
-/// After an error no byte is changed.
-pub fn set_text(archive: &mut [u8], form: Form, key: &[u8], value: u64) -> u32
-    requires { IsTextArchive form archive.old }
-    ensures kept { IsTextArchive form archive.new }
-    ensures header { KeepsHeader (texts_in form archive.old) (texts_in form archive.new) }
-    ensures sets { SetsText form archive.old key.now value result archive.new }
-    ensures listed { IsUtf8 key.now
-        → SetsFirstText form archive.old key.now value result archive.new }
-{
-    match text_of(key) {
-        Some(text) => set_of(archive, form, text, value),
         None => NOT_TEXT,
     }
 }
