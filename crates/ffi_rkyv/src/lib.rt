@@ -9,19 +9,12 @@
 
 mod archives;
 mod containers;
-mod index_long_lookups;
-mod index_long_numbers;
-mod index_lookups;
-mod index_numbers;
-mod index_text_lookups;
-mod index_text_value_lookups;
-mod index_texts;
+mod index_lookup;
 mod interface;
 mod long_lookups;
-mod long_numbers;
 mod lookups;
-mod numbers;
-mod pairs;
+mod overwrite;
 mod set_lookups;
+mod text_value;
 mod text_value_lookups;
 mod texts;

@@ -9,7 +9,7 @@ ghost use Rattle.ffi_calls.specs.{ReturnsFirstTextOfNumber, ReturnsFirstTextOfTe
 ghost use Rattle.ffi_calls.specs.{ReturnsTextOfNumber, ReturnsTextOfText, long_key, number_keys_at};
 ghost use Rattle.ffi_calls.specs.{number_texts_in, short_key, text_texts_in};
 
-use crate::pairs::TextValue;
+use crate::text_value::TextValue;
 use ffi_calls::numbers_to_texts::get_text_of_number;
 use ffi_calls::texts_to_texts::get_text_of_text;
 use rkyv_table::table::decoded::Decoded;
