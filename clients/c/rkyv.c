@@ -30,18 +30,6 @@ typedef struct text {
     size_t length;
 } text;
 
-/* The index of a pair that a lookup in an index map has found, and its value. */
-typedef struct indexed {
-    size_t index;
-    uint64_t value;
-} indexed;
-
-/* The index of a pair that a lookup in an index map has found, and its value, a text. */
-typedef struct indexed_text {
-    size_t index;
-    text value;
-} indexed_text;
-
 /* A key or a value of any type: a number or a text. The other member is 0, or a text of no bytes. */
 typedef struct any_value {
     uint64_t number;
@@ -60,6 +48,12 @@ typedef struct any_item {
     any_value key;
     any_value value;
 } any_item;
+
+/* The index of a pair that a lookup in an index map has found, and its value. */
+typedef struct indexed_value {
+    size_t index;
+    any_value value;
+} indexed_value;
 
 /* The calls that look up. Each is of one type of values and one width. */
 typedef uint32_t get_number(const uint8_t *archive, size_t length, const rkyv_table_header *header,
@@ -84,33 +78,6 @@ typedef uint32_t contains_text(const uint8_t *archive, size_t length,
                                const rkyv_table_header *header, const uint8_t *item,
                                size_t item_length);
 
-/* The same for index maps. They store the index of the pair too. */
-typedef uint32_t index_get_number(const uint8_t *archive, size_t length,
-                                  const rkyv_table_header *header, uint32_t key, indexed *found);
-typedef uint32_t index_get_long_number(const uint8_t *archive, size_t length,
-                                       const rkyv_table_header *header, uint64_t key,
-                                       indexed *found);
-typedef uint32_t index_get_text(const uint8_t *archive, size_t length,
-                                const rkyv_table_header *header, const uint8_t *key,
-                                size_t key_length, indexed *found);
-typedef uint32_t index_get_text_of_number(const uint8_t *archive, size_t length,
-                                          const rkyv_table_header *header, uint32_t key,
-                                          indexed_text *found);
-typedef uint32_t index_get_text_of_long_number(const uint8_t *archive, size_t length,
-                                               const rkyv_table_header *header, uint64_t key,
-                                               indexed_text *found);
-typedef uint32_t index_get_text_of_text(const uint8_t *archive, size_t length,
-                                        const rkyv_table_header *header, const uint8_t *key,
-                                        size_t key_length, indexed_text *found);
-
-/* The calls that write a value in place. */
-typedef uint32_t set_number(uint8_t *archive, size_t length, bool longer, bool wide, uint32_t key,
-                            uint64_t value);
-typedef uint32_t set_long_number(uint8_t *archive, size_t length, bool longer, bool wide,
-                                 uint64_t key, uint64_t value);
-typedef uint32_t set_text(uint8_t *archive, size_t length, bool longer, bool wide,
-                          const uint8_t *key, size_t key_length, uint64_t value);
-
 #ifdef __cplusplus
 extern "C" {
 #endif
@@ -132,30 +99,14 @@ get_text_of_text rkyv_c_get_text_of_text_narrow, rkyv_c_get_text_of_text_wide;
 contains_number rkyv_c_contains_number_narrow, rkyv_c_contains_number_wide;
 contains_long_number rkyv_c_contains_long_number_narrow, rkyv_c_contains_long_number_wide;
 contains_text rkyv_c_contains_text_narrow, rkyv_c_contains_text_wide;
-index_get_number rkyv_c_index_get_number_u32_narrow, rkyv_c_index_get_number_u64_narrow;
-index_get_number rkyv_c_index_get_number_u32_wide, rkyv_c_index_get_number_u64_wide;
-index_get_long_number rkyv_c_index_get_long_number_u32_narrow;
-index_get_long_number rkyv_c_index_get_long_number_u64_narrow;
-index_get_long_number rkyv_c_index_get_long_number_u32_wide;
-index_get_long_number rkyv_c_index_get_long_number_u64_wide;
-index_get_text rkyv_c_index_get_text_u32_narrow, rkyv_c_index_get_text_u64_narrow;
-index_get_text rkyv_c_index_get_text_u32_wide, rkyv_c_index_get_text_u64_wide;
-index_get_text_of_number rkyv_c_index_get_text_of_number_narrow;
-index_get_text_of_number rkyv_c_index_get_text_of_number_wide;
-index_get_text_of_long_number rkyv_c_index_get_text_of_long_number_narrow;
-index_get_text_of_long_number rkyv_c_index_get_text_of_long_number_wide;
-index_get_text_of_text rkyv_c_index_get_text_of_text_narrow, rkyv_c_index_get_text_of_text_wide;
-set_number rkyv_c_set_number, rkyv_c_index_set_number;
-set_long_number rkyv_c_set_long_number, rkyv_c_index_set_long_number;
-set_text rkyv_c_set_text, rkyv_c_index_set_text;
 bool rkyv_c_is_text(const uint8_t *bytes, size_t length);
 
 /* A function without effect, whose name has the number of the library's interface: these files do not
  * link with a library of another interface. */
 void rkyv_c_interface_2(void);
 
-/* The library's functions that open archives, iterate, count misplaced keys and build, and those for
- * containers, by the codes of their contents. */
+/* The library's functions that open archives, iterate, look up in index maps, write in place, count
+ * misplaced keys and build, and those for containers, by the codes of their contents. */
 uint32_t rkyv_c_open(const uint8_t *archive, size_t length, uint8_t collection, uint8_t key,
                      uint8_t value, uint8_t width);
 void rkyv_c_explain(const uint8_t *archive, size_t length, uint8_t collection, uint8_t key,
@@ -165,6 +116,11 @@ void rkyv_c_decode(const uint8_t *archive, size_t length, uint8_t collection, ui
 size_t rkyv_c_next(const uint8_t *archive, size_t length, uint8_t collection, uint8_t key,
                    uint8_t value, uint8_t width, const rkyv_table_header *header, uint64_t from,
                    any_item *items, size_t room);
+uint32_t rkyv_c_index_get(const uint8_t *archive, size_t length, uint8_t collection, uint8_t key,
+                          uint8_t value, uint8_t width, const rkyv_table_header *header,
+                          const any_value *of, indexed_value *found);
+uint32_t rkyv_c_set(uint8_t *archive, size_t length, uint8_t collection, uint8_t key, uint8_t value,
+                    uint8_t width, const any_value *of, uint64_t number);
 uint32_t rkyv_c_misplaced_up_to(const uint8_t *archive, size_t length, uint8_t collection,
                                 uint8_t key, uint8_t value, uint8_t width,
                                 const rkyv_table_header *header, uint64_t limit, uint64_t *count);
@@ -267,15 +223,6 @@ static get_long_number *const get_long_numbers[2][2] = {
 static get_text *const get_texts[2][2] = {
     {rkyv_c_get_text_u32_narrow, rkyv_c_get_text_u32_wide},
     {rkyv_c_get_text_u64_narrow, rkyv_c_get_text_u64_wide}};
-static index_get_number *const index_get_numbers[2][2] = {
-    {rkyv_c_index_get_number_u32_narrow, rkyv_c_index_get_number_u32_wide},
-    {rkyv_c_index_get_number_u64_narrow, rkyv_c_index_get_number_u64_wide}};
-static index_get_long_number *const index_get_long_numbers[2][2] = {
-    {rkyv_c_index_get_long_number_u32_narrow, rkyv_c_index_get_long_number_u32_wide},
-    {rkyv_c_index_get_long_number_u64_narrow, rkyv_c_index_get_long_number_u64_wide}};
-static index_get_text *const index_get_texts[2][2] = {
-    {rkyv_c_index_get_text_u32_narrow, rkyv_c_index_get_text_u32_wide},
-    {rkyv_c_index_get_text_u64_narrow, rkyv_c_index_get_text_u64_wide}};
 
 /* The functions that look up, by the width. */
 static get_text_of_number *const get_texts_of_numbers[2] = {rkyv_c_get_text_of_number_narrow,
@@ -284,12 +231,6 @@ static get_text_of_long_number *const get_texts_of_long_numbers[2] = {
     rkyv_c_get_text_of_long_number_narrow, rkyv_c_get_text_of_long_number_wide};
 static get_text_of_text *const get_texts_of_texts[2] = {rkyv_c_get_text_of_text_narrow,
                                                         rkyv_c_get_text_of_text_wide};
-static index_get_text_of_number *const index_get_texts_of_numbers[2] = {
-    rkyv_c_index_get_text_of_number_narrow, rkyv_c_index_get_text_of_number_wide};
-static index_get_text_of_long_number *const index_get_texts_of_long_numbers[2] = {
-    rkyv_c_index_get_text_of_long_number_narrow, rkyv_c_index_get_text_of_long_number_wide};
-static index_get_text_of_text *const index_get_texts_of_texts[2] = {
-    rkyv_c_index_get_text_of_text_narrow, rkyv_c_index_get_text_of_text_wide};
 static contains_number *const contain_numbers[2] = {rkyv_c_contains_number_narrow,
                                                     rkyv_c_contains_number_wide};
 static contains_long_number *const contain_long_numbers[2] = {rkyv_c_contains_long_number_narrow,
@@ -841,98 +782,93 @@ rkyv_status rkyv_set_contains_text(const rkyv_map *set, const char *item, size_t
     return status;
 }
 
-/* Stores the index and the number that were found. An output that is null is not stored. */
-static rkyv_status store_indexed(rkyv_status status, indexed found, size_t *index,
-                                 uint64_t *value) {
+/* A number, as the library takes keys. */
+static any_value any_number(uint64_t number) {
+    const any_value any = {number, {NO_TEXT, 0}};
+    return any;
+}
+
+/* A text, as the library takes keys. */
+static any_value any_text(const char *text, size_t length) {
+    const any_value any = {0, {text != NULL ? text : NO_TEXT, length}};
+    return any;
+}
+
+/* Looks up a key of an open index map, unless the status is an error. Stores the index that is found,
+ * and the value in `found`, which is a number 0 or a text of no bytes after an error. */
+static rkyv_status index_get(rkyv_status status, const rkyv_map *map, any_value key, size_t *index,
+                             any_value *value) {
+    indexed_value found = {0, {0, {NO_TEXT, 0}}};
+    if (status == RKYV_OK) {
+        const contents *of = &kinds[map->kind];
+        status = (rkyv_status)rkyv_c_index_get(map->bytes, map->length, of->collection, of->key,
+                                               of->value, width_code(is_wide(map)), &map->header,
+                                               &key, &found);
+    }
     if (status == RKYV_OK && index != NULL) {
         *index = found.index;
     }
-    return store_number(status, found.value, value);
+    *value = found.value;
+    return status;
+}
+
+/* The same for a value that is a number. An output that is null is not stored. */
+static rkyv_status index_get_number(rkyv_status status, const rkyv_map *map, any_value key,
+                                    size_t *index, uint64_t *value) {
+    any_value found;
+    status = index_get(status, map, key, index, &found);
+    return store_number(status, found.number, value);
+}
+
+/* The same for a value that is a text. */
+static rkyv_status index_get_text(rkyv_status status, const rkyv_map *map, any_value key,
+                                  size_t *index, const char **value, size_t *value_length) {
+    any_value found;
+    status = index_get(status, map, key, index, &found);
+    return store_text(status, found.bytes, value, value_length);
 }
 
 rkyv_status rkyv_index_get_number(const rkyv_index_map *map, uint32_t key, size_t *index,
                                   uint64_t *value) {
-    indexed found = {0, 0};
     const rkyv_map *of = map_of(map);
-    rkyv_status status = check_numbers(of, RKYV_INDEX_NUMBER_TO_U32);
-    if (status == RKYV_OK) {
-        index_get_number *get = index_get_numbers[of->kind - RKYV_INDEX_NUMBER_TO_U32][is_wide(of)];
-        status = (rkyv_status)get(of->bytes, of->length, &of->header, key, &found);
-    }
-    return store_indexed(status, found, index, value);
+    const rkyv_status status = check_numbers(of, RKYV_INDEX_NUMBER_TO_U32);
+    return index_get_number(status, of, any_number(key), index, value);
 }
 
 rkyv_status rkyv_index_get_long_number(const rkyv_index_map *map, uint64_t key, size_t *index,
                                        uint64_t *value) {
-    indexed found = {0, 0};
     const rkyv_map *of = map_of(map);
-    rkyv_status status = check_numbers(of, RKYV_INDEX_LONG_NUMBER_TO_U32);
-    if (status == RKYV_OK) {
-        const uint32_t longer = of->kind - RKYV_INDEX_LONG_NUMBER_TO_U32;
-        index_get_long_number *get = index_get_long_numbers[longer][is_wide(of)];
-        status = (rkyv_status)get(of->bytes, of->length, &of->header, key, &found);
-    }
-    return store_indexed(status, found, index, value);
+    const rkyv_status status = check_numbers(of, RKYV_INDEX_LONG_NUMBER_TO_U32);
+    return index_get_number(status, of, any_number(key), index, value);
 }
 
 rkyv_status rkyv_index_get_text(const rkyv_index_map *map, const char *key, size_t length,
                                 size_t *index, uint64_t *value) {
-    indexed found = {0, 0};
     const rkyv_map *of = map_of(map);
     rkyv_status status = first(check_numbers(of, RKYV_INDEX_TEXT_TO_U32), check_bytes(key, length));
-    if (status == RKYV_OK) {
-        index_get_text *get = index_get_texts[of->kind - RKYV_INDEX_TEXT_TO_U32][is_wide(of)];
-        status = (rkyv_status)get(of->bytes, of->length, &of->header, bytes_of(key), length,
-                                  &found);
-    }
-    return store_indexed(status, found, index, value);
-}
-
-/* Stores the index and the text that were found. An output that is null is not stored. */
-static rkyv_status store_indexed_text(rkyv_status status, indexed_text found, size_t *index,
-                                      const char **value, size_t *value_length) {
-    if (status == RKYV_OK && index != NULL) {
-        *index = found.index;
-    }
-    return store_text(status, found.value, value, value_length);
+    return index_get_number(status, of, any_text(key, length), index, value);
 }
 
 rkyv_status rkyv_index_get_text_of_number(const rkyv_index_map *map, uint32_t key, size_t *index,
                                           const char **value, size_t *value_length) {
-    indexed_text found = {0, {NO_TEXT, 0}};
     const rkyv_map *of = map_of(map);
-    rkyv_status status = check_kind(of, RKYV_INDEX_NUMBER_TO_TEXT);
-    if (status == RKYV_OK) {
-        index_get_text_of_number *get = index_get_texts_of_numbers[is_wide(of)];
-        status = (rkyv_status)get(of->bytes, of->length, &of->header, key, &found);
-    }
-    return store_indexed_text(status, found, index, value, value_length);
+    const rkyv_status status = check_kind(of, RKYV_INDEX_NUMBER_TO_TEXT);
+    return index_get_text(status, of, any_number(key), index, value, value_length);
 }
 
 rkyv_status rkyv_index_get_text_of_long_number(const rkyv_index_map *map, uint64_t key,
                                                size_t *index, const char **value,
                                                size_t *value_length) {
-    indexed_text found = {0, {NO_TEXT, 0}};
     const rkyv_map *of = map_of(map);
-    rkyv_status status = check_kind(of, RKYV_INDEX_LONG_NUMBER_TO_TEXT);
-    if (status == RKYV_OK) {
-        index_get_text_of_long_number *get = index_get_texts_of_long_numbers[is_wide(of)];
-        status = (rkyv_status)get(of->bytes, of->length, &of->header, key, &found);
-    }
-    return store_indexed_text(status, found, index, value, value_length);
+    const rkyv_status status = check_kind(of, RKYV_INDEX_LONG_NUMBER_TO_TEXT);
+    return index_get_text(status, of, any_number(key), index, value, value_length);
 }
 
 rkyv_status rkyv_index_get_text_of_text(const rkyv_index_map *map, const char *key, size_t length,
                                         size_t *index, const char **value, size_t *value_length) {
-    indexed_text found = {0, {NO_TEXT, 0}};
     const rkyv_map *of = map_of(map);
     rkyv_status status = first(check_kind(of, RKYV_INDEX_TEXT_TO_TEXT), check_bytes(key, length));
-    if (status == RKYV_OK) {
-        index_get_text_of_text *get = index_get_texts_of_texts[is_wide(of)];
-        status = (rkyv_status)get(of->bytes, of->length, &of->header, bytes_of(key), length,
-                                  &found);
-    }
-    return store_indexed_text(status, found, index, value, value_length);
+    return index_get_text(status, of, any_text(key, length), index, value, value_length);
 }
 
 /* RKYV_OK if the values of an open map may be written. */
@@ -949,69 +885,57 @@ static rkyv_status check_outside(const void *argument, size_t length, const void
     return length != 0 && overlaps ? RKYV_OVERLAP : RKYV_OK;
 }
 
-/* Writes the value of a number key in a map of the kind or of the one behind it. */
-static rkyv_status write_number(const rkyv_map *map, uint32_t kind, set_number *set, uint32_t key,
-                                uint64_t value) {
-    rkyv_status status = first(check_numbers(map, kind), check_writable(map));
+/* Writes the value of a key of an open map, whose values are numbers, unless the status is an error. */
+static rkyv_status set(rkyv_status status, const rkyv_map *map, any_value key, uint64_t value) {
     if (status == RKYV_OK) {
-        status = (rkyv_status)set(map->writable, map->length, has_long_values(map->kind),
-                                  is_wide(map), key, value);
+        const contents *of = &kinds[map->kind];
+        status = (rkyv_status)rkyv_c_set(map->writable, map->length, of->collection, of->key,
+                                         of->value, width_code(is_wide(map)), &key, value);
     }
     return status;
 }
 
-/* Writes the value of a number key of 64 bits in a map of the kind or of the one behind it. */
-static rkyv_status write_long_number(const rkyv_map *map, uint32_t kind, set_long_number *set,
-                                     uint64_t key, uint64_t value) {
-    rkyv_status status = first(check_numbers(map, kind), check_writable(map));
-    if (status == RKYV_OK) {
-        status = (rkyv_status)set(map->writable, map->length, has_long_values(map->kind),
-                                  is_wide(map), key, value);
-    }
-    return status;
+/* Writes the value of a number key in a map of the kind or of the one behind it. */
+static rkyv_status set_number(const rkyv_map *map, uint32_t kind, uint64_t key, uint64_t value) {
+    const rkyv_status status = first(check_numbers(map, kind), check_writable(map));
+    return set(status, map, any_number(key), value);
 }
 
 /* Writes the value of a text key in a map of the kind or of the one behind it. */
-static rkyv_status write_text(const rkyv_map *map, uint32_t kind, set_text *set, const char *key,
-                              size_t length, uint64_t value) {
+static rkyv_status set_text(const rkyv_map *map, uint32_t kind, const char *key, size_t length,
+                            uint64_t value) {
     rkyv_status status = first(check_numbers(map, kind), check_bytes(key, length));
     status = first(status, check_writable(map));
     if (status == RKYV_OK) {
         status = check_outside(key, length, map->writable, map->length);
     }
-    if (status == RKYV_OK) {
-        status = (rkyv_status)set(map->writable, map->length, has_long_values(map->kind),
-                                  is_wide(map), bytes_of(key), length, value);
-    }
-    return status;
+    return set(status, map, any_text(key, length), value);
 }
 
 rkyv_status rkyv_map_set_number(rkyv_map *map, uint32_t key, uint64_t value) {
-    return write_number(map, RKYV_NUMBER_TO_U32, rkyv_c_set_number, key, value);
+    return set_number(map, RKYV_NUMBER_TO_U32, key, value);
 }
 
 rkyv_status rkyv_map_set_long_number(rkyv_map *map, uint64_t key, uint64_t value) {
-    return write_long_number(map, RKYV_LONG_NUMBER_TO_U32, rkyv_c_set_long_number, key, value);
+    return set_number(map, RKYV_LONG_NUMBER_TO_U32, key, value);
 }
 
 rkyv_status rkyv_map_set_text(rkyv_map *map, const char *key, size_t length,
                               uint64_t value) {
-    return write_text(map, RKYV_TEXT_TO_U32, rkyv_c_set_text, key, length, value);
+    return set_text(map, RKYV_TEXT_TO_U32, key, length, value);
 }
 
 rkyv_status rkyv_index_set_number(rkyv_index_map *map, uint32_t key, uint64_t value) {
-    return write_number(map_of(map), RKYV_INDEX_NUMBER_TO_U32, rkyv_c_index_set_number, key, value);
+    return set_number(map_of(map), RKYV_INDEX_NUMBER_TO_U32, key, value);
 }
 
 rkyv_status rkyv_index_set_long_number(rkyv_index_map *map, uint64_t key, uint64_t value) {
-    return write_long_number(map_of(map), RKYV_INDEX_LONG_NUMBER_TO_U32,
-                             rkyv_c_index_set_long_number, key, value);
+    return set_number(map_of(map), RKYV_INDEX_LONG_NUMBER_TO_U32, key, value);
 }
 
 rkyv_status rkyv_index_set_text(rkyv_index_map *map, const char *key, size_t length,
                                 uint64_t value) {
-    return write_text(map_of(map), RKYV_INDEX_TEXT_TO_U32, rkyv_c_index_set_text, key, length,
-                      value);
+    return set_text(map_of(map), RKYV_INDEX_TEXT_TO_U32, key, length, value);
 }
 
 /* An item that the library overwrites, since it takes no null pointers. */

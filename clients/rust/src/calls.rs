@@ -6,7 +6,7 @@
 
 use std::panic::{RefUnwindSafe, UnwindSafe};
 
-use crate::raw::{Indexed, Pair, RawMap, RawTableHeader, RawText, UNKNOWN_KIND};
+use crate::raw::{Pair, RawMap, RawTableHeader, RawText, RawValue};
 
 /// Allocates the archive of pairs `P` as a map of a kind, and returns the status.
 pub type Build<P> =
@@ -16,21 +16,19 @@ pub type Build<P> =
 /// build return a status.
 ///
 /// # Safety
-/// A map is open, with keys and values of these types, and its bytes are borrowed. `index_get`
-/// requires an index map, and `get` a hash map or a set. The texts of items are borrowed.
+/// A map is open, with keys and values of these types, and its bytes are borrowed. `get` requires a
+/// hash map or a set. The texts of items are borrowed.
 pub struct Calls<K: KeyCalls + ?Sized, V> {
     /// Looks up a key, and stores its value.
     pub get: unsafe fn(map: &RawMap, key: &K, value: &mut V) -> u32,
     /// Allocates the archive of the pairs as a map of a kind.
     pub build: Build<Pair<V, K::Raw>>,
-    /// Looks up a key in an index map, and stores the index and the value of its pair.
-    pub index_get: unsafe fn(map: &RawMap, key: &K, found: &mut Indexed<V>) -> u32,
 }
 
 /// The calls for a type of keys.
 pub trait KeyCalls: 'static {
     /// A key as the structs of the header have it.
-    type Raw: Copy + RefUnwindSafe + UnwindSafe;
+    type Raw: Copy + Into<RawValue> + RefUnwindSafe + UnwindSafe;
 
     /// The calls for values of type `u32`.
     const U32_VALUES: Calls<Self, u64>;
@@ -90,23 +88,14 @@ macro_rules! calls {
     (
         $type:ty, $raw:ty, $key:ident => ($($parameter:ident: $of:ty = $argument:expr),+),
         numbers: $build:ident $set:ident $index_set:ident,
-        values u32: $get:ident $get_wide:ident $index_get:ident $index_get_wide:ident,
-        values u64: $get_long:ident $get_long_wide:ident
-            $index_get_long:ident $index_get_long_wide:ident,
+        values u32: $get:ident $get_wide:ident,
+        values u64: $get_long:ident $get_long_wide:ident,
         texts: $build_text:ident,
-        values str: $get_text:ident $get_text_wide:ident
-            $index_get_text:ident $index_get_text_wide:ident,
+        values str: $get_text:ident $get_text_wide:ident,
         units: $build_set:ident $contains:ident $contains_wide:ident $(,)?
     ) => {
         calls!(get u64, ($($parameter: $of),+), $get $get_wide $get_long $get_long_wide);
         calls!(get RawText, ($($parameter: $of),+), $get_text $get_text_wide);
-        calls!(
-            get Indexed<u64>, ($($parameter: $of),+),
-            $index_get $index_get_wide $index_get_long $index_get_long_wide
-        );
-        calls!(
-            get Indexed<RawText>, ($($parameter: $of),+), $index_get_text $index_get_text_wide
-        );
 
         unsafe extern "C" {
             fn $contains(
@@ -158,17 +147,11 @@ macro_rules! calls {
                 build: |items, kind, width, bytes, length| {
                     build!(items, $build, kind, width, bytes, length)
                 },
-                index_get: |map, $key, found| {
-                    look_up!(map, $index_get, $index_get_wide, $($argument),+, found)
-                },
             };
 
             const U64_VALUES: Calls<$type, u64> = Calls {
                 get: |map, $key, value| {
                     look_up!(map, $get_long, $get_long_wide, $($argument),+, value)
-                },
-                index_get: |map, $key, found| {
-                    look_up!(map, $index_get_long, $index_get_long_wide, $($argument),+, found)
                 },
                 ..Self::U32_VALUES
             };
@@ -180,9 +163,6 @@ macro_rules! calls {
                 build: |items, kind, width, bytes, length| {
                     build!(items, $build_text, kind, width, bytes, length)
                 },
-                index_get: |map, $key, found| {
-                    look_up!(map, $index_get_text, $index_get_text_wide, $($argument),+, found)
-                },
             };
 
             const UNITS: Calls<$type, ()> = Calls {
@@ -190,7 +170,6 @@ macro_rules! calls {
                 build: |items, _kind, width, bytes, length| {
                     build!(items, $build_set, width, bytes, length)
                 },
-                index_get: |_map, _key, _found| UNKNOWN_KIND,
             };
 
             unsafe fn set(map: &mut RawMap, $key: &$type, value: u64) -> u32 {
@@ -225,13 +204,10 @@ calls! {
     u32, u32, key => (key: u32 = *key),
     numbers: rkyv_build_numbers
         rkyv_map_set_number rkyv_index_set_number,
-    values u32: rkyv_c_get_number_u32_narrow rkyv_c_get_number_u32_wide
-        rkyv_c_index_get_number_u32_narrow rkyv_c_index_get_number_u32_wide,
-    values u64: rkyv_c_get_number_u64_narrow rkyv_c_get_number_u64_wide
-        rkyv_c_index_get_number_u64_narrow rkyv_c_index_get_number_u64_wide,
+    values u32: rkyv_c_get_number_u32_narrow rkyv_c_get_number_u32_wide,
+    values u64: rkyv_c_get_number_u64_narrow rkyv_c_get_number_u64_wide,
     texts: rkyv_build_number_texts,
-    values str: rkyv_c_get_text_of_number_narrow rkyv_c_get_text_of_number_wide
-        rkyv_c_index_get_text_of_number_narrow rkyv_c_index_get_text_of_number_wide,
+    values str: rkyv_c_get_text_of_number_narrow rkyv_c_get_text_of_number_wide,
     units: rkyv_build_number_set
         rkyv_c_contains_number_narrow rkyv_c_contains_number_wide,
 }
@@ -240,13 +216,10 @@ calls! {
     u64, u64, key => (key: u64 = *key),
     numbers: rkyv_build_long_numbers
         rkyv_map_set_long_number rkyv_index_set_long_number,
-    values u32: rkyv_c_get_long_number_u32_narrow rkyv_c_get_long_number_u32_wide
-        rkyv_c_index_get_long_number_u32_narrow rkyv_c_index_get_long_number_u32_wide,
-    values u64: rkyv_c_get_long_number_u64_narrow rkyv_c_get_long_number_u64_wide
-        rkyv_c_index_get_long_number_u64_narrow rkyv_c_index_get_long_number_u64_wide,
+    values u32: rkyv_c_get_long_number_u32_narrow rkyv_c_get_long_number_u32_wide,
+    values u64: rkyv_c_get_long_number_u64_narrow rkyv_c_get_long_number_u64_wide,
     texts: rkyv_build_long_number_texts,
-    values str: rkyv_c_get_text_of_long_number_narrow rkyv_c_get_text_of_long_number_wide
-        rkyv_c_index_get_text_of_long_number_narrow rkyv_c_index_get_text_of_long_number_wide,
+    values str: rkyv_c_get_text_of_long_number_narrow rkyv_c_get_text_of_long_number_wide,
     units: rkyv_build_long_number_set
         rkyv_c_contains_long_number_narrow rkyv_c_contains_long_number_wide,
 }
@@ -255,13 +228,10 @@ calls! {
     str, RawText, key => (key: *const u8 = key.as_ptr(), key_length: usize = key.len()),
     numbers: rkyv_build_texts
         rkyv_map_set_text rkyv_index_set_text,
-    values u32: rkyv_c_get_text_u32_narrow rkyv_c_get_text_u32_wide
-        rkyv_c_index_get_text_u32_narrow rkyv_c_index_get_text_u32_wide,
-    values u64: rkyv_c_get_text_u64_narrow rkyv_c_get_text_u64_wide
-        rkyv_c_index_get_text_u64_narrow rkyv_c_index_get_text_u64_wide,
+    values u32: rkyv_c_get_text_u32_narrow rkyv_c_get_text_u32_wide,
+    values u64: rkyv_c_get_text_u64_narrow rkyv_c_get_text_u64_wide,
     texts: rkyv_build_text_texts,
-    values str: rkyv_c_get_text_of_text_narrow rkyv_c_get_text_of_text_wide
-        rkyv_c_index_get_text_of_text_narrow rkyv_c_index_get_text_of_text_wide,
+    values str: rkyv_c_get_text_of_text_narrow rkyv_c_get_text_of_text_wide,
     units: rkyv_build_text_set
         rkyv_c_contains_text_narrow rkyv_c_contains_text_wide,
 }

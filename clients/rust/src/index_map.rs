@@ -6,7 +6,7 @@ use std::marker::PhantomData;
 
 use crate::map::{found, within_limit};
 use crate::open::{Writable, INDEX, INDEX_CONTAINER};
-use crate::raw::{self, Indexed, RawItem, RawMap};
+use crate::raw::{self, RawIndexed, RawItem, RawMap};
 use crate::types::{codes, index_kind};
 use crate::{Error, Key, Number, Value, Width};
 
@@ -163,15 +163,12 @@ impl<'a, K: Key + ?Sized, V: Value + ?Sized> IndexMap<'a, K, V> {
 
     /// Returns the index and the value of a key, or `None` if the lookup doesn't find the key.
     fn find(&self, key: &K) -> Option<(usize, V::Ref<'a>)> {
-        let mut pair = Indexed {
-            index: 0,
-            value: V::NONE,
-        };
-        let get = V::calls::<K>().index_get;
-        // SAFETY: the map is open, of these types, and borrows its bytes.
-        let status = unsafe { get(&self.raw, key, &mut pair) };
+        let (key, mut pair) = (K::raw(key).into(), RawIndexed::NONE);
+        // SAFETY: the map is an open index map, of these types, and borrows its bytes. The key is
+        // borrowed.
+        let status = unsafe { self.raw.index_get(codes::<K, V>(true), &key, &mut pair) };
         // SAFETY: the value is one of the map, whose bytes are borrowed for 'a.
-        found(status).then(|| (pair.index, unsafe { V::of(pair.value.into()) }))
+        found(status).then(|| (pair.index, unsafe { V::of(pair.value) }))
     }
 
     /// Returns the value of a key, or `None` if the lookup doesn't find the key.

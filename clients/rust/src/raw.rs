@@ -1,5 +1,5 @@
-//! The declarations of `../c/rkyv.h`, and the call of the proved library that iterates. Those of a
-//! type of keys are in `calls`.
+//! The declarations of `../c/rkyv.h`, and the calls of the proved library that iterate and that look
+//! up in index maps. Those of a type of keys are in `calls`.
 
 use std::ffi::c_void;
 
@@ -88,6 +88,31 @@ impl RawMap {
         }
     }
 
+    /// Looks up a key, stores the index and the value of its pair, and returns the status.
+    ///
+    /// # Safety
+    /// The map is an open index map, its contents have these codes, and its bytes are borrowed. The
+    /// text of the key is borrowed.
+    pub unsafe fn index_get(&self, codes: Codes, key: &RawValue, found: &mut RawIndexed) -> u32 {
+        let width = if self.is_wide() { 8 } else { 4 };
+        // SAFETY: the caller ensures that the map is an open index map, and that its contents have
+        // these codes. So the bytes are a valid archive of the codes and the width, and the header is
+        // the decoded one. No text of the key or of `found` is null.
+        unsafe {
+            rkyv_c_index_get(
+                self.bytes,
+                self.length,
+                codes.kind,
+                codes.key,
+                codes.value,
+                width,
+                &self.header,
+                key,
+                found,
+            )
+        }
+    }
+
     /// Returns the handle without its pointers.
     pub fn decoded(self) -> Decoded {
         Decoded {
@@ -171,12 +196,26 @@ impl RawText {
     }
 }
 
-/// A key or a value of any type, as the library stores it: a number or a text.
+/// A key or a value of any type, as the library takes and stores it: a number or a text.
 #[repr(C)]
 #[derive(Clone, Copy)]
 pub struct RawValue {
     pub number: u64,
     pub bytes: RawText,
+}
+
+impl RawValue {
+    /// A value that a call overwrites, and the one of a unit.
+    pub const NONE: RawValue = RawValue {
+        number: 0,
+        bytes: RawText::NONE,
+    };
+}
+
+impl From<u32> for RawValue {
+    fn from(number: u32) -> Self {
+        u64::from(number).into()
+    }
 }
 
 impl From<u64> for RawValue {
@@ -194,7 +233,7 @@ impl From<RawText> for RawValue {
 
 impl From<()> for RawValue {
     fn from(_unit: ()) -> Self {
-        RawItem::NONE.value
+        RawValue::NONE
     }
 }
 
@@ -209,16 +248,10 @@ pub struct RawItem {
 
 impl RawItem {
     /// An item that a call overwrites.
-    pub const NONE: RawItem = {
-        let value = RawValue {
-            number: 0,
-            bytes: RawText::NONE,
-        };
-        RawItem {
-            next: 0,
-            key: value,
-            value,
-        }
+    pub const NONE: RawItem = RawItem {
+        next: 0,
+        key: RawValue::NONE,
+        value: RawValue::NONE,
     };
 }
 
@@ -234,9 +267,17 @@ pub struct Pair<V, K> {
 /// The index of a pair that a lookup in an index map has found, and its value.
 #[repr(C)]
 #[derive(Clone, Copy)]
-pub struct Indexed<V> {
+pub struct RawIndexed {
     pub index: usize,
-    pub value: V,
+    pub value: RawValue,
+}
+
+impl RawIndexed {
+    /// An index and a value that a call overwrites.
+    pub const NONE: RawIndexed = RawIndexed {
+        index: 0,
+        value: RawValue::NONE,
+    };
 }
 
 /// An error of opening, with its numbers: the `rkyv_error` of the header.
@@ -257,7 +298,7 @@ const _: () = {
     assert!(size_of::<Pair<RawText, u32>>() == 24 && size_of::<Pair<RawText, RawText>>() == 32);
     assert!(size_of::<Pair<(), u32>>() == 4 && size_of::<Pair<(), RawText>>() == 16);
     assert!(size_of::<RawValue>() == 24 && size_of::<RawItem>() == 56);
-    assert!(size_of::<Indexed<u64>>() == 16 && size_of::<Indexed<RawText>>() == 24);
+    assert!(size_of::<RawIndexed>() == 32);
 };
 
 pub const OK: u32 = 0;
@@ -284,6 +325,17 @@ unsafe extern "C" {
         items: *mut RawItem,
         room: usize,
     ) -> usize;
+    fn rkyv_c_index_get(
+        bytes: *const u8,
+        length: usize,
+        kind: u8,
+        key: u8,
+        value: u8,
+        width: u8,
+        header: &RawTableHeader,
+        of: &RawValue,
+        found: &mut RawIndexed,
+    ) -> u32;
     pub fn rkyv_map_open(
         bytes: *const c_void,
         length: usize,
