@@ -1,68 +1,92 @@
-//! Tests of overwrites in index maps of numbers and of texts.
+//! Tests of overwrites in index maps of numbers and of texts, and of those that no collection has.
 
-use crate::tests::expect_equal;
 use crate::tests::index_archives::{
-    EMPTY_TEXT, EMPTY_WIDE_TEXT, LONG_NUMBER_TWICE, NO_PAIRS, ONE_LONG_NUMBER, ONE_NUMBER,
-    ONE_NUMBER_TWICE, ONE_SYMBOL, ONE_WIDE_GREAT_NUMBER, ONE_WIDE_LONG_NUMBER, ONE_WIDE_NUMBER,
-    TWO_TEXTS,
+    EMPTY_TEXT, EMPTY_WIDE_TEXT, LONG_NUMBER_TWICE, NO_PAIRS, ONE_ITEM, ONE_LONG_NUMBER,
+    ONE_NUMBER, ONE_NUMBER_TWICE, ONE_SYMBOL, ONE_WIDE_GREAT_NUMBER, ONE_WIDE_LONG_NUMBER,
+    ONE_WIDE_NUMBER, TWO_TEXTS,
 };
-use crate::tests::opened::{CodedKey, text_index_header};
+use crate::tests::index_text_archives::ONE_TO_TEA;
+use crate::tests::opened::{
+    CodedKey, Contents, INDEX_MAP, INDEX_SET, MAP, SET, TEXT, U32, UNIT, any_text, codes,
+    header_in, overwrite, to_numbers,
+};
 use crate::tests::support::{GREAT, with_bytes};
+use crate::tests::{archives, expect_equal};
+use ffi_calls::any_value::{AnyValue, IndexedValue};
+use ffi_calls::containers::Codes;
 use ffi_calls::form::{Form, LONG, SHORT, WIDE, WIDE_LONG};
-use ffi_calls::index_numbers::{get_index_number, set_index_number};
-use ffi_calls::index_texts::{get_index_text, set_index_text};
-use ffi_calls::pairs::Indexed;
+use ffi_calls::index_lookup::get_indexed;
+use ffi_calls::overwrite::set_value;
 use std::process::Abort;
 
 // Returns the status of an overwrite, if the archive is valid before and after it.
 fn number<K: CodedKey>(archive: &mut [u8], form: Form, key: K, value: u64) -> Option<u32> {
-    K::index_header(&*archive, form)?;
-    let status = set_index_number(archive, form, key, value);
-    K::index_header(&*archive, form).is_some().then_some(status)
+    overwrite(archive, K::codes(INDEX_MAP, form), key.any(), value)
 }
 
 // Returns the same for a key that is a text.
 fn text(archive: &mut [u8], form: Form, key: &[u8], value: u64) -> Option<u32> {
-    text_index_header(&*archive, form)?;
-    let status = set_index_text(archive, form, key, value);
-    text_index_header(&*archive, form)
-        .is_some()
-        .then_some(status)
+    overwrite(
+        archive,
+        to_numbers(INDEX_MAP, TEXT, form),
+        any_text(key),
+        value,
+    )
 }
 
 // Returns the statuses of an overwrite and of a lookup by the header from before, and the index and
 // the value that are found. They are 8 and 9 at first.
+fn overwrite_and_get(
+    archive: &mut [u8],
+    codes: Codes,
+    key: AnyValue<'_>,
+    value: u64,
+) -> Option<(u32, u32, usize, u64)> {
+    let header = header_in(&*archive, codes)?;
+    let status = set_value(archive, codes, key, value);
+    let mut found = IndexedValue {
+        index: 8,
+        value: AnyValue {
+            number: 9,
+            bytes: b"?",
+        },
+    };
+    let again = get_indexed(&*archive, codes, &header, key, &mut found);
+    Some((status, again, found.index, found.value.number))
+}
+
+// Does so for a key that is a number.
 fn number_and_get<K: CodedKey>(
     archive: &mut [u8],
     form: Form,
     key: K,
     value: u64,
 ) -> Option<(u32, u32, usize, u64)> {
-    let header = K::index_header(&*archive, form)?;
-    let status = set_index_number(archive, form, key, value);
-    let mut found = Indexed {
-        index: 8,
-        value: 9u64,
-    };
-    let again = get_index_number(&*archive, form, &header, key, &mut found);
-    Some((status, again, found.index, found.value))
+    overwrite_and_get(archive, K::codes(INDEX_MAP, form), key.any(), value)
 }
 
-// Returns the same for a key that is a text.
+// Does so for a key that is a text.
 fn text_and_get(
     archive: &mut [u8],
     form: Form,
     key: &[u8],
     value: u64,
 ) -> Option<(u32, u32, usize, u64)> {
-    let header = text_index_header(&*archive, form)?;
-    let status = set_index_text(archive, form, key, value);
-    let mut found = Indexed {
-        index: 8,
-        value: 9u64,
-    };
-    let again = get_index_text(&*archive, form, &header, key, &mut found);
-    Some((status, again, found.index, found.value))
+    let codes = to_numbers(INDEX_MAP, TEXT, form);
+    overwrite_and_get(archive, codes, any_text(key), value)
+}
+
+// Fails the test unless each of these overwrites has its status: the contents, the key, the value
+// and the status.
+fn expect_statuses(
+    rt: &impl Abort,
+    archive: &mut [u8],
+    rows: &[(Contents, AnyValue<'_>, u64, u32)],
+) {
+    for (contents, key, value, status) in rows {
+        let found = overwrite(&mut *archive, codes(*contents), *key, *value);
+        expect_equal(rt, found, Some(*status));
+    }
 }
 
 // Fails the test unless each of these overwrites has its status: the form, the key, the value and
@@ -274,4 +298,50 @@ fn overwrites_under_texts_change_the_value_alone(rt: HostRuntime) {
     expect_text_changed(&rt, *ONE_SYMBOL, LONG, b"main", u64::MAX, (48, &[0xff; 8]));
     expect_text_changed(&rt, wide, WIDE, b"", 0xffff_ffff, (64, &[0xff; 4]));
     expect_text_changed(&rt, wide, WIDE_LONG, b"", u64::MAX, (64, &[0xff; 8]));
+}
+
+#[test]
+fn overwrites_reject_numbers_with_more_bits_than_keys(rt: HostRuntime) {
+    let mut map = *ONE_NUMBER;
+    let mut hash_map = *archives::ONE_NUMBER;
+    expect_statuses(
+        &rt,
+        &mut map,
+        &[((INDEX_MAP, U32, U32, 4), GREAT.any(), 3, 3)],
+    );
+    expect_statuses(
+        &rt,
+        &mut hash_map,
+        &[((MAP, U32, U32, 4), GREAT.any(), 3, 3)],
+    );
+    assert!(rt; map == *ONE_NUMBER && hash_map == *archives::ONE_NUMBER);
+}
+
+#[test]
+fn overwrites_of_other_values_have_an_error(rt: HostRuntime) {
+    let mut set = *ONE_ITEM;
+    let mut texts = *ONE_TO_TEA;
+    let mut hash_set = *archives::NO_ITEMS;
+    expect_statuses(
+        &rt,
+        &mut set,
+        &[((INDEX_SET, U32, UNIT, 4), 1u32.any(), 3, 7)],
+    );
+    expect_statuses(
+        &rt,
+        &mut texts,
+        &[
+            ((INDEX_MAP, U32, TEXT, 4), 1u32.any(), u64::MAX, 7),
+            ((INDEX_MAP, U32, TEXT, 4), GREAT.any(), 3, 3),
+        ],
+    );
+    expect_statuses(
+        &rt,
+        &mut hash_set,
+        &[
+            ((SET, TEXT, UNIT, 4), any_text(b"a"), 3, 7),
+            ((SET, TEXT, UNIT, 4), any_text(&[0xff]), 3, 4),
+        ],
+    );
+    assert!(rt; set == *ONE_ITEM && texts == *ONE_TO_TEA && hash_set == *archives::NO_ITEMS);
 }

@@ -7,7 +7,8 @@ use crate::tests::archives::{
     TWO_LONG_NUMBERS,
 };
 use crate::tests::expect_equal;
-use crate::tests::numbers::{lookup, overwrite, overwrite_and_get};
+use crate::tests::numbers::{lookup, overwrite};
+use crate::tests::opened::CodedKey;
 use crate::tests::support::{GREAT, with_bytes};
 use ffi_calls::form::{Form, LONG, SHORT, WIDE, WIDE_LONG};
 use std::process::Abort;
@@ -51,7 +52,7 @@ fn expect_overwrite_and_get<const N: usize>(
 ) {
     for (key, value, expected) in rows {
         let mut bytes = *archive;
-        let found = overwrite_and_get(&mut bytes, form, *key, *value);
+        let found = u64::overwrite_and_get(&mut bytes, form, *key, *value);
         expect_equal(rt, found, Some(*expected));
     }
 }

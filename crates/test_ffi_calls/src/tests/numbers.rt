@@ -1,11 +1,11 @@
 //! Tests of lookups, overwrites and walks of maps of numbers.
 
 use crate::tests::archives::{ONE_LONG_NUMBER, ONE_NUMBER, ONE_WIDE_LONG_NUMBER, ONE_WIDE_NUMBER};
-use crate::tests::expect_equal;
-use crate::tests::opened::CodedKey;
+use crate::tests::opened::{CodedKey, MAP};
 use crate::tests::support::with_bytes;
+use crate::tests::{expect_equal, opened};
 use ffi_calls::form::{Form, LONG, SHORT, WIDE, WIDE_LONG};
-use ffi_calls::numbers::{get_number, set_number};
+use ffi_calls::numbers::get_number;
 use std::process::Abort;
 
 /// Returns the number of pairs, and the status and the value of a lookup that replaces the value 9.
@@ -23,23 +23,7 @@ pub(crate) fn overwrite<K: CodedKey>(
     key: K,
     value: u64,
 ) -> Option<u32> {
-    K::map_header(&*archive, form)?;
-    let status = set_number(archive, form, key, value);
-    K::map_header(&*archive, form).is_some().then_some(status)
-}
-
-/// Returns the statuses of an overwrite and of a lookup by the header from before, and its value.
-pub(crate) fn overwrite_and_get<K: CodedKey>(
-    archive: &mut [u8],
-    form: Form,
-    key: K,
-    value: u64,
-) -> Option<(u32, u32, u64)> {
-    let header = K::map_header(&*archive, form)?;
-    let status = set_number(archive, form, key, value);
-    let mut found = 9u64;
-    let again = get_number(&*archive, form, &header, key, &mut found);
-    Some((status, again, found))
+    opened::overwrite(archive, K::codes(MAP, form), key.any(), value)
 }
 
 // Fails the test unless each lookup of a key has its result.
@@ -81,7 +65,7 @@ fn expect_overwrite_and_get<const N: usize>(
 ) {
     for (key, value, expected) in rows {
         let mut bytes = *archive;
-        let found = overwrite_and_get(&mut bytes, form, *key, *value);
+        let found = u32::overwrite_and_get(&mut bytes, form, *key, *value);
         expect_equal(rt, found, Some(*expected));
     }
 }

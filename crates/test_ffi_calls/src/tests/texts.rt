@@ -1,11 +1,12 @@
 //! Tests of lookups, overwrites and walks of maps of texts.
 
 use crate::tests::archives::{EMPTY_TEXT, EMPTY_WIDE_TEXT, ONE_SYMBOL};
-use crate::tests::expect_equal;
-use crate::tests::opened::text_map_header;
+use crate::tests::opened::{MAP, TEXT, any_text, header_in, text_map_header, to_numbers};
 use crate::tests::support::with_bytes;
+use crate::tests::{expect_equal, opened};
 use ffi_calls::form::{Form, LONG, SHORT, WIDE, WIDE_LONG};
-use ffi_calls::texts::{get_text, is_text, set_text};
+use ffi_calls::overwrite::set_value;
+use ffi_calls::texts::{get_text, is_text};
 use std::process::Abort;
 
 // Returns the number of pairs, and the status and the value of a lookup that replaces the value 9.
@@ -18,9 +19,7 @@ fn lookup(archive: &[u8], form: Form, key: &[u8]) -> Option<(usize, u32, u64)> {
 
 // Returns the status of an overwrite, if the archive is valid before and after it.
 fn overwrite(archive: &mut [u8], form: Form, key: &[u8], value: u64) -> Option<u32> {
-    text_map_header(&*archive, form)?;
-    let status = set_text(archive, form, key, value);
-    text_map_header(&*archive, form).is_some().then_some(status)
+    opened::overwrite(archive, to_numbers(MAP, TEXT, form), any_text(key), value)
 }
 
 // Returns the statuses of an overwrite and of a lookup by the header from before, and its value.
@@ -30,8 +29,9 @@ fn overwrite_and_get(
     key: &[u8],
     value: u64,
 ) -> Option<(u32, u32, u64)> {
-    let header = text_map_header(&*archive, form)?;
-    let status = set_text(archive, form, key, value);
+    let codes = to_numbers(MAP, TEXT, form);
+    let header = header_in(&*archive, codes)?;
+    let status = set_value(archive, codes, any_text(key), value);
     let mut found = 9u64;
     let again = get_text(&*archive, form, &header, key, &mut found);
     Some((status, again, found))
