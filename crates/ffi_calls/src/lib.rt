@@ -10,8 +10,8 @@
 //! - `building` writes the archive of a list of items as any collection, and leaks its bytes to the
 //!   caller.
 //! - `containers` writes the headers of containers, opens containers, and updates their checksums.
-//! - `any_value` and `from_any` have keys and values of any type, and `reading` the form of keys and
-//!   values.
+//! - `any_value` and `from_any` have keys and values of any type, and `reading` has the form of
+//!   keys and values.
 //! - `explanation` explains the first error of an archive or of a container, with its numbers.
 //! - `form` has the two flags of a map's form, and `status` the statuses that calls return.
 //! - `laws` states that archives represent their lists, that walks visit each pair once, and that

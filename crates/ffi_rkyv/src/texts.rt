@@ -1,4 +1,4 @@
-//! The calls for maps of texts.
+//! The validation of texts.
 
 ghost use Rattle.std.specs.Prelude.{IsTrue, ◌↔◌};
 ghost use Rattle.std.specs.Str.{IsUtf8};

@@ -1,8 +1,6 @@
-//! The structs that the calls store.
+//! The struct of a text that calls store.
 //!
 //! A text is stored as its bytes, which are borrowed from the archive.
-
-ghost use Rattle.std.specs.Prelude.{◌≡◌};
 
 /// A value that is a text.
 #[repr(C)]
