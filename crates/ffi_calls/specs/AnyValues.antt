@@ -4,7 +4,7 @@ use Rattle.std.specs.Borrow.{Bor}
 use Rattle.std.specs.Int.{Width}
 use Rattle.std.specs.Str.{IsUtf8}
 use mir.Val.{bits}
-use Rattle.rkyv_base.specs.{Encoding, text_at, value_at}
+use Rattle.rkyv_base.specs.{Encoding, byte_string_at, text_at, value_at}
 use Rattle.ffi_calls.specs.declared.any_value.AnyValue.{AnyValue}
 
 -- a value with the encoding has the number
@@ -46,6 +46,10 @@ ReadsNumber e b p any = (any.number ≡ e.code (value_at e b p)) × (any.bytes.n
 -- `any` has the bytes of the text at a position, and the number 0
 abbrev pub ReadsBytes : Width → List ℕ → ℕ → AnyValue → Type 0
 ReadsBytes w b p any = (any.number ≡ 0) × (any.bytes.now ≡ text_at w b p)
+
+-- `any` has the bytes of the byte string at a position, and the number 0
+abbrev pub ReadsByteString : Width → List ℕ → ℕ → AnyValue → Type 0
+ReadsByteString w b p any = (any.number ≡ 0) × (any.bytes.now ≡ byte_string_at w b p)
 
 -- `any` has the number 0, and no bytes
 abbrev pub ReadsUnit : List ℕ → ℕ → AnyValue → Type 0

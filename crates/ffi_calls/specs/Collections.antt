@@ -23,18 +23,27 @@ abbrev pub index_flag : ℕ → Option Bool
 index_flag kind = cond (kind == 1) (Some false) (cond (kind == 2) (Some false)
     (cond (kind == 3) (Some true) (cond (kind == 4) (Some true) None)))
 
--- the type of keys with the code, or `None` if no collection has such keys
+-- the type of keys with the code, or `None` if no collection has such keys. The hash and the bytes
+-- of a signed integer are the hash and the bytes of the unsigned integer with the same bits.
 abbrev pub key_type : ℕ → Option KeyType
-key_type code = cond (code == 0x14) (Some key.U32) (cond (code == 0x18) (Some key.U64)
-    (cond (code == 0x04) (Some key.Text) None))
+key_type code = cond (code == 0x11) (Some key.U8) (cond (code == 0x21) (Some key.U8)
+    (cond (code == 0x12) (Some key.U16) (cond (code == 0x22) (Some key.U16)
+    (cond (code == 0x14) (Some key.U32) (cond (code == 0x24) (Some key.U32)
+    (cond (code == 0x18) (Some key.U64) (cond (code == 0x28) (Some key.U64)
+    (cond (code == 0x03) (Some key.Char) (cond (code == 0x04) (Some key.Text) None)))))))))
 
 -- the type of values with the code, or `None` if no collection of the kind has such values.
 -- The values of sets are units.
 abbrev pub value_type : ℕ → ℕ → Option ValueType
 value_type kind code = let unit = cond (code == 0x01) (Some value.Unit) None in
     cond (kind == 2) unit (cond (kind == 4) unit
-    (cond (code == 0x14) (Some value.U32) (cond (code == 0x18) (Some value.U64)
-    (cond (code == 0x04) (Some value.Text) None))))
+    (cond (code == 0x11) (Some value.U8) (cond (code == 0x21) (Some value.U8)
+    (cond (code == 0x12) (Some value.U16) (cond (code == 0x22) (Some value.U16)
+    (cond (code == 0x14) (Some value.U32) (cond (code == 0x24) (Some value.U32)
+    (cond (code == 0x18) (Some value.U64) (cond (code == 0x28) (Some value.U64)
+    (cond (code == 0x02) (Some value.Bool) (cond (code == 0x03) (Some value.Char)
+    (cond (code == 0x04) (Some value.Text) (cond (code == 0x05) (Some value.Bytes)
+    None)))))))))))))
 
 -- whether the width with the code is wide, or `None` if no width has it
 abbrev pub wide_flag : ℕ → Option Bool

@@ -67,11 +67,11 @@ unfoldable pub use IndexItems.{index_pairs_format, index_width, index_width_by}
 pub use IndexItems.{IndexWidth}
 unfoldable pub use IndexInPlace.{SetsFirstIndexed, value_found_in}
 unfoldable pub use AnyValues.{HasCode, HasNumber, IsAny, IsCodeNumber, IsNoCode, IsNoText}
-unfoldable pub use AnyValues.{IsTextFor, Never, ReadsBytes, ReadsNumber, ReadsUnit}
+unfoldable pub use AnyValues.{IsTextFor, Never, ReadsByteString, ReadsBytes, ReadsNumber, ReadsUnit}
 unfoldable pub use TypesOf.{NativeKeyMembers, NativeValueMembers, StoredKeyMembers}
-unfoldable pub use TypesOf.{StoredValueMembers, key_members, key_type_of, scalar_keys}
-unfoldable pub use TypesOf.{scalar_values, text_keys, text_values, types_by, types_of, unit_values}
-unfoldable pub use TypesOf.{value_members, value_type_of}
+unfoldable pub use TypesOf.{StoredValueMembers, byte_string_values, key_members, key_type_of}
+unfoldable pub use TypesOf.{scalar_keys, scalar_values, text_keys, text_values, types_by, types_of}
+unfoldable pub use TypesOf.{unit_values, value_members, value_type_of}
 pub use TypesOf.{KeyTypes, Types, ValueTypes}
 unfoldable pub use Iteration.{IsArchiveOfTypes, StoresItems, StoresItemsByCodes, StoresItemsIn}
 unfoldable pub use Iteration.{types_in, types_spec}
@@ -92,5 +92,5 @@ unfoldable pub use Overwrite.{KeepsHeaderByCodes, RepresentsBy, SetsByCodes, Set
 unfoldable pub use Overwrite.{value_found_by}
 pub use Overwrite.{KeepsRoot, SetsKey}
 unfoldable pub use Misplaced.{CountsIn, CountsMisplaced, StoresMisplaced, index_with_keys}
-unfoldable pub use Misplaced.{key_type_calls, key_type_same, misplaced_in, misplaced_of}
-unfoldable pub use Misplaced.{number_calls, number_same, strides_in, strides_of}
+unfoldable pub use Misplaced.{key_type_calls, key_type_same, misplaced_in, misplaced_of, strides_in}
+unfoldable pub use Misplaced.{strides_of}

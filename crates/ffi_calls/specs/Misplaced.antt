@@ -3,37 +3,24 @@ use Rattle.std.specs.Prelude.{◌≡◌, ℕ, ◌<◌, ◌≤◌, ◌⊎◌, Boo
 use Rattle.std.specs.Prelude.{MatchOption, Option}
 use Rattle.std.specs.Int.{Width}
 use Rattle.rkyv_scan.specs.{HasherCall}
-use Rattle.rkyv_keys.specs.{Comparison, scalar_calls, scalar_same, text_key_calls, text_same}
+use Rattle.rkyv_keys.specs.{Comparison}
 use Rattle.rkyv_collections.specs.{MapAt, map_misplaced, map_strides}
 use Rattle.rkyv_index.specs.{Index, index_misplaced, keys_strides}
 use Rattle.ffi_calls.specs.Archives.{word_of}
 use Rattle.ffi_calls.specs.Collections.{collection_in, collection_of}
-use Rattle.ffi_calls.specs.Keys.{NumberKey, long_key, short_key}
 use Rattle.ffi_calls.specs.Lists.{fx_hash_at}
+use Rattle.ffi_calls.specs.TypesOf.{key_type_of}
 use Rattle.ffi_calls.specs.declared.collection.Collection.{Collection}
 use Rattle.ffi_calls.specs.declared.collection.KeyType.{KeyType}
-use Rattle.ffi_calls.specs.declared.collection.KeyType.TheVariants as key
 use Rattle.ffi_calls.specs.declared.containers.Codes.{Codes}
-
--- the comparison of keys that are numbers
-abbrev pub number_same : {A : Type 0} → NumberKey A → Comparison
-number_same k = scalar_same k.encoding k.eq
-
--- the hasher calls of the number at a position
-abbrev pub number_calls : {A : Type 0} → NumberKey A → List ℕ → ℕ → List HasherCall
-number_calls k = scalar_calls k.encoding k.call
 
 -- the comparison of keys of the type in an archive of the word
 abbrev pub key_type_same : Width → KeyType → Comparison
-key_type_same w key.U32 = number_same short_key
-key_type_same w key.U64 = number_same long_key
-key_type_same w key.Text = text_same w
+key_type_same w of = (key_type_of w of).same
 
 -- the hasher calls of the key at a position
 abbrev pub key_type_calls : Width → KeyType → List ℕ → ℕ → List HasherCall
-key_type_calls w key.U32 = number_calls short_key
-key_type_calls w key.U64 = number_calls long_key
-key_type_calls w key.Text = text_key_calls w
+key_type_calls w of = (key_type_of w of).key_calls
 
 -- the index map `m`, for lookups of its own keys
 abbrev pub index_with_keys : MapAt → Index (Unit {0})

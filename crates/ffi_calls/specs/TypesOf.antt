@@ -1,17 +1,19 @@
 -- The types of a collection: of its keys, of its values and of its width.
 use Rattle.std.specs.Prelude.{◌≡◌, ℕ, Bool, List, nat_eq}
 use Rattle.std.specs.Borrow.{Bor}
-use Rattle.std.specs.Int.{Width, w32, w64}
+use Rattle.std.specs.Int.{Width, w16, w32, w64, w8}
 use Rattle.std.specs.Str.{IsUtf8}
-use Rattle.rkyv_scan.specs.{HasherCall, U32, U64}
-use Rattle.rkyv_base.specs.{ElementSpec, Encoding, Format, IsElement, ScalarRepresents}
-use Rattle.rkyv_base.specs.{scalar_format, scalar_spec, text_format, text_spec, unit_format}
-use Rattle.rkyv_base.specs.{unit_represents, unit_spec, unsigned, written_as}
+use Rattle.rkyv_scan.specs.{HasherCall, U16, U32, U64, U8}
+use Rattle.rkyv_base.specs.{ElementSpec, Encoding, Format, IsByteStringOf, IsElement}
+use Rattle.rkyv_base.specs.{ScalarRepresents, bool_encoding, byte_string_format, byte_string_spec}
+use Rattle.rkyv_base.specs.{char_encoding, scalar_format, scalar_spec, text_format, text_spec}
+use Rattle.rkyv_base.specs.{unit_format, unit_represents, unit_spec, unsigned, written_as}
+use Rattle.rkyv_base.specs.declared.bytes.BytesResolver.{BytesResolver}
 use Rattle.rkyv_base.specs.declared.strings.TextResolver.{TextResolver}
 use Rattle.rkyv_keys.specs.{Comparison, one_call, same_bytes, scalar_calls, scalar_fits}
 use Rattle.rkyv_keys.specs.{scalar_same, text_calls, text_fits, text_key_calls, text_same}
 use Rattle.ffi_calls.specs.AnyValues.{HasNumber, IsAny, IsCodeNumber, IsNoCode, IsNoText, IsTextFor}
-use Rattle.ffi_calls.specs.AnyValues.{Never, ReadsBytes, ReadsNumber, ReadsUnit}
+use Rattle.ffi_calls.specs.AnyValues.{Never, ReadsByteString, ReadsBytes, ReadsNumber, ReadsUnit}
 use Rattle.ffi_calls.specs.Archives.{word_of}
 use Rattle.ffi_calls.specs.IndexItems.{IndexWidth, index_width_by}
 use Rattle.ffi_calls.specs.Listed.{TextRepresents}
@@ -217,6 +219,21 @@ text_values w = record {
   is_none = λ any status. IsNoText any × (status ≡ 4);
 }
 
+-- the type of values that are byte strings in an archive of the word
+abbrev pub byte_string_values : Width → ValueTypes AnyValue
+byte_string_values w = record {
+  Native = Bor (List ℕ);
+  Resolver = BytesResolver;
+  any = ReadsByteString w;
+  represents = IsByteStringOf w (λ (string : Bor (List ℕ)). string.now);
+  is_of = IsTextFor;
+  spec = byte_string_spec w;
+  format = written_as (λ (string : Bor (List ℕ)). string.now) (byte_string_format w);
+  is_value = λ any. Unit;
+  shows = IsTextFor;
+  is_none = Never;
+}
+
 -- the type of the values of a set
 abbrev pub unit_values : ValueTypes AnyValue
 unit_values = record {
@@ -234,15 +251,23 @@ unit_values = record {
 
 -- the type of keys, in an archive of the word
 abbrev pub key_type_of : Width → KeyType → KeyTypes AnyValue
+key_type_of w key.U8 = scalar_keys nat_eq (unsigned w8) U8
+key_type_of w key.U16 = scalar_keys nat_eq (unsigned w16) U16
 key_type_of w key.U32 = scalar_keys nat_eq (unsigned w32) U32
 key_type_of w key.U64 = scalar_keys nat_eq (unsigned w64) U64
+key_type_of w key.Char = scalar_keys nat_eq char_encoding U32
 key_type_of w key.Text = text_keys w
 
 -- the type of values, in an archive of the word
 abbrev pub value_type_of : Width → ValueType → ValueTypes AnyValue
+value_type_of w value.U8 = scalar_values (unsigned w8)
+value_type_of w value.U16 = scalar_values (unsigned w16)
 value_type_of w value.U32 = scalar_values (unsigned w32)
 value_type_of w value.U64 = scalar_values (unsigned w64)
+value_type_of w value.Bool = scalar_values bool_encoding
+value_type_of w value.Char = scalar_values char_encoding
 value_type_of w value.Text = text_values w
+value_type_of w value.Bytes = byte_string_values w
 value_type_of w value.Unit = unit_values
 
 -- the types of a collection

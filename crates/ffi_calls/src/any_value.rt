@@ -1,25 +1,25 @@
 //! Keys and values of any type, as calls take and store them.
 //!
-//! A number is in 64 bits, and a text is its bytes.
+//! A number is in 64 bits. A text and a byte string are their bytes.
 
 ghost use Rattle.std.specs.Prelude.{MatchOption, MatchResult, ◌≡◌, List, ℕ};
 ghost use Rattle.std.specs.Str.{IsUtf8};
-ghost use Rattle.rkyv_base.specs.{AtView, IsValidView, text_spec, unit_spec};
+ghost use Rattle.rkyv_base.specs.{AtView, IsValidView, byte_string_spec, text_spec, unit_spec};
 ghost use Rattle.ffi_calls.specs.{HasCode, HasNumber, IsCodeNumber, IsNoCode, IsNoText, ReadsBytes};
-ghost use Rattle.ffi_calls.specs.{ReadsNumber, ReadsUnit, IsTextFor, Never, IsAny};
+ghost use Rattle.ffi_calls.specs.{ReadsByteString, ReadsNumber, ReadsUnit, IsTextFor, Never, IsAny};
 ghost use Rattle.ffi_calls.specs.declared.any_value.AnyValue.{AnyValue};
 
 use crate::from_any::FromAny;
 use crate::status::{NOT_TEXT, VALUE_TOO_LARGE};
-use rkyv_base::{Element, Scalar, Text, View, Width};
+use rkyv_base::{Bytes, Element, Scalar, Text, View, Width};
 
 /// A key or a value of any type: a number, or bytes.
 #[repr(C)]
 #[derive(Clone, Copy)]
 pub struct AnyValue<'a> {
-    /// The number. It is 0 for a text and for a unit.
+    /// The number, or the bits of a signed integer. It is 0 for a text, a byte string and a unit.
     pub number: u64,
-    /// The bytes of a text. There are none for a number and for a unit.
+    /// The bytes of a text or of a byte string. There are none for a number and for a unit.
     pub bytes: &'a [u8],
 }
 
@@ -169,6 +169,19 @@ impl<'a> FromAny<AnyValue<'a>> for &'a str {
     }
 }
 
+impl<'a> FromAny<AnyValue<'a>> for &'a [u8] {
+    ghost is_value = { λ value. Unit };
+
+    ghost shows = { IsTextFor };
+
+    ghost is_none = { Never };
+
+    #[inline]
+    fn from_any(value: AnyValue<'a>) -> Result<&'a [u8], u32> {
+        Ok(value.bytes)
+    }
+}
+
 impl<'a> FromAny<AnyValue<'a>> for () {
     ghost is_value = { λ value. Unit };
 
@@ -223,6 +236,21 @@ impl<W: Width> ToAny for Text<W> {
         AnyValue {
             number: 0,
             bytes: view.as_str().as_bytes(),
+        }
+    }
+}
+
+impl<W: Width> ToAny for Bytes<W> {
+    ghost any = { ReadsByteString W.word };
+
+    #[inline]
+    fn to_any<'a>(view: View<'a, Bytes<W>>) -> AnyValue<'a>
+        requires { IsValidView (byte_string_spec W.word) view }
+        ensures { AtView (ReadsByteString W.word) view.entry result }
+    {
+        AnyValue {
+            number: 0,
+            bytes: view.as_slice(),
         }
     }
 }

@@ -20,7 +20,7 @@ use crate::containers::Codes;
 use crate::explanation::{Explanation, explained};
 use crate::index::index_header_of;
 use crate::status::UNKNOWN_CODES;
-use rkyv_base::{Element, Narrow, Text, Wide};
+use rkyv_base::{Bytes, Element, Narrow, Text, Wide};
 use rkyv_collections::{FxHasher64, HashMapOf};
 use rkyv_index::{IndexMapOf, IndexWidth};
 use rkyv_table::table::decoded::Decoded;
@@ -28,10 +28,16 @@ use rkyv_table::table::decoded::Decoded;
 /// The type of the keys of a collection.
 #[derive(Clone, Copy)]
 pub enum KeyType {
-    /// Numbers of 32 bits.
+    /// Integers of 8 bits, by their bits if they are signed.
+    U8,
+    /// Integers of 16 bits, by their bits if they are signed.
+    U16,
+    /// Integers of 32 bits, by their bits if they are signed.
     U32,
-    /// Numbers of 64 bits.
+    /// Integers of 64 bits, by their bits if they are signed.
     U64,
+    /// Unicode scalar values.
+    Char,
     /// Texts.
     Text,
 }
@@ -39,12 +45,22 @@ pub enum KeyType {
 /// The type of the values of a collection.
 #[derive(Clone, Copy)]
 pub enum ValueType {
-    /// Numbers of 32 bits.
+    /// Integers of 8 bits, by their bits if they are signed.
+    U8,
+    /// Integers of 16 bits, by their bits if they are signed.
+    U16,
+    /// Integers of 32 bits, by their bits if they are signed.
     U32,
-    /// Numbers of 64 bits.
+    /// Integers of 64 bits, by their bits if they are signed.
     U64,
+    /// `false` or `true`.
+    Bool,
+    /// Unicode scalar values.
+    Char,
     /// Texts.
     Text,
+    /// Byte strings.
+    Bytes,
     /// Units, the values of a set.
     Unit,
 }
@@ -80,8 +96,11 @@ fn key_type(code: u8) -> Option<KeyType>
     ensures { result ≡ key_type code }
 {
     match code {
-        0x14 => Some(KeyType::U32),
-        0x18 => Some(KeyType::U64),
+        0x11 | 0x21 => Some(KeyType::U8),
+        0x12 | 0x22 => Some(KeyType::U16),
+        0x14 | 0x24 => Some(KeyType::U32),
+        0x18 | 0x28 => Some(KeyType::U64),
+        0x03 => Some(KeyType::Char),
         0x04 => Some(KeyType::Text),
         _ => None,
     }
@@ -95,9 +114,14 @@ fn value_type(kind: u8, code: u8) -> Option<ValueType>
     match (kind, code) {
         (2 | 4, 0x01) => Some(ValueType::Unit),
         (2 | 4, _) => None,
-        (_, 0x14) => Some(ValueType::U32),
-        (_, 0x18) => Some(ValueType::U64),
+        (_, 0x11 | 0x21) => Some(ValueType::U8),
+        (_, 0x12 | 0x22) => Some(ValueType::U16),
+        (_, 0x14 | 0x24) => Some(ValueType::U32),
+        (_, 0x18 | 0x28) => Some(ValueType::U64),
+        (_, 0x02) => Some(ValueType::Bool),
+        (_, 0x03) => Some(ValueType::Char),
         (_, 0x04) => Some(ValueType::Text),
+        (_, 0x05) => Some(ValueType::Bytes),
         _ => None,
     }
 }
@@ -146,9 +170,14 @@ fn explain_values<K: Element, W: IndexWidth>(
         archive.now result }
 {
     match value {
+        ValueType::U8 => explain_kind::<K, u8, W>(archive, indexed),
+        ValueType::U16 => explain_kind::<K, u16, W>(archive, indexed),
         ValueType::U32 => explain_kind::<K, u32, W>(archive, indexed),
         ValueType::U64 => explain_kind::<K, u64, W>(archive, indexed),
+        ValueType::Bool => explain_kind::<K, bool, W>(archive, indexed),
+        ValueType::Char => explain_kind::<K, char, W>(archive, indexed),
         ValueType::Text => explain_kind::<K, Text<W>, W>(archive, indexed),
+        ValueType::Bytes => explain_kind::<K, Bytes<W>, W>(archive, indexed),
         ValueType::Unit => explain_kind::<K, (), W>(archive, indexed),
     }
 }
@@ -159,8 +188,11 @@ fn explain_keys<W: IndexWidth>(archive: &[u8], of: Collection) -> Explanation
         (value_type_spec W.word of.value)) archive.now result }
 {
     match of.key {
+        KeyType::U8 => explain_values::<u8, W>(archive, of.indexed, of.value),
+        KeyType::U16 => explain_values::<u16, W>(archive, of.indexed, of.value),
         KeyType::U32 => explain_values::<u32, W>(archive, of.indexed, of.value),
         KeyType::U64 => explain_values::<u64, W>(archive, of.indexed, of.value),
+        KeyType::Char => explain_values::<char, W>(archive, of.indexed, of.value),
         KeyType::Text => explain_values::<Text<W>, W>(archive, of.indexed, of.value),
     }
 }
@@ -228,9 +260,14 @@ fn decode_values<K: Element, W: IndexWidth>(
         result }
 {
     match value {
+        ValueType::U8 => decode_kind::<K, u8, W>(archive, indexed),
+        ValueType::U16 => decode_kind::<K, u16, W>(archive, indexed),
         ValueType::U32 => decode_kind::<K, u32, W>(archive, indexed),
         ValueType::U64 => decode_kind::<K, u64, W>(archive, indexed),
+        ValueType::Bool => decode_kind::<K, bool, W>(archive, indexed),
+        ValueType::Char => decode_kind::<K, char, W>(archive, indexed),
         ValueType::Text => decode_kind::<K, Text<W>, W>(archive, indexed),
+        ValueType::Bytes => decode_kind::<K, Bytes<W>, W>(archive, indexed),
         ValueType::Unit => decode_kind::<K, (), W>(archive, indexed),
     }
 }
@@ -243,8 +280,11 @@ fn decode_keys<W: IndexWidth>(archive: &[u8], of: Collection) -> Decoded
         (value_type_spec W.word of.value) archive.now) result }
 {
     match of.key {
+        KeyType::U8 => decode_values::<u8, W>(archive, of.indexed, of.value),
+        KeyType::U16 => decode_values::<u16, W>(archive, of.indexed, of.value),
         KeyType::U32 => decode_values::<u32, W>(archive, of.indexed, of.value),
         KeyType::U64 => decode_values::<u64, W>(archive, of.indexed, of.value),
+        KeyType::Char => decode_values::<char, W>(archive, of.indexed, of.value),
         KeyType::Text => decode_values::<Text<W>, W>(archive, of.indexed, of.value),
     }
 }

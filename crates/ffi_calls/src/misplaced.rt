@@ -17,7 +17,7 @@ use crate::collection::{Collection, KeyType, ValueType, collection_of};
 use crate::containers::Codes;
 use crate::index::index_of;
 use crate::status::{DONE, LIMIT_REACHED};
-use rkyv_base::{Element, Narrow, Text, Wide, Width};
+use rkyv_base::{Bytes, Element, Narrow, Text, Wide, Width};
 use rkyv_index::IndexWidth;
 use rkyv_keys::KeyElement;
 use rkyv_table::table::decoded::Decoded;
@@ -86,9 +86,14 @@ fn misplaced_values<K: KeyElement, W: IndexWidth>(
         K.same K.key_calls indexed limit result }
 {
     match value {
+        ValueType::U8 => misplaced_kind::<K, u8, W>(archive, indexed, header, limit),
+        ValueType::U16 => misplaced_kind::<K, u16, W>(archive, indexed, header, limit),
         ValueType::U32 => misplaced_kind::<K, u32, W>(archive, indexed, header, limit),
         ValueType::U64 => misplaced_kind::<K, u64, W>(archive, indexed, header, limit),
+        ValueType::Bool => misplaced_kind::<K, bool, W>(archive, indexed, header, limit),
+        ValueType::Char => misplaced_kind::<K, char, W>(archive, indexed, header, limit),
         ValueType::Text => misplaced_kind::<K, Text<W>, W>(archive, indexed, header, limit),
+        ValueType::Bytes => misplaced_kind::<K, Bytes<W>, W>(archive, indexed, header, limit),
         ValueType::Unit => misplaced_kind::<K, (), W>(archive, indexed, header, limit),
     }
 }
@@ -109,8 +114,11 @@ fn misplaced_keys<W: IndexWidth>(
         (key_type_calls W.word of.key) of.indexed limit result }
 {
     match of.key {
+        KeyType::U8 => misplaced_values::<u8, W>(archive, of.indexed, of.value, header, limit),
+        KeyType::U16 => misplaced_values::<u16, W>(archive, of.indexed, of.value, header, limit),
         KeyType::U32 => misplaced_values::<u32, W>(archive, of.indexed, of.value, header, limit),
         KeyType::U64 => misplaced_values::<u64, W>(archive, of.indexed, of.value, header, limit),
+        KeyType::Char => misplaced_values::<char, W>(archive, of.indexed, of.value, header, limit),
         KeyType::Text => {
             misplaced_values::<Text<W>, W>(archive, of.indexed, of.value, header, limit)
         }

@@ -4,7 +4,8 @@
 //! calls it for the types of a `Collection`.
 
 ghost use Rattle.std.specs.Prelude.{List};
-ghost use Rattle.ffi_calls.specs.Lemmas.AnyValues.{numbers_agree, texts_agree, units_agree};
+ghost use Rattle.ffi_calls.specs.Lemmas.AnyValues.{byte_strings_agree, numbers_agree};
+ghost use Rattle.ffi_calls.specs.Lemmas.AnyValues.{texts_agree, units_agree};
 ghost use Rattle.ffi_calls.specs.{Agrees, HasNumber, IsAny, IsTextFor, Types, index_width};
 ghost use Rattle.ffi_calls.specs.{key_members, key_type_of, types_by, types_of, value_members};
 ghost use Rattle.ffi_calls.specs.{value_type_of};
@@ -13,7 +14,7 @@ ghost use Rattle.ffi_calls.specs.declared.any_value.AnyValue.{AnyValue};
 use crate::any_value::{AnyValue, Number, ToAny};
 use crate::collection::{Collection, KeyType, ValueType};
 use crate::from_any::FromAny;
-use rkyv_base::{Archive, Narrow, Represents, Serialize, Text, VecWriter, Wide, Width};
+use rkyv_base::{Archive, Bytes, Narrow, Represents, Serialize, Text, VecWriter, Wide, Width};
 use rkyv_index::IndexWidth;
 use rkyv_keys::{KeyElement, NativeKey, ScalarKey};
 
@@ -57,6 +58,12 @@ impl<'a, W: Width> StoredValue<&'a str> for Text<W> {
     ghost agrees = { texts_agree W.word };
 }
 
+impl<'a, W: Width> StoredValue<&'a [u8]> for Bytes<W> {
+    ghost is_of = { IsTextFor };
+
+    ghost agrees = { byte_strings_agree W.word };
+}
+
 impl StoredValue<()> for () {
     ghost is_of = { IsAny };
 
@@ -81,6 +88,8 @@ pub trait ValueFrom<P, V: Represents<Self>, W: Width>: FromAny<P>
 impl<'a, N: Number, W: Width> ValueFrom<AnyValue<'a>, N, W> for N {}
 
 impl<'a, W: Width> ValueFrom<AnyValue<'a>, Text<W>, W> for &'a str {}
+
+impl<'a, W: Width> ValueFrom<AnyValue<'a>, Bytes<W>, W> for &'a [u8] {}
 
 impl<'a, W: Width> ValueFrom<AnyValue<'a>, (), W> for () {}
 
@@ -130,9 +139,14 @@ fn by_value<
         (key_members A.KeyFrom K.StoredKey) (value_type_of W.word of.value)) result out.new }
 {
     match of.value {
+        ValueType::U8 => operation.run::<A, u8, K, u8, W>(of.indexed, out),
+        ValueType::U16 => operation.run::<A, u16, K, u16, W>(of.indexed, out),
         ValueType::U32 => operation.run::<A, u32, K, u32, W>(of.indexed, out),
         ValueType::U64 => operation.run::<A, u64, K, u64, W>(of.indexed, out),
+        ValueType::Bool => operation.run::<A, bool, K, bool, W>(of.indexed, out),
+        ValueType::Char => operation.run::<A, char, K, char, W>(of.indexed, out),
         ValueType::Text => operation.run::<A, &str, K, Text<W>, W>(of.indexed, out),
+        ValueType::Bytes => operation.run::<A, &[u8], K, Bytes<W>, W>(of.indexed, out),
         ValueType::Unit => operation.run::<A, (), K, (), W>(of.indexed, out),
     }
 }
@@ -152,8 +166,11 @@ fn by_key<'a, W: IndexWidth, X, O: Operation<AnyValue<'a>, X>>(
         (key_type_of W.word of.key) (value_type_of W.word of.value)) result out.new }
 {
     match of.key {
+        KeyType::U8 => by_value::<u8, u8, W, X, O>(of, operation, out),
+        KeyType::U16 => by_value::<u16, u16, W, X, O>(of, operation, out),
         KeyType::U32 => by_value::<u32, u32, W, X, O>(of, operation, out),
         KeyType::U64 => by_value::<u64, u64, W, X, O>(of, operation, out),
+        KeyType::Char => by_value::<char, char, W, X, O>(of, operation, out),
         KeyType::Text => by_value::<&str, Text<W>, W, X, O>(of, operation, out),
     }
 }

@@ -36,3 +36,4 @@ mod text_archives;
 mod text_sets;
 mod texts;
 mod texts_to_texts;
+mod types;

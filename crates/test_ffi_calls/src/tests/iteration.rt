@@ -20,11 +20,11 @@ use ffi_calls::laws;
 use rkyv_base::Narrow;
 use std::process::Abort;
 
-// The parts of an item: its `next`, number and bytes of the key, number and bytes of the value.
-type Parts<'a> = (u64, u64, &'a [u8], u64, &'a [u8]);
+/// The parts of an item: its `next`, number and bytes of the key, number and bytes of the value.
+pub(crate) type Parts<'a> = (u64, u64, &'a [u8], u64, &'a [u8]);
 
-// An item that no call stores.
-const NINE: Parts<'_> = (9, 9, b"?", 9, b"?");
+/// An item that no call stores.
+pub(crate) const NINE: Parts<'_> = (9, 9, b"?", 9, b"?");
 
 // Returns the item with these parts.
 fn item(parts: Parts<'_>) -> AnyItem<'_> {
@@ -81,12 +81,12 @@ fn expect_stored(
     );
 }
 
-// An archive, its contents, a bucket or an index, the number of items that are stored from it on,
-// and both items.
-type Row<'a> = (&'a [u8], Contents, u64, usize, Parts<'a>, Parts<'a>);
+/// An archive, its contents, a bucket or an index, the number of items that are stored from it on,
+/// and both items.
+pub(crate) type Row<'a> = (&'a [u8], Contents, u64, usize, Parts<'a>, Parts<'a>);
 
-// Does the same for each row.
-fn expect_items(rt: &impl Abort, rows: &[Row<'_>]) {
+/// Fails the test unless the items of each row are stored.
+pub(crate) fn expect_items(rt: &impl Abort, rows: &[Row<'_>]) {
     for (archive, contents, from, count, first, second) in rows {
         let found = stored(archive, *contents, *from, *first, *second);
         expect_equal(rt, found, Some(*count));

@@ -32,14 +32,41 @@ pub(crate) const INDEX_SET: u8 = 4;
 /// The code of units.
 pub(crate) const UNIT: u8 = 1;
 
+/// The code of `bool`.
+pub(crate) const BOOL: u8 = 2;
+
+/// The code of Unicode scalar values.
+pub(crate) const CHAR: u8 = 3;
+
 /// The code of texts.
 pub(crate) const TEXT: u8 = 4;
+
+/// The code of byte strings.
+pub(crate) const BYTES: u8 = 5;
+
+/// The code of numbers of 8 bits.
+pub(crate) const U8: u8 = 0x11;
+
+/// The code of numbers of 16 bits.
+pub(crate) const U16: u8 = 0x12;
 
 /// The code of numbers of 32 bits.
 pub(crate) const U32: u8 = 0x14;
 
 /// The code of numbers of 64 bits.
 pub(crate) const U64: u8 = 0x18;
+
+/// The code of signed integers of 8 bits.
+pub(crate) const I8: u8 = 0x21;
+
+/// The code of signed integers of 16 bits.
+pub(crate) const I16: u8 = 0x22;
+
+/// The code of signed integers of 32 bits.
+pub(crate) const I32: u8 = 0x24;
+
+/// The code of signed integers of 64 bits.
+pub(crate) const I64: u8 = 0x28;
 
 /// The codes of contents: the kind, the key or item, the value and the width.
 pub(crate) type Contents = (u8, u8, u8, u8);

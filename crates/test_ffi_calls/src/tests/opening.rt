@@ -7,7 +7,9 @@ use crate::tests::archives::{
 use crate::tests::expect_equal;
 use crate::tests::index_archives::{NO_PAIRS, NO_WIDE_PAIRS};
 use crate::tests::number_sets::{one, wide_long_one, wide_one};
-use crate::tests::opened::{Contents, INDEX_MAP, INDEX_SET, MAP, SET, TEXT, U32, U64, UNIT, codes};
+use crate::tests::opened::{
+    BOOL, BYTES, Contents, INDEX_MAP, INDEX_SET, MAP, SET, TEXT, U32, U64, UNIT, codes,
+};
 use crate::tests::support::{Numbers, numbers_of, with_byte};
 use crate::tests::text_archives::{
     empty_to_text, empty_to_wide_text, long_to_tea, long_to_two_texts, one_to_tea,
@@ -129,8 +131,10 @@ fn codes_without_a_collection_are_unknown(rt: HostRuntime) {
             (NO_PAIRS, (INDEX_MAP, U32, UNIT, 4), UNKNOWN),
             (NO_ITEMS, (SET, U32, U32, 4), UNKNOWN),
             (NO_ITEMS, (MAP, UNIT, U32, 4), UNKNOWN),
-            (NO_ITEMS, (MAP, 0x24, U32, 4), UNKNOWN),
-            (NO_ITEMS, (MAP, U32, 0x28, 4), UNKNOWN),
+            (NO_ITEMS, (MAP, BOOL, U32, 4), UNKNOWN),
+            (NO_ITEMS, (MAP, BYTES, U32, 4), UNKNOWN),
+            (NO_ITEMS, (MAP, 0x23, U32, 4), UNKNOWN),
+            (NO_ITEMS, (MAP, U32, 6, 4), UNKNOWN),
             (NO_ITEMS, (MAP, U32, U32, 0), UNKNOWN),
             (NO_ITEMS, (MAP, U32, U32, 5), UNKNOWN),
         ],
