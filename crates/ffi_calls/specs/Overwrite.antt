@@ -1,6 +1,6 @@
 -- Overwrites of values that are numbers, in hash maps and in index maps of any types.
 use Rattle.std.specs.Prelude.{◌≡◌, ℕ, ◌⊎◌, Bool, true, false, IfSome, List, Option}
-use Rattle.std.specs.Int.{Width, w32, w64}
+use Rattle.std.specs.Int.{Width, w16, w32, w64, w8}
 use Rattle.rkyv_scan.specs.{HasherCall}
 use Rattle.rkyv_base.specs.{ElementSpec, Encoding, IsValidArchive, ScalarRepresents, unsigned}
 use Rattle.rkyv_keys.specs.{NativePairs}
@@ -55,11 +55,18 @@ module _ {P : Type 0} (indexed : Bool) (w : Width) (k : KeyTypes P) (b : List �
   -- `c` is `b` after an overwrite of the value of the native key. The status is 7 and `c` is `b` if
   -- values of the type are no numbers
   abbrev pub SetsKeyOf : ValueType → k.Native → ℕ → ℕ → List ℕ → Type 0
+  SetsKeyOf value.U8 key number status c =
+      SetsKey indexed w k (value_type_spec w value.U8) (unsigned w8) b key number status c
+  SetsKeyOf value.U16 key number status c =
+      SetsKey indexed w k (value_type_spec w value.U16) (unsigned w16) b key number status c
   SetsKeyOf value.U32 key number status c =
       SetsKey indexed w k (value_type_spec w value.U32) (unsigned w32) b key number status c
   SetsKeyOf value.U64 key number status c =
       SetsKey indexed w k (value_type_spec w value.U64) (unsigned w64) b key number status c
+  SetsKeyOf value.Bool key number status c = (status ≡ 7) × (c ≡ b)
+  SetsKeyOf value.Char key number status c = (status ≡ 7) × (c ≡ b)
   SetsKeyOf value.Text key number status c = (status ≡ 7) × (c ≡ b)
+  SetsKeyOf value.Bytes key number status c = (status ≡ 7) × (c ≡ b)
   SetsKeyOf value.Unit key number status c = (status ≡ 7) × (c ≡ b)
 
   -- `c` is `b` after an overwrite of the value of `key`. If no native key has the form, `c` is `b`

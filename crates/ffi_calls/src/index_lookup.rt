@@ -51,7 +51,7 @@ impl<'a, 'b> Operation<AnyValue<'b>, u8> for IndexLookup<'a, 'b> {
 /// # Errors
 ///
 /// - `UNKNOWN_CODES`: the collection is no index map and no index set.
-/// - `VALUE_TOO_LARGE`: the keys are numbers, and `key` has more bits.
+/// - `VALUE_TOO_LARGE`: the keys are numbers or characters, and none has the number of `key`.
 /// - `NOT_TEXT`: the keys are texts, and the bytes of `key` aren't UTF-8.
 fn find_of<'a>(
     archive: &'a [u8],
@@ -81,7 +81,7 @@ fn find_of<'a>(
 /// # Errors
 ///
 /// - `UNKNOWN_CODES`: the codes are of a hash map or a hash set.
-/// - `VALUE_TOO_LARGE`: the keys are numbers, and `key` has more bits.
+/// - `VALUE_TOO_LARGE`: the keys are numbers or characters, and none has the number of `key`.
 /// - `NOT_TEXT`: the keys are texts, and the bytes of `key` aren't UTF-8.
 /// - `NOT_FOUND`: the lookup doesn't find the key.
 ///

@@ -60,9 +60,14 @@ fn set_key<'a, A: KeyFrom<AnyValue<'a>, K, W>, K: StoredKey<A>, W: IndexWidth>(
         of.value key.now value result archive.new }
 {
     match of.value {
+        ValueType::U8 => set_kind::<A, K, u8, W>(archive, of.indexed, key, value),
+        ValueType::U16 => set_kind::<A, K, u16, W>(archive, of.indexed, key, value),
         ValueType::U32 => set_kind::<A, K, u32, W>(archive, of.indexed, key, value),
         ValueType::U64 => set_kind::<A, K, u64, W>(archive, of.indexed, key, value),
+        ValueType::Bool => UNKNOWN_CODES,
+        ValueType::Char => UNKNOWN_CODES,
         ValueType::Text => UNKNOWN_CODES,
+        ValueType::Bytes => UNKNOWN_CODES,
         ValueType::Unit => UNKNOWN_CODES,
     }
 }
@@ -106,8 +111,11 @@ fn set_in_width<W: IndexWidth>(
         key.entry value result archive.new }
 {
     match of.key {
+        KeyType::U8 => set_shown::<u8, u8, W>(archive, of, key, value),
+        KeyType::U16 => set_shown::<u16, u16, W>(archive, of, key, value),
         KeyType::U32 => set_shown::<u32, u32, W>(archive, of, key, value),
         KeyType::U64 => set_shown::<u64, u64, W>(archive, of, key, value),
+        KeyType::Char => set_shown::<char, char, W>(archive, of, key, value),
         KeyType::Text => set_shown::<&str, Text<W>, W>(archive, of, key, value),
     }
 }
@@ -139,10 +147,10 @@ fn set_of(archive: &mut [u8], of: Collection, key: AnyValue<'_>, value: u64) -> 
 ///
 /// # Errors
 ///
-/// - `VALUE_TOO_LARGE`: the keys are numbers, and `key` has more bits.
+/// - `VALUE_TOO_LARGE`: the keys are numbers or characters, and none has the number of `key`.
 /// - `NOT_TEXT`: the keys are texts, and the bytes of `key` aren't UTF-8.
 /// - `UNKNOWN_CODES`: the values of the collection aren't numbers.
-/// - `VALUE_TOO_LARGE`: the values of the map have 32 bits and the new one has more.
+/// - `VALUE_TOO_LARGE`: the new value has more bits than the values of the map.
 /// - `NOT_FOUND`: the lookup doesn't find the key.
 ///
 /// After an error no byte is changed.

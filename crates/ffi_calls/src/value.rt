@@ -15,6 +15,20 @@ pub(crate) trait Value: Scalar {
             × (value ≡ Self.encoding.value number)) };
 }
 
+impl Value for u8 {
+    #[inline]
+    fn of_number(number: u64) -> Option<u8> {
+        u8::try_from(number).ok()
+    }
+}
+
+impl Value for u16 {
+    #[inline]
+    fn of_number(number: u64) -> Option<u16> {
+        u16::try_from(number).ok()
+    }
+}
+
 impl Value for u32 {
     #[inline]
     fn of_number(number: u64) -> Option<u32> {
