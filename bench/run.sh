@@ -23,7 +23,7 @@ fi
 unset CARGO_TARGET_DIR CARGO_BUILD_TARGET_DIR CARGO_BUILD_TARGET
 unset RUSTFLAGS CARGO_BUILD_RUSTFLAGS CARGO_ENCODED_RUSTFLAGS CARGO_TARGET_X86_64_UNKNOWN_LINUX_GNU_RUSTFLAGS
 # RESULTS.md names this commit, so its libraries are those that are built here.
-unset RKYV_C_LIBRARY
+unset HODKHAKI_LIBRARY
 if [ "${1:-}" != --print ]; then
     unset RKYV_BENCH_LIB
 fi
@@ -37,7 +37,7 @@ fi
 
 (cd ../crates/ffi_rkyv && rt lib) >&2
 (cd client && cargo build --release --offline)
-crate=client/target/release/rkyv_maps_bench
+crate=client/target/release/hodkhaki_bench
 tables="$(mktemp -d)"
 trap 'rm -rf "$tables"' EXIT
 "$library" > "$tables/library"

@@ -1,4 +1,4 @@
-/* Compares the calls of rkyv.h with archives that the table code of rkyv 0.8.18 wrote.
+/* Compares the calls of hodkhaki.h with archives that the table code of rkyv 0.8.18 wrote.
  *
  *     against_rkyv FILE
  *
@@ -6,14 +6,14 @@
  * collection, the types of keys and of values, the width, the number of entries, the entries in
  * insertion order, and the bytes in hexadecimal.
  *
- * For each line whose types rkyv.h has, the archive of the entries is built, and has to be the
+ * For each line whose types hodkhaki.h has, the archive of the entries is built, and has to be the
  * bytes of the line. Then the bytes of the line are opened, each key is looked up, and the entries
  * are iterated. In an index map, each pair is looked up by its index.
  *
  * Prints the number of archives of each collection that agree, and ends with 1 if one has none. At
  * the first difference, prints the number of the line and the step, and ends with 1. Ends with 2 if
  * its argument is missing. */
-#include "rkyv.h"
+#include "hodkhaki.h"
 
 #include <stdarg.h>
 #include <stdio.h>
@@ -50,21 +50,21 @@ static const struct kind {
     enum collection collection;
     enum type key, value;
 } kinds[] = {
-    {RKYV_NUMBER_TO_U32, MAP, NUMBER, NUMBER},
-    {RKYV_NUMBER_TO_U64, MAP, NUMBER, LONG_NUMBER},
-    {RKYV_LONG_NUMBER_TO_U64, MAP, LONG_NUMBER, LONG_NUMBER},
-    {RKYV_TEXT_TO_U32, MAP, TEXT, NUMBER},
-    {RKYV_TEXT_TO_U64, MAP, TEXT, LONG_NUMBER},
-    {RKYV_TEXT_TO_TEXT, MAP, TEXT, TEXT},
-    {RKYV_SET_OF_NUMBERS, SET, NUMBER, NONE},
-    {RKYV_SET_OF_LONG_NUMBERS, SET, LONG_NUMBER, NONE},
-    {RKYV_SET_OF_TEXTS, SET, TEXT, NONE},
-    {RKYV_INDEX_NUMBER_TO_U32, INDEX_MAP, NUMBER, NUMBER},
-    {RKYV_INDEX_NUMBER_TO_U64, INDEX_MAP, NUMBER, LONG_NUMBER},
-    {RKYV_INDEX_LONG_NUMBER_TO_U64, INDEX_MAP, LONG_NUMBER, LONG_NUMBER},
-    {RKYV_INDEX_TEXT_TO_U32, INDEX_MAP, TEXT, NUMBER},
-    {RKYV_INDEX_TEXT_TO_U64, INDEX_MAP, TEXT, LONG_NUMBER},
-    {RKYV_INDEX_TEXT_TO_TEXT, INDEX_MAP, TEXT, TEXT},
+    {HK_NUMBER_TO_U32, MAP, NUMBER, NUMBER},
+    {HK_NUMBER_TO_U64, MAP, NUMBER, LONG_NUMBER},
+    {HK_LONG_NUMBER_TO_U64, MAP, LONG_NUMBER, LONG_NUMBER},
+    {HK_TEXT_TO_U32, MAP, TEXT, NUMBER},
+    {HK_TEXT_TO_U64, MAP, TEXT, LONG_NUMBER},
+    {HK_TEXT_TO_TEXT, MAP, TEXT, TEXT},
+    {HK_SET_OF_NUMBERS, SET, NUMBER, NONE},
+    {HK_SET_OF_LONG_NUMBERS, SET, LONG_NUMBER, NONE},
+    {HK_SET_OF_TEXTS, SET, TEXT, NONE},
+    {HK_INDEX_NUMBER_TO_U32, INDEX_MAP, NUMBER, NUMBER},
+    {HK_INDEX_NUMBER_TO_U64, INDEX_MAP, NUMBER, LONG_NUMBER},
+    {HK_INDEX_LONG_NUMBER_TO_U64, INDEX_MAP, LONG_NUMBER, LONG_NUMBER},
+    {HK_INDEX_TEXT_TO_U32, INDEX_MAP, TEXT, NUMBER},
+    {HK_INDEX_TEXT_TO_U64, INDEX_MAP, TEXT, LONG_NUMBER},
+    {HK_INDEX_TEXT_TO_TEXT, INDEX_MAP, TEXT, TEXT},
 };
 
 /* A line of the file. The texts of its entries are in the bytes of the file. */
@@ -97,11 +97,11 @@ static bool is_true(const struct line *line, const char *step, bool condition) {
 }
 
 /* Whether the status of a step is the expected one. */
-static bool returns(const struct line *line, const char *step, rkyv_status got,
-                    rkyv_status wanted) {
+static bool returns(const struct line *line, const char *step, hk_status got,
+                    hk_status wanted) {
     if (got != wanted) {
-        printf("line %lu: %s: %s, not %s\n", line->number, step, rkyv_status_name(got),
-               rkyv_status_name(wanted));
+        printf("line %lu: %s: %s, not %s\n", line->number, step, hk_status_name(got),
+               hk_status_name(wanted));
     }
     return got == wanted;
 }
@@ -123,154 +123,154 @@ static struct scalar text(const char *begin, size_t length) {
 }
 
 /* The archive of the entries, by the call for an array of them. */
-static rkyv_status build(const struct line *line, uint8_t **bytes, size_t *length) {
+static hk_status build(const struct line *line, uint8_t **bytes, size_t *length) {
     const struct entry *entries = line->entries;
     const size_t count = line->count;
     const uint32_t kind = line->kind.kind, width = line->width;
-    rkyv_status status = RKYV_WRONG_KIND;
+    hk_status status = HK_WRONG_KIND;
     if (line->kind.value == NONE && line->kind.key == NUMBER) {
         uint32_t *items = (uint32_t *)allocate(count, sizeof *items);
         for (size_t i = 0; i < count; i++) {
             items[i] = (uint32_t)entries[i].key.number;
         }
-        status = rkyv_build_number_set(items, count, width, bytes, length);
+        status = hk_build_number_set(items, count, width, bytes, length);
         free(items);
     } else if (line->kind.value == NONE && line->kind.key == LONG_NUMBER) {
         uint64_t *items = (uint64_t *)allocate(count, sizeof *items);
         for (size_t i = 0; i < count; i++) {
             items[i] = entries[i].key.number;
         }
-        status = rkyv_build_long_number_set(items, count, width, bytes, length);
+        status = hk_build_long_number_set(items, count, width, bytes, length);
         free(items);
     } else if (line->kind.value == NONE) {
-        rkyv_set_text *items = (rkyv_set_text *)allocate(count, sizeof *items);
+        hk_set_text *items = (hk_set_text *)allocate(count, sizeof *items);
         for (size_t i = 0; i < count; i++) {
             items[i].text = entries[i].key.text;
             items[i].length = entries[i].key.length;
         }
-        status = rkyv_build_text_set(items, count, width, bytes, length);
+        status = hk_build_text_set(items, count, width, bytes, length);
         free(items);
     } else if (line->kind.value == TEXT) {
-        rkyv_text_text_item *items = (rkyv_text_text_item *)allocate(count, sizeof *items);
+        hk_text_text_item *items = (hk_text_text_item *)allocate(count, sizeof *items);
         for (size_t i = 0; i < count; i++) {
             items[i].value = entries[i].value.text;
             items[i].value_length = entries[i].value.length;
             items[i].key = entries[i].key.text;
             items[i].key_length = entries[i].key.length;
         }
-        status = rkyv_build_text_texts(items, count, kind, width, bytes, length);
+        status = hk_build_text_texts(items, count, kind, width, bytes, length);
         free(items);
     } else if (line->kind.key == NUMBER) {
-        rkyv_number_item *items = (rkyv_number_item *)allocate(count, sizeof *items);
+        hk_number_item *items = (hk_number_item *)allocate(count, sizeof *items);
         for (size_t i = 0; i < count; i++) {
             items[i].value = entries[i].value.number;
             items[i].key = (uint32_t)entries[i].key.number;
         }
-        status = rkyv_build_numbers(items, count, kind, width, bytes, length);
+        status = hk_build_numbers(items, count, kind, width, bytes, length);
         free(items);
     } else if (line->kind.key == LONG_NUMBER) {
-        rkyv_long_number_item *items = (rkyv_long_number_item *)allocate(count, sizeof *items);
+        hk_long_number_item *items = (hk_long_number_item *)allocate(count, sizeof *items);
         for (size_t i = 0; i < count; i++) {
             items[i].value = entries[i].value.number;
             items[i].key = entries[i].key.number;
         }
-        status = rkyv_build_long_numbers(items, count, kind, width, bytes, length);
+        status = hk_build_long_numbers(items, count, kind, width, bytes, length);
         free(items);
     } else {
-        rkyv_text_item *items = (rkyv_text_item *)allocate(count, sizeof *items);
+        hk_text_item *items = (hk_text_item *)allocate(count, sizeof *items);
         for (size_t i = 0; i < count; i++) {
             items[i].value = entries[i].value.number;
             items[i].key = entries[i].key.text;
             items[i].key_length = entries[i].key.length;
         }
-        status = rkyv_build_texts(items, count, kind, width, bytes, length);
+        status = hk_build_texts(items, count, kind, width, bytes, length);
         free(items);
     }
     return status;
 }
 
 /* Appends an entry, whose value is a number, to a builder. */
-static rkyv_status put(rkyv_builder *builder, enum type key, const struct entry *entry) {
+static hk_status put(hk_builder *builder, enum type key, const struct entry *entry) {
     switch (key) {
     case NUMBER:
-        return rkyv_builder_put_number(builder, (uint32_t)entry->key.number, entry->value.number);
+        return hk_builder_put_number(builder, (uint32_t)entry->key.number, entry->value.number);
     case LONG_NUMBER:
-        return rkyv_builder_put_long_number(builder, entry->key.number, entry->value.number);
+        return hk_builder_put_long_number(builder, entry->key.number, entry->value.number);
     default:
-        return rkyv_builder_put_text(builder, entry->key.text, entry->key.length,
+        return hk_builder_put_text(builder, entry->key.text, entry->key.length,
                                      entry->value.number);
     }
 }
 
 /* The archive of the entries, whose values are numbers, by a builder. */
-static rkyv_status build_by_builder(const struct line *line, uint8_t **bytes, size_t *length) {
-    rkyv_builder *builder = NULL;
-    rkyv_status status = rkyv_builder_new(line->kind.kind, line->width, &builder);
-    for (size_t i = 0; status == RKYV_OK && i < line->count; i++) {
+static hk_status build_by_builder(const struct line *line, uint8_t **bytes, size_t *length) {
+    hk_builder *builder = NULL;
+    hk_status status = hk_builder_new(line->kind.kind, line->width, &builder);
+    for (size_t i = 0; status == HK_OK && i < line->count; i++) {
         status = put(builder, line->kind.key, &line->entries[i]);
     }
-    if (status == RKYV_OK) {
-        status = rkyv_builder_finish(builder, bytes, length);
+    if (status == HK_OK) {
+        status = hk_builder_finish(builder, bytes, length);
     }
-    rkyv_builder_free(builder);
+    hk_builder_free(builder);
     return status;
 }
 
 /* Whether the archive that a call builds is the bytes of the line. */
 static bool builds(const struct line *line, const char *step,
-                   rkyv_status (*call)(const struct line *, uint8_t **, size_t *)) {
+                   hk_status (*call)(const struct line *, uint8_t **, size_t *)) {
     uint8_t *bytes = NULL;
     size_t length = 0;
-    bool good = returns(line, step, call(line, &bytes, &length), RKYV_OK);
+    bool good = returns(line, step, call(line, &bytes, &length), HK_OK);
     good = good && is_true(line, step, length == line->length)
            && is_true(line, step, memcmp(bytes, line->bytes, length) == 0);
-    rkyv_bytes_free(bytes);
+    hk_bytes_free(bytes);
     return good;
 }
 
 /* Stores the value of a key of a map. An item of a set has the value of no entry. */
-static rkyv_status get(const struct line *line, const rkyv_map *map, struct scalar key,
+static hk_status get(const struct line *line, const hk_map *map, struct scalar key,
                        struct scalar *value) {
     const bool of_set = line->kind.value == NONE;
     if (line->kind.value == TEXT) {
-        return rkyv_map_get_text_of_text(map, key.text, key.length, &value->text, &value->length);
+        return hk_map_get_text_of_text(map, key.text, key.length, &value->text, &value->length);
     }
     switch (line->kind.key) {
     case NUMBER:
-        return of_set ? rkyv_set_contains_number(map, (uint32_t)key.number)
-                      : rkyv_map_get_number(map, (uint32_t)key.number, &value->number);
+        return of_set ? hk_set_contains_number(map, (uint32_t)key.number)
+                      : hk_map_get_number(map, (uint32_t)key.number, &value->number);
     case LONG_NUMBER:
-        return of_set ? rkyv_set_contains_long_number(map, key.number)
-                      : rkyv_map_get_long_number(map, key.number, &value->number);
+        return of_set ? hk_set_contains_long_number(map, key.number)
+                      : hk_map_get_long_number(map, key.number, &value->number);
     default:
-        return of_set ? rkyv_set_contains_text(map, key.text, key.length)
-                      : rkyv_map_get_text(map, key.text, key.length, &value->number);
+        return of_set ? hk_set_contains_text(map, key.text, key.length)
+                      : hk_map_get_text(map, key.text, key.length, &value->number);
     }
 }
 
 /* Stores the next item of a set. */
-static rkyv_status next_item(const struct line *line, const rkyv_map *set, uint64_t *next,
+static hk_status next_item(const struct line *line, const hk_map *set, uint64_t *next,
                              struct scalar *item) {
-    rkyv_number_member of_number = RKYV_PAIR_INIT;
-    rkyv_long_number_member of_long_number = RKYV_PAIR_INIT;
-    rkyv_text_member of_text = RKYV_PAIR_INIT;
-    rkyv_status status;
+    hk_number_member of_number = HK_PAIR_INIT;
+    hk_long_number_member of_long_number = HK_PAIR_INIT;
+    hk_text_member of_text = HK_PAIR_INIT;
+    hk_status status;
     switch (line->kind.key) {
     case NUMBER:
         of_number.next = *next;
-        status = rkyv_set_next_number(set, &of_number);
+        status = hk_set_next_number(set, &of_number);
         *next = of_number.next;
         *item = number(of_number.item);
         return status;
     case LONG_NUMBER:
         of_long_number.next = *next;
-        status = rkyv_set_next_long_number(set, &of_long_number);
+        status = hk_set_next_long_number(set, &of_long_number);
         *next = of_long_number.next;
         *item = number(of_long_number.item);
         return status;
     default:
         of_text.next = *next;
-        status = rkyv_set_next_text(set, &of_text);
+        status = hk_set_next_text(set, &of_text);
         *next = of_text.next;
         *item = text(of_text.item, of_text.item_length);
         return status;
@@ -278,16 +278,16 @@ static rkyv_status next_item(const struct line *line, const rkyv_map *set, uint6
 }
 
 /* Stores the next pair of a map. */
-static rkyv_status next_pair(const struct line *line, const rkyv_map *map, uint64_t *next,
+static hk_status next_pair(const struct line *line, const hk_map *map, uint64_t *next,
                              struct scalar *key, struct scalar *value) {
-    rkyv_number_pair of_number = RKYV_PAIR_INIT;
-    rkyv_long_number_pair of_long_number = RKYV_PAIR_INIT;
-    rkyv_text_pair of_text = RKYV_PAIR_INIT;
-    rkyv_text_text_pair of_texts = RKYV_PAIR_INIT;
-    rkyv_status status;
+    hk_number_pair of_number = HK_PAIR_INIT;
+    hk_long_number_pair of_long_number = HK_PAIR_INIT;
+    hk_text_pair of_text = HK_PAIR_INIT;
+    hk_text_text_pair of_texts = HK_PAIR_INIT;
+    hk_status status;
     if (line->kind.value == TEXT) {
         of_texts.next = *next;
-        status = rkyv_map_next_text_text(map, &of_texts);
+        status = hk_map_next_text_text(map, &of_texts);
         *next = of_texts.next;
         *key = text(of_texts.key, of_texts.key_length);
         *value = text(of_texts.value, of_texts.value_length);
@@ -296,21 +296,21 @@ static rkyv_status next_pair(const struct line *line, const rkyv_map *map, uint6
     switch (line->kind.key) {
     case NUMBER:
         of_number.next = *next;
-        status = rkyv_map_next_number(map, &of_number);
+        status = hk_map_next_number(map, &of_number);
         *next = of_number.next;
         *key = number(of_number.key);
         *value = number(of_number.value);
         return status;
     case LONG_NUMBER:
         of_long_number.next = *next;
-        status = rkyv_map_next_long_number(map, &of_long_number);
+        status = hk_map_next_long_number(map, &of_long_number);
         *next = of_long_number.next;
         *key = number(of_long_number.key);
         *value = number(of_long_number.value);
         return status;
     default:
         of_text.next = *next;
-        status = rkyv_map_next_text(map, &of_text);
+        status = hk_map_next_text(map, &of_text);
         *next = of_text.next;
         *key = text(of_text.key, of_text.key_length);
         *value = number(of_text.value);
@@ -350,27 +350,27 @@ static bool is_new_entry(const struct line *line, struct scalar key, struct scal
 static bool reads_map(const struct line *line) {
     const bool of_set = line->kind.value == NONE;
     const uint32_t kind = line->kind.kind;
-    rkyv_map map;
+    hk_map map;
     size_t count = 0;
     uint64_t next = 0;
     struct scalar key = number(0), value = number(0);
     bool good = returns(line, "open",
-                        rkyv_map_open(line->bytes, line->length, kind, line->width, &map), RKYV_OK)
-                && returns(line, "count", rkyv_map_count(&map, &count), RKYV_OK)
+                        hk_map_open(line->bytes, line->length, kind, line->width, &map), HK_OK)
+                && returns(line, "count", hk_map_count(&map, &count), HK_OK)
                 && is_true(line, "count", count == line->count);
     for (size_t i = 0; good && i < line->count; i++) {
         value = number(0);
-        good = returns(line, "get", get(line, &map, line->entries[i].key, &value), RKYV_OK)
+        good = returns(line, "get", get(line, &map, line->entries[i].key, &value), HK_OK)
                && is_true(line, "the value of get", same_scalar(value, line->entries[i].value));
     }
     good = good
            && returns(line, "get an absent key", get(line, &map, absent_key(line), &value),
-                      RKYV_NOT_FOUND);
+                      HK_NOT_FOUND);
     value = number(0);
     for (size_t i = 0; good && i <= line->count; i++) {
-        const rkyv_status status = of_set ? next_item(line, &map, &next, &key)
+        const hk_status status = of_set ? next_item(line, &map, &next, &key)
                                           : next_pair(line, &map, &next, &key, &value);
-        good = returns(line, "next", status, i < line->count ? RKYV_OK : RKYV_END)
+        good = returns(line, "next", status, i < line->count ? HK_OK : HK_END)
                && (i == line->count
                    || is_true(line, "the entry of next", is_new_entry(line, key, value)));
     }
@@ -378,49 +378,49 @@ static bool reads_map(const struct line *line) {
 }
 
 /* Stores the index and the value of a key of an index map. */
-static rkyv_status index_get(const struct line *line, const rkyv_index_map *map, struct scalar key,
+static hk_status index_get(const struct line *line, const hk_index_map *map, struct scalar key,
                              size_t *index, struct scalar *value) {
     if (line->kind.value == TEXT) {
-        return rkyv_index_get_text_of_text(map, key.text, key.length, index, &value->text,
+        return hk_index_get_text_of_text(map, key.text, key.length, index, &value->text,
                                            &value->length);
     }
     switch (line->kind.key) {
     case NUMBER:
-        return rkyv_index_get_number(map, (uint32_t)key.number, index, &value->number);
+        return hk_index_get_number(map, (uint32_t)key.number, index, &value->number);
     case LONG_NUMBER:
-        return rkyv_index_get_long_number(map, key.number, index, &value->number);
+        return hk_index_get_long_number(map, key.number, index, &value->number);
     default:
-        return rkyv_index_get_text(map, key.text, key.length, index, &value->number);
+        return hk_index_get_text(map, key.text, key.length, index, &value->number);
     }
 }
 
 /* Stores the pair at an index of an index map. */
-static rkyv_status index_at(const struct line *line, const rkyv_index_map *map, size_t index,
+static hk_status index_at(const struct line *line, const hk_index_map *map, size_t index,
                             struct scalar *key, struct scalar *value) {
-    rkyv_index_number_pair of_number = RKYV_PAIR_INIT;
-    rkyv_index_long_number_pair of_long_number = RKYV_PAIR_INIT;
-    rkyv_index_text_pair of_text = RKYV_PAIR_INIT;
-    rkyv_index_text_text_pair of_texts = RKYV_PAIR_INIT;
-    rkyv_status status;
+    hk_index_number_pair of_number = HK_PAIR_INIT;
+    hk_index_long_number_pair of_long_number = HK_PAIR_INIT;
+    hk_index_text_pair of_text = HK_PAIR_INIT;
+    hk_index_text_text_pair of_texts = HK_PAIR_INIT;
+    hk_status status;
     if (line->kind.value == TEXT) {
-        status = rkyv_index_text_text_at(map, index, &of_texts);
+        status = hk_index_text_text_at(map, index, &of_texts);
         *key = text(of_texts.key, of_texts.key_length);
         *value = text(of_texts.value, of_texts.value_length);
         return status;
     }
     switch (line->kind.key) {
     case NUMBER:
-        status = rkyv_index_number_at(map, index, &of_number);
+        status = hk_index_number_at(map, index, &of_number);
         *key = number(of_number.key);
         *value = number(of_number.value);
         return status;
     case LONG_NUMBER:
-        status = rkyv_index_long_number_at(map, index, &of_long_number);
+        status = hk_index_long_number_at(map, index, &of_long_number);
         *key = number(of_long_number.key);
         *value = number(of_long_number.value);
         return status;
     default:
-        status = rkyv_index_text_at(map, index, &of_text);
+        status = hk_index_text_at(map, index, &of_text);
         *key = text(of_text.key, of_text.key_length);
         *value = number(of_text.value);
         return status;
@@ -430,29 +430,29 @@ static rkyv_status index_at(const struct line *line, const rkyv_index_map *map, 
 /* Whether the bytes of the line open as an index map with its entries, in insertion order. */
 static bool reads_index_map(const struct line *line) {
     const uint32_t kind = line->kind.kind;
-    rkyv_index_map map;
+    hk_index_map map;
     size_t count = 0, index = 0;
     struct scalar key = number(0), value = number(0);
     bool good = returns(line, "open",
-                        rkyv_index_open(line->bytes, line->length, kind, line->width, &map),
-                        RKYV_OK)
-                && returns(line, "count", rkyv_index_count(&map, &count), RKYV_OK)
+                        hk_index_open(line->bytes, line->length, kind, line->width, &map),
+                        HK_OK)
+                && returns(line, "count", hk_index_count(&map, &count), HK_OK)
                 && is_true(line, "count", count == line->count);
     for (size_t i = 0; good && i < line->count; i++) {
         const struct entry *entry = &line->entries[i];
         value = number(0);
-        good = returns(line, "get", index_get(line, &map, entry->key, &index, &value), RKYV_OK)
+        good = returns(line, "get", index_get(line, &map, entry->key, &index, &value), HK_OK)
                && is_true(line, "the index of get", index == i)
                && is_true(line, "the value of get", same_scalar(value, entry->value))
-               && returns(line, "at", index_at(line, &map, i, &key, &value), RKYV_OK)
+               && returns(line, "at", index_at(line, &map, i, &key, &value), HK_OK)
                && is_true(line, "the key of at", same_scalar(key, entry->key))
                && is_true(line, "the value of at", same_scalar(value, entry->value));
     }
     return good
            && returns(line, "get an absent key",
-                      index_get(line, &map, absent_key(line), &index, &value), RKYV_NOT_FOUND)
+                      index_get(line, &map, absent_key(line), &index, &value), HK_NOT_FOUND)
            && returns(line, "at the end", index_at(line, &map, line->count, &key, &value),
-                      RKYV_END);
+                      HK_END);
 }
 
 /* Whether the calls agree with the line. */
@@ -564,7 +564,7 @@ static const struct kind *kind_of(size_t collection, size_t key, size_t value) {
     return NULL;
 }
 
-/* Whether a line agrees. One whose collection or types rkyv.h does not have is not counted. */
+/* Whether a line agrees. One whose collection or types hodkhaki.h does not have is not counted. */
 static bool line_agrees(unsigned long line_number, struct part rest, size_t *counts) {
     struct line line = {line_number, {0, MAP, NONE, NONE}, 0, 0, NULL, 0, NULL};
     struct part fields[6];

@@ -1,18 +1,18 @@
-/* An example of the calls of rkyv.h that build: builds the archive of a map or a set.
+/* An example of the calls of hodkhaki.h that build: builds the archive of a map or a set.
  *
  *     build KIND WIDTH FILE [container] < PAIRS
  *
- * KIND is the number of a `rkyv_kind`. KIND and WIDTH are decimal numbers of 32 bits. A pair is a
+ * KIND is the number of a `hk_kind`. KIND and WIDTH are decimal numbers of 32 bits. A pair is a
  * line `VALUE KEY`, without spaces in the value. An item of a set is a line with a space in front. A
  * line has at most 65,535 bytes, and none is zero. A number is at most 18446744073709551615, and a
  * key of 32 bits is taken modulo 4294967296. The file has the archive, or its container with a
- * checksum. The last status is printed. It is RKYV_TOO_LONG for a longer line, or for more than 2,048
- * lines if no builder is used. The file is written only if it is RKYV_OK, else its message is printed
+ * checksum. The last status is printed. It is HK_TOO_LONG for a longer line, or for more than 2,048
+ * lines if no builder is used. The file is written only if it is HK_OK, else its message is printed
  * to standard error. A file that can't be written whole is left in part.
  *
  * The program exits with 1 if the lines can't be read or the file or standard output can't be
  * written, with 2 if the arguments are wrong, and else with 0. */
-#include "rkyv.h"
+#include "hodkhaki.h"
 
 #include <errno.h>
 #include <stdio.h>
@@ -24,48 +24,48 @@
 
 static char line[1 << 16];
 
-/* Reads the next line, without its end. Returns RKYV_END if none remains, and RKYV_TOO_LONG if `line`
+/* Reads the next line, without its end. Returns HK_END if none remains, and HK_TOO_LONG if `line`
  * has no room for it. */
-static rkyv_status next_line(void) {
+static hk_status next_line(void) {
     size_t length = 0;
     int byte = getc(stdin);
     if (byte == EOF) {
-        return RKYV_END;
+        return HK_END;
     }
     while (byte != EOF && byte != '\n') {
         if (length + 1 == sizeof line) {
-            return RKYV_TOO_LONG;
+            return HK_TOO_LONG;
         }
         line[length++] = (char)byte;
         byte = getc(stdin);
     }
     line[length] = 0;
-    return RKYV_OK;
+    return HK_OK;
 }
 
 /* Whether this program uses a builder: not for a set, for a map to texts, or for a hash map with number
  * keys of 64 bits. */
 static int has_builder(uint32_t kind) {
-    return kind <= RKYV_INDEX_TEXT_TO_U64 || kind == RKYV_INDEX_LONG_NUMBER_TO_U32
-        || kind == RKYV_INDEX_LONG_NUMBER_TO_U64;
+    return kind <= HK_INDEX_TEXT_TO_U64 || kind == HK_INDEX_LONG_NUMBER_TO_U32
+        || kind == HK_INDEX_LONG_NUMBER_TO_U64;
 }
 
 /* Appends the pair of a line. */
-static rkyv_status put(rkyv_builder *builder, uint32_t kind, char *line) {
+static hk_status put(hk_builder *builder, uint32_t kind, char *line) {
     char *key;
     uint64_t value = strtoull(line, &key, 10);
     key += *key == ' ';
     switch (kind) {
-    case RKYV_TEXT_TO_U32:
-    case RKYV_TEXT_TO_U64:
-    case RKYV_INDEX_TEXT_TO_U32:
-    case RKYV_INDEX_TEXT_TO_U64:
-        return rkyv_builder_put_text(builder, key, strlen(key), value);
-    case RKYV_INDEX_LONG_NUMBER_TO_U32:
-    case RKYV_INDEX_LONG_NUMBER_TO_U64:
-        return rkyv_builder_put_long_number(builder, strtoull(key, NULL, 10), value);
+    case HK_TEXT_TO_U32:
+    case HK_TEXT_TO_U64:
+    case HK_INDEX_TEXT_TO_U32:
+    case HK_INDEX_TEXT_TO_U64:
+        return hk_builder_put_text(builder, key, strlen(key), value);
+    case HK_INDEX_LONG_NUMBER_TO_U32:
+    case HK_INDEX_LONG_NUMBER_TO_U64:
+        return hk_builder_put_long_number(builder, strtoull(key, NULL, 10), value);
     default:
-        return rkyv_builder_put_number(builder, (uint32_t)strtoul(key, NULL, 10), value);
+        return hk_builder_put_number(builder, (uint32_t)strtoul(key, NULL, 10), value);
     }
 }
 
@@ -91,44 +91,44 @@ static int written(const char *path, const uint8_t *header, size_t header_length
 }
 
 /* Builds the archive of the pairs of all lines by a builder. */
-static rkyv_status build(uint32_t kind, uint32_t width, uint8_t **bytes, size_t *length) {
-    rkyv_builder *builder;
-    rkyv_status status = rkyv_builder_new(kind, width, &builder);
-    while (status == RKYV_OK && (status = next_line()) == RKYV_OK) {
+static hk_status build(uint32_t kind, uint32_t width, uint8_t **bytes, size_t *length) {
+    hk_builder *builder;
+    hk_status status = hk_builder_new(kind, width, &builder);
+    while (status == HK_OK && (status = next_line()) == HK_OK) {
         status = put(builder, kind, line);
     }
-    if (status == RKYV_END) {
-        status = rkyv_builder_finish(builder, bytes, length);
+    if (status == HK_END) {
+        status = hk_builder_finish(builder, bytes, length);
     }
-    rkyv_builder_free(builder);
+    hk_builder_free(builder);
     return status;
 }
 
 /* The lines, and their items in the form of each call that builds. */
 static char *lines[ROOM];
-static rkyv_text_text_item texts[ROOM];
-static rkyv_number_text_item numbers[ROOM];
-static rkyv_long_number_text_item long_number_texts[ROOM];
-static rkyv_long_number_item long_numbers[ROOM];
-static rkyv_set_text set_texts[ROOM];
+static hk_text_text_item texts[ROOM];
+static hk_number_text_item numbers[ROOM];
+static hk_long_number_text_item long_number_texts[ROOM];
+static hk_long_number_item long_numbers[ROOM];
+static hk_set_text set_texts[ROOM];
 static uint32_t set_numbers[ROOM];
 static uint64_t set_long_numbers[ROOM];
 
 /* Stores the item at an index, of a copy of the line. */
-static rkyv_status store(size_t index) {
+static hk_status store(size_t index) {
     char *value = (char *)malloc(strlen(line) + 1);
     if (value == NULL) {
-        return RKYV_NO_MEMORY;
+        return HK_NO_MEMORY;
     }
     lines[index] = strcpy(value, line);
     const size_t value_length = strcspn(value, " ");
     const char *key = value + value_length + (value[value_length] == ' ');
     const uint64_t long_key = strtoull(key, NULL, 10);
-    const rkyv_text_text_item text = {value, value_length, key, strlen(key)};
-    const rkyv_number_text_item number = {value, value_length, (uint32_t)long_key};
-    const rkyv_long_number_text_item long_number_text = {value, value_length, long_key};
-    const rkyv_long_number_item long_number = {strtoull(value, NULL, 10), long_key};
-    const rkyv_set_text set_text = {text.key, text.key_length};
+    const hk_text_text_item text = {value, value_length, key, strlen(key)};
+    const hk_number_text_item number = {value, value_length, (uint32_t)long_key};
+    const hk_long_number_text_item long_number_text = {value, value_length, long_key};
+    const hk_long_number_item long_number = {strtoull(value, NULL, 10), long_key};
+    const hk_set_text set_text = {text.key, text.key_length};
     texts[index] = text;
     numbers[index] = number;
     long_number_texts[index] = long_number_text;
@@ -136,45 +136,45 @@ static rkyv_status store(size_t index) {
     set_texts[index] = set_text;
     set_numbers[index] = number.key;
     set_long_numbers[index] = long_key;
-    return RKYV_OK;
+    return HK_OK;
 }
 
 /* Builds the archive of the stored items by one call. */
-static rkyv_status build_stored(size_t count, uint32_t kind, uint32_t width, uint8_t **bytes,
+static hk_status build_stored(size_t count, uint32_t kind, uint32_t width, uint8_t **bytes,
                                 size_t *length) {
     switch (kind) {
-    case RKYV_NUMBER_TO_TEXT:
-    case RKYV_INDEX_NUMBER_TO_TEXT:
-        return rkyv_build_number_texts(numbers, count, kind, width, bytes, length);
-    case RKYV_LONG_NUMBER_TO_TEXT:
-    case RKYV_INDEX_LONG_NUMBER_TO_TEXT:
-        return rkyv_build_long_number_texts(long_number_texts, count, kind, width, bytes, length);
-    case RKYV_TEXT_TO_TEXT:
-    case RKYV_INDEX_TEXT_TO_TEXT:
-        return rkyv_build_text_texts(texts, count, kind, width, bytes, length);
-    case RKYV_SET_OF_LONG_NUMBERS:
-        return rkyv_build_long_number_set(set_long_numbers, count, width, bytes, length);
-    case RKYV_SET_OF_NUMBERS:
-        return rkyv_build_number_set(set_numbers, count, width, bytes, length);
-    case RKYV_SET_OF_TEXTS:
-        return rkyv_build_text_set(set_texts, count, width, bytes, length);
+    case HK_NUMBER_TO_TEXT:
+    case HK_INDEX_NUMBER_TO_TEXT:
+        return hk_build_number_texts(numbers, count, kind, width, bytes, length);
+    case HK_LONG_NUMBER_TO_TEXT:
+    case HK_INDEX_LONG_NUMBER_TO_TEXT:
+        return hk_build_long_number_texts(long_number_texts, count, kind, width, bytes, length);
+    case HK_TEXT_TO_TEXT:
+    case HK_INDEX_TEXT_TO_TEXT:
+        return hk_build_text_texts(texts, count, kind, width, bytes, length);
+    case HK_SET_OF_LONG_NUMBERS:
+        return hk_build_long_number_set(set_long_numbers, count, width, bytes, length);
+    case HK_SET_OF_NUMBERS:
+        return hk_build_number_set(set_numbers, count, width, bytes, length);
+    case HK_SET_OF_TEXTS:
+        return hk_build_text_set(set_texts, count, width, bytes, length);
     default:
-        return rkyv_build_long_numbers(long_numbers, count, kind, width, bytes, length);
+        return hk_build_long_numbers(long_numbers, count, kind, width, bytes, length);
     }
 }
 
 /* Builds the archive of the pairs of all lines, or of a set, by one call. */
-static rkyv_status build_at_once(uint32_t kind, uint32_t width, uint8_t **bytes, size_t *length) {
+static hk_status build_at_once(uint32_t kind, uint32_t width, uint8_t **bytes, size_t *length) {
     size_t count = 0;
-    rkyv_status status = next_line();
-    while (status == RKYV_OK) {
-        status = count < ROOM ? store(count) : RKYV_TOO_LONG;
-        if (status == RKYV_OK) {
+    hk_status status = next_line();
+    while (status == HK_OK) {
+        status = count < ROOM ? store(count) : HK_TOO_LONG;
+        if (status == HK_OK) {
             count++;
             status = next_line();
         }
     }
-    if (status == RKYV_END) {
+    if (status == HK_END) {
         status = build_stored(count, kind, width, bytes, length);
     }
     while (count > 0) {
@@ -203,25 +203,25 @@ int main(int count, char **words) {
         fprintf(stderr, "build KIND WIDTH FILE [container] < PAIRS\n");
         return 2;
     }
-    uint8_t header[RKYV_CONTAINER_HEADER] = {0}, *bytes = NULL;
+    uint8_t header[HK_CONTAINER_HEADER] = {0}, *bytes = NULL;
     size_t length = 0;
-    rkyv_status status = has_builder(kind) ? build(kind, width, &bytes, &length)
+    hk_status status = has_builder(kind) ? build(kind, width, &bytes, &length)
                                            : build_at_once(kind, width, &bytes, &length);
     if (ferror(stdin)) {
         perror("standard input");
-        rkyv_bytes_free(bytes);
+        hk_bytes_free(bytes);
         return 1;
     }
-    if (status == RKYV_OK && in_container) {
-        status = rkyv_container_header(bytes, length, kind, width, true, header);
+    if (status == HK_OK && in_container) {
+        status = hk_container_header(bytes, length, kind, width, true, header);
     }
-    printf("%s\n", rkyv_status_name(status));
-    if (status != RKYV_OK) {
-        fprintf(stderr, "%s: %s\n", words[3], rkyv_status_message(status));
+    printf("%s\n", hk_status_name(status));
+    if (status != HK_OK) {
+        fprintf(stderr, "%s: %s\n", words[3], hk_status_message(status));
     }
-    int failed = status == RKYV_OK && !written(words[3], header, in_container ? sizeof header : 0,
+    int failed = status == HK_OK && !written(words[3], header, in_container ? sizeof header : 0,
                                                bytes, length);
-    rkyv_bytes_free(bytes);
+    hk_bytes_free(bytes);
     if (fflush(stdout) != 0 || ferror(stdout)) {
         perror("standard output");
         return 1;

@@ -1,10 +1,10 @@
-/* The three functions with which the proved library and rkyv.c allocate memory. memory.c implements
+/* The three functions with which the proved library and hodkhaki.c allocate memory. memory.c implements
  * them over the C library. A program may implement them itself, and then leaves memory.c out.
  *
  * Each function returns: it throws no exception and does not jump. Threads may call them at the same
  * time. */
-#ifndef RKYV_MEMORY_H
-#define RKYV_MEMORY_H
+#ifndef HODKHAKI_MEMORY_H
+#define HODKHAKI_MEMORY_H
 
 #include <stdbool.h>
 #include <stddef.h>

@@ -1,10 +1,10 @@
 //! Links the static library `libffi_rkyv.a` and the C functions of `../c`, which it compiles.
 //!
-//! `RKYV_C_LIBRARY` is the library's path. If it isn't set, the library is expected where `rt lib`
+//! `HODKHAKI_LIBRARY` is the library's path. If it isn't set, the library is expected where `rt lib`
 //! leaves it, in `../../crates/ffi_rkyv/out`. If it isn't there, `cargo check`, `cargo clippy` and
 //! `cargo doc` work, building fails, and a warning says how to give the path.
 //!
-//! The library is for x86-64 Linux. For another target, a path in `RKYV_C_LIBRARY` is an error. If it
+//! The library is for x86-64 Linux. For another target, a path in `HODKHAKI_LIBRARY` is an error. If it
 //! isn't set, the same commands work, building fails, and a warning names the target.
 //!
 //! `CC` and `AR` are the commands of the C compiler and the archiver, `cc` and `ar` by default.
@@ -16,7 +16,7 @@ use std::fmt::Display;
 use std::path::{Path, PathBuf};
 use std::process::{exit, Command};
 
-const VARIABLE: &str = "RKYV_C_LIBRARY";
+const VARIABLE: &str = "HODKHAKI_LIBRARY";
 
 fn fail(text: impl Display) -> ! {
     eprintln!("{text}");
@@ -58,7 +58,7 @@ fn target() -> String {
     env::var("TARGET").unwrap()
 }
 
-/// Whether the library is for the target: x86-64 Linux with pointers of 64 bits, as `rkyv.c` needs.
+/// Whether the library is for the target: x86-64 Linux with pointers of 64 bits, as `hodkhaki.c` needs.
 fn is_for_target() -> bool {
     let is = |property: &str, value: &str| {
         env::var(format!("CARGO_CFG_TARGET_{property}")).is_ok_and(|of| of == value)
@@ -103,7 +103,7 @@ fn library(here: &Path) -> Option<PathBuf> {
 /// Compiles the C functions to a static library in `out`.
 fn compile(sources: &Path, out: &Path) {
     check_compiler();
-    let archive = out.join("librkyv_calls.a");
+    let archive = out.join("libhodkhaki_calls.a");
     let mut archiver = command("AR", "ar");
     archiver.arg("crs").arg(&archive);
     for name in ["rkyv", "memory"] {
@@ -150,7 +150,7 @@ fn main() {
     let name = library.file_name().expect("the path of a file has a name");
     println!("cargo::rustc-link-search=native={}", out.display());
     println!("cargo::rustc-link-search=native={}", folder.display());
-    println!("cargo::rustc-link-lib=static=rkyv_calls");
+    println!("cargo::rustc-link-lib=static=hodkhaki_calls");
     println!(
         "cargo::rustc-link-lib=static:+verbatim={}",
         Path::new(name).display()

@@ -1,4 +1,4 @@
-//! Measures the maps of the Rust crate `rkyv_maps` against std's `HashMap`, and prints a table in
+//! Measures the maps of the Rust crate `hodkhaki` against std's `HashMap`, and prints a table in
 //! Markdown.
 //!
 //! With the argument `--sizes`, the maps have 100 to 10,000,000 entries.
@@ -15,7 +15,7 @@ mod random;
 use common::{flags, median, numbers, sum, text_of, time_each, COUNTS, KEYS_A_VALUE, MISS, SIZES};
 use fx::BuildFx;
 use random::{XorShift32, XorShift64};
-use rkyv_maps::{Builder, Key, Map, Width};
+use hodkhaki::{Builder, Key, Map, Width};
 use std::collections::HashMap;
 use std::hash::{BuildHasher, Hash, RandomState};
 use std::hint::black_box;

@@ -15,8 +15,8 @@ use std::fs::File;
 use std::sync::OnceLock;
 use std::thread;
 
+use hodkhaki::{Builder, Checksum, Map, MapBuf, Width};
 use mapping::{Mapping, Temporary};
-use rkyv_maps::{Builder, Checksum, Map, MapBuf, Width};
 
 static DICTIONARY: OnceLock<MapBuf<str, u32, Mapping>> = OnceLock::new();
 

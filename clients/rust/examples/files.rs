@@ -13,8 +13,8 @@ mod mapping;
 use std::error::Error;
 use std::fs::File;
 
+use hodkhaki::{Builder, Checksum, Map, MapMut, Width};
 use mapping::{Mapping, MappingMut, Temporary};
-use rkyv_maps::{Builder, Checksum, Map, MapMut, Width};
 
 fn main() -> Result<(), Box<dyn Error>> {
     let file = Temporary::new("visits.map")?;

@@ -10,7 +10,7 @@
 use std::collections::HashMap;
 use std::error::Error;
 
-use rkyv_maps::{Builder, Checksum, IndexMap, Width};
+use hodkhaki::{Builder, Checksum, IndexMap, Width};
 
 const TEXT: &str =
     "the map is built once and the bytes of the map are read many times, and the words \

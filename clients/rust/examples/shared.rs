@@ -9,7 +9,7 @@
 
 use std::thread;
 
-use rkyv_maps::{Builder, Error, Width};
+use hodkhaki::{Builder, Error, Width};
 
 const THREADS: u32 = 4;
 const KEYS: u32 = 100_000;

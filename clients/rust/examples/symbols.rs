@@ -20,8 +20,8 @@ use std::io::{self, BufRead, Write};
 use std::path::{Path, PathBuf};
 use std::process::ExitCode;
 
+use hodkhaki::{Builder, Checksum, Map, Width};
 use mapping::{Mapping, Temporary};
-use rkyv_maps::{Builder, Checksum, Map, Width};
 
 const LINES: &str = "\
 0000000000001139 T main

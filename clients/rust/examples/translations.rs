@@ -8,7 +8,7 @@
 
 use std::error::Error;
 
-use rkyv_maps::{Builder, Checksum, Map, Width};
+use hodkhaki::{Builder, Checksum, Map, Width};
 
 /// Words of Czech, each with its meaning.
 const WORDS: &str = "\

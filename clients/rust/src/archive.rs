@@ -95,7 +95,7 @@ impl Drop for Built {
     fn drop(&mut self) {
         // SAFETY: the bytes are of a call that builds, and are freed only here. Each handle borrowed
         // the struct.
-        unsafe { raw::rkyv_bytes_free(self.bytes.as_ptr()) }
+        unsafe { raw::hk_bytes_free(self.bytes.as_ptr()) }
     }
 }
 
@@ -106,7 +106,7 @@ impl Drop for Built {
 ///
 /// # Examples
 /// ```no_run
-/// use rkyv_maps::{Builder, Checksum, Map, Width};
+/// use hodkhaki::{Builder, Checksum, Map, Width};
 ///
 /// # fn main() -> Result<(), Box<dyn std::error::Error>> {
 /// let archive = Builder::<str, u32>::from([("one", 1), ("two", 2)]).build(Width::Narrow)?;
@@ -154,9 +154,9 @@ impl<K: Key + ?Sized, V: Value + ?Sized> Archive<K, V> {
     ///
     /// # Examples
     /// ```
-    /// use rkyv_maps::{Builder, Width};
+    /// use hodkhaki::{Builder, Width};
     ///
-    /// # fn main() -> Result<(), rkyv_maps::Error> {
+    /// # fn main() -> Result<(), hodkhaki::Error> {
     /// let archive = Builder::<str, u64>::from([("main", 1), ("_init", 2)]).build(Width::Narrow)?;
     /// assert_eq!(archive.open().get("main"), Some(1));
     /// assert_eq!(archive.open().get("_init"), Some(2));
@@ -225,9 +225,9 @@ impl<K: ?Sized, V: ?Sized> fmt::Debug for Archive<K, V> {
 ///
 /// # Examples
 /// ```
-/// use rkyv_maps::{Builder, Checksum, IndexMap, Width};
+/// use hodkhaki::{Builder, Checksum, IndexMap, Width};
 ///
-/// # fn main() -> Result<(), rkyv_maps::Error> {
+/// # fn main() -> Result<(), hodkhaki::Error> {
 /// let builder = Builder::<str, u32>::from([("one", 1), ("two", 2)]);
 /// let container = builder.build_index(Width::Narrow)?.to_container(Checksum::Adler32);
 /// let map = IndexMap::<str, u32>::open_container(&container)?;

@@ -29,7 +29,7 @@ use crate::{Error, IndexMap, Iter, Key, Map, Members, Set, Value, Width};
 ///
 /// # Examples
 /// ```
-/// use rkyv_maps::{Builder, Checksum, MapBuf, StableBytes, Width};
+/// use hodkhaki::{Builder, Checksum, MapBuf, StableBytes, Width};
 /// use std::ops::Range;
 ///
 /// /// A part of a file that was read.
@@ -45,7 +45,7 @@ use crate::{Error, IndexMap, Iter, Key, Map, Members, Set, Value, Width};
 ///     }
 /// }
 ///
-/// # fn main() -> Result<(), rkyv_maps::Error> {
+/// # fn main() -> Result<(), hodkhaki::Error> {
 /// let container = Builder::from([("tea", 3_u64)]).build(Width::Narrow)?.to_container(Checksum::None);
 /// let file = [&b"a title"[..], &container].concat();
 /// let part = Part { range: 7..file.len(), file: file.into() };
@@ -272,14 +272,14 @@ map_buf! {
     ///
     /// # Examples
     /// ```
-    /// use rkyv_maps::{Builder, Checksum, MapBuf, Width};
+    /// use hodkhaki::{Builder, Checksum, MapBuf, Width};
     /// use std::sync::Arc;
     ///
     /// struct Symbols {
     ///     addresses: MapBuf<str, u64>,
     /// }
     ///
-    /// # fn main() -> Result<(), rkyv_maps::Error> {
+    /// # fn main() -> Result<(), hodkhaki::Error> {
     /// let archive = Builder::<str, u64>::from([("main", 0x1139)]).build(Width::Narrow)?;
     /// let container = archive.to_container(Checksum::Adler32);
     /// let symbols = Symbols { addresses: MapBuf::open_container(container)? };
@@ -295,8 +295,8 @@ map_buf! {
     /// The `Map` can't outlive the bytes:
     ///
     /// ```compile_fail,E0505
-    /// # use rkyv_maps::{MapBuf, Width};
-    /// # fn main() -> Result<(), rkyv_maps::Error> {
+    /// # use hodkhaki::{MapBuf, Width};
+    /// # fn main() -> Result<(), hodkhaki::Error> {
     /// let owned = MapBuf::<str, u64>::open(vec![1, 0, 0, 0, 0, 0, 0, 0, 0, 0, 0, 0], Width::Narrow)?;
     /// let map = owned.as_map();
     /// drop(owned);
@@ -314,9 +314,9 @@ map_buf! {
     ///
     /// # Examples
     /// ```
-    /// use rkyv_maps::{Builder, IndexMapBuf, Width};
+    /// use hodkhaki::{Builder, IndexMapBuf, Width};
     ///
-    /// # fn main() -> Result<(), rkyv_maps::Error> {
+    /// # fn main() -> Result<(), hodkhaki::Error> {
     /// let builder = Builder::<str, u32>::from([("one", 1), ("two", 2)]);
     /// let bytes: Vec<u8> = builder.build_index(Width::Narrow)?.into();
     /// let map = IndexMapBuf::<str, u32>::open(bytes, Width::Narrow)?;
@@ -332,9 +332,9 @@ map_buf! {
 ///
 /// # Examples
 /// ```
-/// use rkyv_maps::{SetBuf, SetBuilder, Width};
+/// use hodkhaki::{SetBuf, SetBuilder, Width};
 ///
-/// # fn main() -> Result<(), rkyv_maps::Error> {
+/// # fn main() -> Result<(), hodkhaki::Error> {
 /// let bytes: Vec<u8> = SetBuilder::<str>::from(["tea", "cake"]).build(Width::Narrow)?.into();
 /// let set = SetBuf::<str>::open(bytes, Width::Narrow)?;
 /// assert!(set.contains("tea") && !set.contains("coffee"));

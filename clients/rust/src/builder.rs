@@ -28,9 +28,9 @@ use crate::{IndexMap, Map};
 ///
 /// # Examples
 /// ```
-/// use rkyv_maps::{Builder, Width};
+/// use hodkhaki::{Builder, Width};
 ///
-/// # fn main() -> Result<(), rkyv_maps::Error> {
+/// # fn main() -> Result<(), hodkhaki::Error> {
 /// let mut squares: Builder<u32, u64> = (0..1000).map(|n| (n, u64::from(n).pow(2))).collect();
 /// squares.push(1000, 1_000_000);
 /// let archive = squares.build(Width::Narrow)?;
@@ -42,10 +42,10 @@ use crate::{IndexMap, Map};
 /// Pairs of a std map:
 ///
 /// ```
-/// use rkyv_maps::{Builder, Width};
+/// use hodkhaki::{Builder, Width};
 /// use std::collections::HashMap;
 ///
-/// # fn main() -> Result<(), rkyv_maps::Error> {
+/// # fn main() -> Result<(), hodkhaki::Error> {
 /// let counts = HashMap::from([(String::from("tea"), 3_u64), (String::from("coffee"), 4)]);
 /// let archive = Builder::from(&counts).build(Width::Narrow)?;
 /// assert_eq!(archive.open().get("tea"), Some(3));
@@ -113,9 +113,9 @@ impl<K: Key + ?Sized, V: Value + ?Sized> Builder<K, V> {
     ///
     /// # Examples
     /// ```
-    /// use rkyv_maps::{Builder, Width};
+    /// use hodkhaki::{Builder, Width};
     ///
-    /// # fn main() -> Result<(), rkyv_maps::Error> {
+    /// # fn main() -> Result<(), hodkhaki::Error> {
     /// let mut builder = Builder::<str, u64>::new();
     /// for (position, word) in "to be or not to be".split(' ').enumerate() {
     ///     builder.insert(word, position as u64);
@@ -180,9 +180,9 @@ impl<K: Key + ?Sized, V: Value + ?Sized> Builder<K, V> {
     ///
     /// # Examples
     /// ```
-    /// use rkyv_maps::{Builder, Width};
+    /// use hodkhaki::{Builder, Width};
     ///
-    /// # fn main() -> Result<(), rkyv_maps::Error> {
+    /// # fn main() -> Result<(), hodkhaki::Error> {
     /// let builder = Builder::<str, u32>::from([("tea", 3), ("coffee", 4)]);
     /// let archive = builder.build_index(Width::Narrow)?;
     /// assert_eq!(archive.open().get_index(1), Some(("coffee", 4)));

@@ -1,4 +1,4 @@
-//! The calls for each type of keys: of the proved library to look up, and of `../c/rkyv.h` to build
+//! The calls for each type of keys: of the proved library to look up, and of `../c/hodkhaki.h` to build
 //! and to write.
 //!
 //! A lookup has a function for each type of values and each width. The types of a map decide the
@@ -202,36 +202,36 @@ macro_rules! calls {
 
 calls! {
     u32, u32, key => (key: u32 = *key),
-    numbers: rkyv_build_numbers
-        rkyv_map_set_number rkyv_index_set_number,
-    values u32: rkyv_c_get_number_u32_narrow rkyv_c_get_number_u32_wide,
-    values u64: rkyv_c_get_number_u64_narrow rkyv_c_get_number_u64_wide,
-    texts: rkyv_build_number_texts,
-    values str: rkyv_c_get_text_of_number_narrow rkyv_c_get_text_of_number_wide,
-    units: rkyv_build_number_set
-        rkyv_c_contains_number_narrow rkyv_c_contains_number_wide,
+    numbers: hk_build_numbers
+        hk_map_set_number hk_index_set_number,
+    values u32: hk_c_get_number_u32_narrow hk_c_get_number_u32_wide,
+    values u64: hk_c_get_number_u64_narrow hk_c_get_number_u64_wide,
+    texts: hk_build_number_texts,
+    values str: hk_c_get_text_of_number_narrow hk_c_get_text_of_number_wide,
+    units: hk_build_number_set
+        hk_c_contains_number_narrow hk_c_contains_number_wide,
 }
 
 calls! {
     u64, u64, key => (key: u64 = *key),
-    numbers: rkyv_build_long_numbers
-        rkyv_map_set_long_number rkyv_index_set_long_number,
-    values u32: rkyv_c_get_long_number_u32_narrow rkyv_c_get_long_number_u32_wide,
-    values u64: rkyv_c_get_long_number_u64_narrow rkyv_c_get_long_number_u64_wide,
-    texts: rkyv_build_long_number_texts,
-    values str: rkyv_c_get_text_of_long_number_narrow rkyv_c_get_text_of_long_number_wide,
-    units: rkyv_build_long_number_set
-        rkyv_c_contains_long_number_narrow rkyv_c_contains_long_number_wide,
+    numbers: hk_build_long_numbers
+        hk_map_set_long_number hk_index_set_long_number,
+    values u32: hk_c_get_long_number_u32_narrow hk_c_get_long_number_u32_wide,
+    values u64: hk_c_get_long_number_u64_narrow hk_c_get_long_number_u64_wide,
+    texts: hk_build_long_number_texts,
+    values str: hk_c_get_text_of_long_number_narrow hk_c_get_text_of_long_number_wide,
+    units: hk_build_long_number_set
+        hk_c_contains_long_number_narrow hk_c_contains_long_number_wide,
 }
 
 calls! {
     str, RawText, key => (key: *const u8 = key.as_ptr(), key_length: usize = key.len()),
-    numbers: rkyv_build_texts
-        rkyv_map_set_text rkyv_index_set_text,
-    values u32: rkyv_c_get_text_u32_narrow rkyv_c_get_text_u32_wide,
-    values u64: rkyv_c_get_text_u64_narrow rkyv_c_get_text_u64_wide,
-    texts: rkyv_build_text_texts,
-    values str: rkyv_c_get_text_of_text_narrow rkyv_c_get_text_of_text_wide,
-    units: rkyv_build_text_set
-        rkyv_c_contains_text_narrow rkyv_c_contains_text_wide,
+    numbers: hk_build_texts
+        hk_map_set_text hk_index_set_text,
+    values u32: hk_c_get_text_u32_narrow hk_c_get_text_u32_wide,
+    values u64: hk_c_get_text_u64_narrow hk_c_get_text_u64_wide,
+    texts: hk_build_text_texts,
+    values str: hk_c_get_text_of_text_narrow hk_c_get_text_of_text_wide,
+    units: hk_build_text_set
+        hk_c_contains_text_narrow hk_c_contains_text_wide,
 }

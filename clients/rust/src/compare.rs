@@ -38,10 +38,10 @@ equals_map! {
     ///
     /// # Examples
     /// ```
-    /// use rkyv_maps::{Builder, Width};
+    /// use hodkhaki::{Builder, Width};
     /// use std::collections::HashMap;
     ///
-    /// # fn main() -> Result<(), rkyv_maps::Error> {
+    /// # fn main() -> Result<(), hodkhaki::Error> {
     /// let counts = HashMap::from([(String::from("tea"), 3_u64), (String::from("coffee"), 4)]);
     /// let mut builder = Builder::from(&counts);
     /// assert_eq!(builder.build(Width::Narrow)?.open(), counts);
@@ -102,9 +102,9 @@ equals_set! {
 ///
 /// # Examples
 /// ```
-/// use rkyv_maps::{Builder, Width};
+/// use hodkhaki::{Builder, Width};
 ///
-/// # fn main() -> Result<(), rkyv_maps::Error> {
+/// # fn main() -> Result<(), hodkhaki::Error> {
 /// let archive = Builder::<str, str>::from([("tea", "Tee")]).build(Width::Narrow)?;
 /// assert_eq!(&archive.open()["tea"], "Tee");
 /// # Ok(())

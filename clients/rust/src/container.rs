@@ -15,7 +15,7 @@ use crate::{Error, ErrorKind, Width};
 /// A program that matches on it needs an arm for others, which a later version may have:
 ///
 /// ```compile_fail,E0004
-/// # use rkyv_maps::Checksum;
+/// # use hodkhaki::Checksum;
 /// fn is_checked(checksum: Checksum) -> bool {
 ///     match checksum {
 ///         Checksum::None => false,
@@ -83,7 +83,7 @@ pub struct ContainerKind {
 ///
 /// # Examples
 /// ```
-/// use rkyv_maps::{container_kind, Builder, Checksum, Collection, Error, ItemType, Map, Width};
+/// use hodkhaki::{container_kind, Builder, Checksum, Collection, Error, ItemType, Map, Width};
 ///
 /// fn lookup(container: &[u8], name: &str) -> Result<Option<u64>, Box<dyn std::error::Error>> {
 ///     let kind = container_kind(container)?;
@@ -108,12 +108,12 @@ pub fn container_kind(container: &[u8]) -> Result<ContainerKind, Error> {
     let (pointer, length) = (container.as_ptr().cast(), container.len());
     let (mut kind, mut width) = (0, 0);
     // SAFETY: pointer and length are those of one slice. Kind and width have room for what is stored.
-    let status = unsafe { raw::rkyv_container_kind(pointer, length, &mut kind, &mut width) };
+    let status = unsafe { raw::hk_container_kind(pointer, length, &mut kind, &mut width) };
     // The errors of the header are the same ones for each kind and width.
     let explain = |error| {
         let kind = u32::KINDS[0];
         // SAFETY: pointer and length are those of one slice. `error` has room for the error.
-        unsafe { raw::rkyv_container_explain(pointer, length, kind, raw::ANY_WIDTH, error) }
+        unsafe { raw::hk_container_explain(pointer, length, kind, raw::ANY_WIDTH, error) }
     };
     check_open(status, explain)?;
     let types = types_of::<u32>(kind, Some(ItemType::U32))
@@ -133,7 +133,7 @@ pub fn container_kind(container: &[u8]) -> Result<ContainerKind, Error> {
     })
 }
 
-/// The collection and the types of a `rkyv_kind`, if its values are of this type.
+/// The collection and the types of a `hk_kind`, if its values are of this type.
 fn types_of<V: SealedValue + ?Sized>(
     kind: u32,
     value: Option<ItemType>,
@@ -164,7 +164,7 @@ fn types_of<V: SealedValue + ?Sized>(
 ///
 /// # Examples
 /// ```
-/// use rkyv_maps::{update_container, Builder, Checksum, Error, ErrorKind, Map, MapMut, Width};
+/// use hodkhaki::{update_container, Builder, Checksum, Error, ErrorKind, Map, MapMut, Width};
 ///
 /// # fn main() -> Result<(), Error> {
 /// let archive = Builder::<str, u64>::from([("visits", 10)]).build(Width::Narrow)?;
@@ -180,7 +180,7 @@ fn types_of<V: SealedValue + ?Sized>(
 pub fn update_container(container: &mut [u8]) -> Result<(), Error> {
     let (pointer, length) = (container.as_mut_ptr().cast(), container.len());
     // SAFETY: pointer and length are those of one slice, which is borrowed mutably.
-    check(unsafe { raw::rkyv_container_update(pointer, length) })
+    check(unsafe { raw::hk_container_update(pointer, length) })
 }
 
 /// The header of the container of an archive of a map of the kind.
@@ -193,7 +193,7 @@ pub(crate) fn header_of(
     let mut header = [0; HEADER_LEN];
     // SAFETY: pointer and length are those of one slice. The header has the length that is written.
     let status = unsafe {
-        raw::rkyv_container_header(
+        raw::hk_container_header(
             archive.as_ptr().cast(),
             archive.len(),
             kind,

@@ -16,7 +16,7 @@ use crate::raw::{self, RawError};
 /// A found code may also be that of a type that no map of this crate has.
 ///
 /// ```
-/// use rkyv_maps::{ErrorKind, Map, Width};
+/// use hodkhaki::{ErrorKind, Map, Width};
 ///
 /// let error = Map::<u32, u32>::open(&[0; 13], Width::Narrow).unwrap_err();
 /// assert_eq!(error.kind(), ErrorKind::Unaligned);
@@ -69,7 +69,7 @@ impl Error {
     /// building and of [`update_container`](crate::update_container) have no numbers.
     ///
     /// ```
-    /// use rkyv_maps::{Map, Width};
+    /// use hodkhaki::{Map, Width};
     ///
     /// let error = Map::<u32, u32>::open(&[0; 13], Width::Narrow).unwrap_err();
     /// assert_eq!(error.numbers(), Some((4, 0)));
@@ -206,7 +206,7 @@ pub enum ErrorKind {
     /// No map or set of this crate has the collection and the types in the header of a container.
     UnsupportedKind,
 
-    /// A status of `rkyv.h` that the calls of this crate are not expected to return.
+    /// A status of `hodkhaki.h` that the calls of this crate are not expected to return.
     Status(u32),
 }
 

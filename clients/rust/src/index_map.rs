@@ -22,9 +22,9 @@ use crate::{Error, Key, Number, Value, Width};
 ///
 /// # Examples
 /// ```
-/// use rkyv_maps::{Builder, IndexMap, Width};
+/// use hodkhaki::{Builder, IndexMap, Width};
 ///
-/// # fn main() -> Result<(), rkyv_maps::Error> {
+/// # fn main() -> Result<(), hodkhaki::Error> {
 /// let builder = Builder::<str, u64>::from([("main", 0x1139), ("_start", 0x1040)]);
 /// let archive = builder.build_index(Width::Narrow)?;
 /// let map = IndexMap::<str, u64>::open(archive.as_ref(), Width::Narrow)?;
@@ -75,7 +75,7 @@ impl<'a, K: Key + ?Sized, V: Value + ?Sized> IndexMap<'a, K, V> {
     ///
     /// # Examples
     /// ```
-    /// use rkyv_maps::{Error, ErrorKind, IndexMap, Width};
+    /// use hodkhaki::{Error, ErrorKind, IndexMap, Width};
     ///
     /// let error = IndexMap::<u32, u32>::open(&[0; 15], Width::Narrow).unwrap_err();
     /// assert_eq!(error.kind(), ErrorKind::OutOfRange);
@@ -98,7 +98,7 @@ impl<'a, K: Key + ?Sized, V: Value + ?Sized> IndexMap<'a, K, V> {
     ///
     /// # Examples
     /// ```
-    /// use rkyv_maps::{Builder, Checksum, Error, ErrorKind, IndexMap, Map, Width};
+    /// use hodkhaki::{Builder, Checksum, Error, ErrorKind, IndexMap, Map, Width};
     ///
     /// # fn main() -> Result<(), Error> {
     /// let archive = Builder::<str, u64>::from([("main", 0x1139)]).build_index(Width::Narrow)?;
@@ -186,9 +186,9 @@ impl<'a, K: Key + ?Sized, V: Value + ?Sized> IndexMap<'a, K, V> {
     ///
     /// # Examples
     /// ```
-    /// use rkyv_maps::{Builder, Width};
+    /// use hodkhaki::{Builder, Width};
     ///
-    /// # fn main() -> Result<(), rkyv_maps::Error> {
+    /// # fn main() -> Result<(), hodkhaki::Error> {
     /// let builder = Builder::<str, u32>::from([("was", 7), ("der", 8), ("was", 9)]);
     /// let archive = builder.build_index(Width::Narrow)?;
     /// assert_eq!(archive.open().get_index_of("der"), Some(1));
@@ -223,9 +223,9 @@ impl<'a, K: Key + ?Sized, V: Value + ?Sized> IndexMap<'a, K, V> {
     ///
     /// # Examples
     /// ```
-    /// use rkyv_maps::{Builder, Width};
+    /// use hodkhaki::{Builder, Width};
     ///
-    /// # fn main() -> Result<(), rkyv_maps::Error> {
+    /// # fn main() -> Result<(), hodkhaki::Error> {
     /// let builder = Builder::<u32, u32>::from([(30, 3), (10, 1)]);
     /// let archive = builder.build_index(Width::Wide)?;
     /// assert_eq!(archive.open().get_index(1), Some((10, 1)));
@@ -275,9 +275,9 @@ impl<'a, K: Key + ?Sized, V: Value + ?Sized> IndexMap<'a, K, V> {
     ///
     /// # Examples
     /// ```
-    /// use rkyv_maps::{Builder, Width};
+    /// use hodkhaki::{Builder, Width};
     ///
-    /// # fn main() -> Result<(), rkyv_maps::Error> {
+    /// # fn main() -> Result<(), hodkhaki::Error> {
     /// let builder = Builder::<str, u32>::from([("was", 7), ("der", 8), ("was", 9)]);
     /// let archive = builder.build_index(Width::Narrow)?;
     /// assert_eq!(archive.open().misplaced_up_to(12), Some(1));
@@ -288,7 +288,7 @@ impl<'a, K: Key + ?Sized, V: Value + ?Sized> IndexMap<'a, K, V> {
     pub fn misplaced_up_to(&self, limit: u64) -> Option<u64> {
         let mut count = 0;
         // SAFETY: the map is open and borrows its bytes.
-        let status = unsafe { raw::rkyv_index_misplaced_up_to(&self.raw, limit, &mut count) };
+        let status = unsafe { raw::hk_index_misplaced_up_to(&self.raw, limit, &mut count) };
         within_limit(status).then_some(count)
     }
 
@@ -346,9 +346,9 @@ impl<'a, K: Key + ?Sized, V: Value + ?Sized> IntoIterator for &IndexMap<'a, K, V
 ///
 /// # Examples
 /// ```
-/// use rkyv_maps::{Builder, Width};
+/// use hodkhaki::{Builder, Width};
 ///
-/// # fn main() -> Result<(), rkyv_maps::Error> {
+/// # fn main() -> Result<(), hodkhaki::Error> {
 /// let builder = Builder::<str, u32>::from([("tea", 3), ("coffee", 4)]);
 /// let mut archive = builder.build_index(Width::Narrow)?;
 /// let mut map = archive.open_mut();

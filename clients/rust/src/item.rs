@@ -18,7 +18,7 @@ use crate::types::Unit;
 ///
 /// # Examples
 /// ```
-/// use rkyv_maps::{AsItem, Builder, Width};
+/// use hodkhaki::{AsItem, Builder, Width};
 ///
 /// #[derive(Clone, Copy)]
 /// struct UserId(u32);
@@ -29,7 +29,7 @@ use crate::types::Unit;
 ///     }
 /// }
 ///
-/// # fn main() -> Result<(), rkyv_maps::Error> {
+/// # fn main() -> Result<(), hodkhaki::Error> {
 /// let names = vec![(UserId(7), String::from("Ada")), (UserId(9), String::from("Emmy"))];
 /// let archive = Builder::<u32, str>::from(&names).build(Width::Narrow)?;
 /// assert_eq!(archive.open().get(&9), Some("Emmy"));

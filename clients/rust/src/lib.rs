@@ -14,9 +14,9 @@
 //! [`IndexMapMut`] writes values in place.
 //!
 //! ```
-//! use rkyv_maps::{Builder, Map, Width};
+//! use hodkhaki::{Builder, Map, Width};
 //!
-//! fn main() -> Result<(), rkyv_maps::Error> {
+//! fn main() -> Result<(), hodkhaki::Error> {
 //!     let mut builder = Builder::<str, u64>::new();
 //!     builder.insert("main", 0x1139);
 //!     builder.insert("_start", 0x1040);
@@ -70,7 +70,7 @@
 //!
 //! # Linking
 //!
-//! The build script links `libffi_rkyv.a`, by the path in the environment variable `RKYV_C_LIBRARY`
+//! The build script links `libffi_rkyv.a`, by the path in the environment variable `HODKHAKI_LIBRARY`
 //! or from where `rt lib` leaves it. `cargo check` and `cargo doc` work without it.
 
 #![warn(missing_docs)]

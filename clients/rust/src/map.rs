@@ -19,9 +19,9 @@ use crate::{Error, Key, Number, Value, Width};
 ///
 /// # Examples
 /// ```
-/// use rkyv_maps::{Builder, Map, Width};
+/// use hodkhaki::{Builder, Map, Width};
 ///
-/// # fn main() -> Result<(), rkyv_maps::Error> {
+/// # fn main() -> Result<(), hodkhaki::Error> {
 /// let builder = Builder::<str, u64>::from([("main", 0x1139), ("_start", 0x1040)]);
 /// let archive = builder.build(Width::Narrow)?;
 /// let map = Map::<str, u64>::open(archive.as_ref(), Width::Narrow)?;
@@ -35,9 +35,9 @@ use crate::{Error, Key, Number, Value, Width};
 /// Values that are texts are parts of the archive:
 ///
 /// ```
-/// use rkyv_maps::{Builder, Map, Width};
+/// use hodkhaki::{Builder, Map, Width};
 ///
-/// # fn main() -> Result<(), rkyv_maps::Error> {
+/// # fn main() -> Result<(), hodkhaki::Error> {
 /// let builder = Builder::<str, str>::from([("tea", "Tee"), ("cake", "Kuchen")]);
 /// let bytes: Vec<u8> = builder.build(Width::Narrow)?.into();
 /// let map = Map::<str, str>::open(&bytes, Width::Narrow)?;
@@ -114,7 +114,7 @@ impl<'a, K: Key + ?Sized, V: Value + ?Sized> Map<'a, K, V> {
     ///
     /// # Examples
     /// ```
-    /// use rkyv_maps::{Builder, Checksum, Error, ErrorKind, Map, Width};
+    /// use hodkhaki::{Builder, Checksum, Error, ErrorKind, Map, Width};
     ///
     /// # fn main() -> Result<(), Error> {
     /// let archive = Builder::<str, u64>::from([("main", 0x1139)]).build(Width::Narrow)?;
@@ -223,7 +223,7 @@ impl<'a, K: Key + ?Sized, V: Value + ?Sized> Map<'a, K, V> {
     ///
     /// # Examples
     /// ```
-    /// use rkyv_maps::{Builder, Map, Width};
+    /// use hodkhaki::{Builder, Map, Width};
     ///
     /// // Whether the bytes are of a map whose lookups are complete.
     /// fn is_complete(bytes: &[u8]) -> bool {
@@ -231,7 +231,7 @@ impl<'a, K: Key + ?Sized, V: Value + ?Sized> Map<'a, K, V> {
     ///         .is_ok_and(|map| map.misplaced_up_to(4 * map.len() as u64) == Some(0))
     /// }
     ///
-    /// # fn main() -> Result<(), rkyv_maps::Error> {
+    /// # fn main() -> Result<(), hodkhaki::Error> {
     /// let archive = Builder::<str, u64>::from([("tea", 3), ("cake", 4)]).build(Width::Narrow)?;
     /// assert!(is_complete(archive.as_bytes()));
     /// let repeated = Builder::<str, u64>::from([("tea", 3), ("tea", 4)]).build(Width::Narrow)?;
@@ -244,7 +244,7 @@ impl<'a, K: Key + ?Sized, V: Value + ?Sized> Map<'a, K, V> {
     pub fn misplaced_up_to(&self, limit: u64) -> Option<u64> {
         let mut count = 0;
         // SAFETY: the map is open and borrows its bytes.
-        let status = unsafe { raw::rkyv_map_misplaced_up_to(&self.raw, limit, &mut count) };
+        let status = unsafe { raw::hk_map_misplaced_up_to(&self.raw, limit, &mut count) };
         within_limit(status).then_some(count)
     }
 
@@ -295,9 +295,9 @@ impl<'a, K: Key + ?Sized, V: Value + ?Sized> IntoIterator for &Map<'a, K, V> {
 ///
 /// # Examples
 /// ```
-/// use rkyv_maps::{Builder, Width};
+/// use hodkhaki::{Builder, Width};
 ///
-/// # fn main() -> Result<(), rkyv_maps::Error> {
+/// # fn main() -> Result<(), hodkhaki::Error> {
 /// let mut archive = Builder::<u32, u32>::from([(1, 10), (2, 20)]).build(Width::Narrow)?;
 /// let mut map = archive.open_mut();
 /// assert!(map.set(&1, 11));
@@ -340,9 +340,9 @@ impl<'a, K: Key + ?Sized, V: Number> MapMut<'a, K, V> {
     ///
     /// # Examples
     /// ```
-    /// use rkyv_maps::{Builder, Checksum, Map, MapMut, Width};
+    /// use hodkhaki::{Builder, Checksum, Map, MapMut, Width};
     ///
-    /// # fn main() -> Result<(), rkyv_maps::Error> {
+    /// # fn main() -> Result<(), hodkhaki::Error> {
     /// let archive = Builder::<str, u64>::from([("visits", 10)]).build(Width::Narrow)?;
     /// let mut container = archive.to_container(Checksum::Adler32);
     /// let mut map = MapMut::<str, u64>::open_container(&mut container)?;

@@ -27,30 +27,30 @@ pub(crate) struct Opener {
 
 /// Opens archives of hash maps and of sets.
 pub(crate) const MAP: Opener = Opener {
-    open: raw::rkyv_map_open,
-    open_writable: raw::rkyv_map_open_writable,
-    explain: raw::rkyv_map_explain,
+    open: raw::hk_map_open,
+    open_writable: raw::hk_map_open_writable,
+    explain: raw::hk_map_explain,
 };
 
 /// Opens containers of hash maps and of sets.
 pub(crate) const MAP_CONTAINER: Opener = Opener {
-    open: raw::rkyv_map_open_container,
-    open_writable: raw::rkyv_map_open_container_writable,
-    explain: raw::rkyv_container_explain,
+    open: raw::hk_map_open_container,
+    open_writable: raw::hk_map_open_container_writable,
+    explain: raw::hk_container_explain,
 };
 
 /// Opens archives of index maps.
 pub(crate) const INDEX: Opener = Opener {
-    open: raw::rkyv_index_open,
-    open_writable: raw::rkyv_index_open_writable,
-    explain: raw::rkyv_map_explain,
+    open: raw::hk_index_open,
+    open_writable: raw::hk_index_open_writable,
+    explain: raw::hk_map_explain,
 };
 
 /// Opens containers of index maps.
 pub(crate) const INDEX_CONTAINER: Opener = Opener {
-    open: raw::rkyv_index_open_container,
-    open_writable: raw::rkyv_index_open_container_writable,
-    explain: raw::rkyv_container_explain,
+    open: raw::hk_index_open_container,
+    open_writable: raw::hk_index_open_container_writable,
+    explain: raw::hk_container_explain,
 };
 
 impl Opener {
@@ -155,7 +155,7 @@ impl Writable<'_> {
         // SAFETY: the map was opened in a container, to write.
         let (pointer, length) = unsafe { self.raw.container() };
         // SAFETY: pointer and length are those of the container, which is borrowed mutably.
-        check(unsafe { raw::rkyv_container_update(pointer.cast(), length) })
+        check(unsafe { raw::hk_container_update(pointer.cast(), length) })
     }
 }
 

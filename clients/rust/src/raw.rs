@@ -1,9 +1,9 @@
-//! The declarations of `../c/rkyv.h`, and the calls of the proved library that iterate and that look
+//! The declarations of `../c/hodkhaki.h`, and the calls of the proved library that iterate and that look
 //! up in index maps. Those of a type of keys are in `calls`.
 
 use std::ffi::c_void;
 
-/// The decoded header of a table: the `rkyv_table_header` of the header.
+/// The decoded header of a table: the `hk_table_header` of the header.
 #[repr(C)]
 #[derive(Clone, Copy)]
 pub struct RawTableHeader {
@@ -14,7 +14,7 @@ pub struct RawTableHeader {
     inverse: u64,
 }
 
-/// A handle: the `rkyv_map` of the header, or its `rkyv_index_map`, which has the same members.
+/// A handle: the `hk_map` of the header, or its `hk_index_map`, which has the same members.
 #[repr(C)]
 #[derive(Clone, Copy)]
 pub struct RawMap {
@@ -73,7 +73,7 @@ impl RawMap {
         // the bytes are a valid archive of the codes and the width, and the header is the decoded one.
         // The items have the pointer and the length of one slice, and none of their texts is null.
         unsafe {
-            rkyv_c_next(
+            hk_c_next(
                 self.bytes,
                 self.length,
                 codes.kind,
@@ -99,7 +99,7 @@ impl RawMap {
         // these codes. So the bytes are a valid archive of the codes and the width, and the header is
         // the decoded one. No text of the key or of `found` is null.
         unsafe {
-            rkyv_c_index_get(
+            hk_c_index_get(
                 self.bytes,
                 self.length,
                 codes.kind,
@@ -255,7 +255,7 @@ impl RawItem {
     };
 }
 
-/// A pair that is archived: an item of the header, as `rkyv_number_text_item`. In a set the value is
+/// A pair that is archived: an item of the header, as `hk_number_text_item`. In a set the value is
 /// `()`.
 #[repr(C)]
 #[derive(Clone, Copy)]
@@ -280,7 +280,7 @@ impl RawIndexed {
     };
 }
 
-/// An error of opening, with its numbers: the `rkyv_error` of the header.
+/// An error of opening, with its numbers: the `hk_error` of the header.
 #[repr(C)]
 #[derive(Clone, Copy, Debug, Default, PartialEq, Eq, Hash)]
 pub struct RawError {
@@ -313,7 +313,7 @@ pub const HEADER_LEN: usize = 32;
 pub const ANY_WIDTH: u32 = 0;
 
 unsafe extern "C" {
-    fn rkyv_c_next(
+    fn hk_c_next(
         bytes: *const u8,
         length: usize,
         kind: u8,
@@ -325,7 +325,7 @@ unsafe extern "C" {
         items: *mut RawItem,
         room: usize,
     ) -> usize;
-    fn rkyv_c_index_get(
+    fn hk_c_index_get(
         bytes: *const u8,
         length: usize,
         kind: u8,
@@ -336,80 +336,80 @@ unsafe extern "C" {
         of: &RawValue,
         found: &mut RawIndexed,
     ) -> u32;
-    pub fn rkyv_map_open(
+    pub fn hk_map_open(
         bytes: *const c_void,
         length: usize,
         kind: u32,
         width: u32,
         map: *mut RawMap,
     ) -> u32;
-    pub fn rkyv_map_open_writable(
+    pub fn hk_map_open_writable(
         bytes: *mut c_void,
         length: usize,
         kind: u32,
         width: u32,
         map: *mut RawMap,
     ) -> u32;
-    pub fn rkyv_map_open_container(
+    pub fn hk_map_open_container(
         bytes: *const c_void,
         length: usize,
         kind: u32,
         width: u32,
         map: *mut RawMap,
     ) -> u32;
-    pub fn rkyv_map_open_container_writable(
+    pub fn hk_map_open_container_writable(
         bytes: *mut c_void,
         length: usize,
         kind: u32,
         width: u32,
         map: *mut RawMap,
     ) -> u32;
-    pub fn rkyv_index_open(
+    pub fn hk_index_open(
         bytes: *const c_void,
         length: usize,
         kind: u32,
         width: u32,
         map: *mut RawMap,
     ) -> u32;
-    pub fn rkyv_index_open_writable(
+    pub fn hk_index_open_writable(
         bytes: *mut c_void,
         length: usize,
         kind: u32,
         width: u32,
         map: *mut RawMap,
     ) -> u32;
-    pub fn rkyv_index_open_container(
+    pub fn hk_index_open_container(
         bytes: *const c_void,
         length: usize,
         kind: u32,
         width: u32,
         map: *mut RawMap,
     ) -> u32;
-    pub fn rkyv_index_open_container_writable(
+    pub fn hk_index_open_container_writable(
         bytes: *mut c_void,
         length: usize,
         kind: u32,
         width: u32,
         map: *mut RawMap,
     ) -> u32;
-    pub fn rkyv_map_misplaced_up_to(map: *const RawMap, limit: u64, count: *mut u64) -> u32;
-    pub fn rkyv_index_misplaced_up_to(map: *const RawMap, limit: u64, count: *mut u64) -> u32;
-    pub fn rkyv_map_explain(
+    pub fn hk_map_misplaced_up_to(map: *const RawMap, limit: u64, count: *mut u64) -> u32;
+    pub fn hk_index_misplaced_up_to(map: *const RawMap, limit: u64, count: *mut u64) -> u32;
+    pub fn hk_map_explain(
         bytes: *const c_void,
         length: usize,
         kind: u32,
         width: u32,
         error: *mut RawError,
     ) -> u32;
-    pub fn rkyv_container_explain(
+    pub fn hk_container_explain(
         bytes: *const c_void,
         length: usize,
         kind: u32,
         width: u32,
         error: *mut RawError,
     ) -> u32;
-    pub fn rkyv_bytes_free(bytes: *mut u8);
-    pub fn rkyv_container_header(
+    pub fn hk_bytes_free(bytes: *mut u8);
+    pub fn hk_container_header(
         archive: *const c_void,
         length: usize,
         kind: u32,
@@ -417,11 +417,11 @@ unsafe extern "C" {
         checksum: bool,
         header: *mut u8,
     ) -> u32;
-    pub fn rkyv_container_kind(
+    pub fn hk_container_kind(
         bytes: *const c_void,
         length: usize,
         kind: *mut u32,
         width: *mut u32,
     ) -> u32;
-    pub fn rkyv_container_update(bytes: *mut c_void, length: usize) -> u32;
+    pub fn hk_container_update(bytes: *mut c_void, length: usize) -> u32;
 }

@@ -16,9 +16,9 @@ use crate::{Archive, AsItem, Builder, Checksum, Error, Key, Keys, Map, Width};
 ///
 /// # Examples
 /// ```
-/// use rkyv_maps::{Set, SetBuilder, Width};
+/// use hodkhaki::{Set, SetBuilder, Width};
 ///
-/// # fn main() -> Result<(), rkyv_maps::Error> {
+/// # fn main() -> Result<(), hodkhaki::Error> {
 /// let words = SetBuilder::<str>::from(["tea", "cake"]);
 /// let bytes: Vec<u8> = words.build(Width::Narrow)?.into();
 /// let set = Set::<str>::open(&bytes, Width::Narrow)?;
@@ -67,7 +67,7 @@ impl<'a, K: Key + ?Sized> Set<'a, K> {
     ///
     /// # Examples
     /// ```
-    /// use rkyv_maps::{Checksum, Error, ErrorKind, Map, Set, SetBuilder, Width};
+    /// use hodkhaki::{Checksum, Error, ErrorKind, Map, Set, SetBuilder, Width};
     ///
     /// # fn main() -> Result<(), Error> {
     /// let archive = SetBuilder::<u32>::from([2, 3, 5, 7]).build(Width::Narrow)?;
@@ -119,9 +119,9 @@ impl<'a, K: Key + ?Sized> Set<'a, K> {
     ///
     /// # Examples
     /// ```
-    /// use rkyv_maps::{SetBuilder, Width};
+    /// use hodkhaki::{SetBuilder, Width};
     ///
-    /// # fn main() -> Result<(), rkyv_maps::Error> {
+    /// # fn main() -> Result<(), hodkhaki::Error> {
     /// let archive = SetBuilder::<u32>::from([2, 3, 2]).build(Width::Narrow)?;
     /// assert_eq!(archive.open().misplaced_up_to(12), Some(1));
     /// assert_eq!(archive.open().misplaced_up_to(2), None);
@@ -216,9 +216,9 @@ impl<K: Key + ?Sized> fmt::Debug for Members<'_, K> {
 ///
 /// # Examples
 /// ```
-/// use rkyv_maps::{SetBuilder, Width};
+/// use hodkhaki::{SetBuilder, Width};
 ///
-/// # fn main() -> Result<(), rkyv_maps::Error> {
+/// # fn main() -> Result<(), hodkhaki::Error> {
 /// let mut squares: SetBuilder<u32> = (0..1000u32).map(|n| n * n).collect();
 /// squares.push(7);
 /// let archive = squares.build(Width::Narrow)?;
@@ -274,9 +274,9 @@ impl<K: Key + ?Sized> SetBuilder<K> {
     ///
     /// # Examples
     /// ```
-    /// use rkyv_maps::{SetBuilder, Width};
+    /// use hodkhaki::{SetBuilder, Width};
     ///
-    /// # fn main() -> Result<(), rkyv_maps::Error> {
+    /// # fn main() -> Result<(), hodkhaki::Error> {
     /// let mut words = SetBuilder::<str>::new();
     /// for word in "to be or not to be".split(' ') {
     ///     words.insert(word);

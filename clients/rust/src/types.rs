@@ -14,7 +14,7 @@ use crate::AsItem;
 /// A program that matches on a width needs an arm for others, which a later version may have:
 ///
 /// ```compile_fail,E0004
-/// # use rkyv_maps::Width;
+/// # use hodkhaki::Width;
 /// fn bits(width: Width) -> u32 {
 ///     match width {
 ///         Width::Narrow => 32,
@@ -40,7 +40,7 @@ pub enum Width {
 /// The trait is sealed. It is public so that code can be generic over the type of the keys:
 ///
 /// ```
-/// use rkyv_maps::{Key, Map, Number};
+/// use hodkhaki::{Key, Map, Number};
 ///
 /// fn total<K: Key + ?Sized, V: Number>(map: Map<'_, K, V>) -> u64 {
 ///     map.values().map(Into::into).sum()
@@ -63,7 +63,7 @@ pub trait Key:
 /// written in place.
 ///
 /// ```
-/// use rkyv_maps::{Key, Map, Value};
+/// use hodkhaki::{Key, Map, Value};
 ///
 /// fn longest<K: Key + ?Sized, V: Value + ?Sized>(map: Map<'_, K, V>) -> usize {
 ///     map.values().map(|value| value.to_string().len()).max().unwrap_or(0)
@@ -180,10 +180,10 @@ pub(crate) mod sealed {
 
     /// A type of values, with any type of keys.
     pub trait SealedValue: Stored {
-        /// The `rkyv_kind` of hash maps with keys of 32 bits, of 64 bits and with text keys.
+        /// The `hk_kind` of hash maps with keys of 32 bits, of 64 bits and with text keys.
         const KINDS: [u32; 3];
 
-        /// The `rkyv_kind` of index maps with such keys. No kind is 0.
+        /// The `hk_kind` of index maps with such keys. No kind is 0.
         const INDEX_KINDS: [u32; 3];
 
         /// The code of this type in the header of a container.
@@ -485,12 +485,12 @@ impl SealedValue for Unit {
     }
 }
 
-/// The `rkyv_kind` of a map.
+/// The `hk_kind` of a map.
 pub(crate) fn kind<K: Key + ?Sized, V: Value + ?Sized>() -> u32 {
     V::KINDS[K::COLUMN]
 }
 
-/// The `rkyv_kind` of an index map.
+/// The `hk_kind` of an index map.
 pub(crate) fn index_kind<K: Key + ?Sized, V: Value + ?Sized>() -> u32 {
     V::INDEX_KINDS[K::COLUMN]
 }

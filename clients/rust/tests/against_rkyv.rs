@@ -11,7 +11,7 @@ use std::fmt::Debug;
 use std::fs;
 use std::path::PathBuf;
 
-use rkyv_maps::{Builder, Error, IndexMap, Key, Map, Set, SetBuilder, Value, Width};
+use hodkhaki::{Builder, Error, IndexMap, Key, Map, Set, SetBuilder, Value, Width};
 
 const FILE: &str = "../../crates/test_against_rkyv/data/rkyv-0.8.18.tsv";
 

@@ -4,7 +4,7 @@ use std::collections::HashMap;
 use std::sync::Barrier;
 use std::time::{Duration, Instant};
 
-use rkyv_maps::{Archive, Builder, IndexArchive, Map, SetBuilder, Width};
+use hodkhaki::{Archive, Builder, IndexArchive, Map, SetBuilder, Width};
 
 const WIDTHS: [Width; 2] = [Width::Narrow, Width::Wide];
 

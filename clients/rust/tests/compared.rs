@@ -3,7 +3,7 @@
 use std::collections::{BTreeMap, BTreeSet, HashMap, HashSet};
 use std::panic::catch_unwind;
 
-use rkyv_maps::{Builder, Map, SetBuilder, Width};
+use hodkhaki::{Builder, Map, SetBuilder, Width};
 
 const WIDTHS: [Width; 2] = [Width::Narrow, Width::Wide];
 

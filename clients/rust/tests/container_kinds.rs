@@ -1,6 +1,6 @@
 //! The kinds of containers.
 
-use rkyv_maps::{
+use hodkhaki::{
     container_kind, Builder, Checksum, Collection, ContainerKind, ErrorKind, ItemType, Key,
     SetBuilder, Value, Width,
 };

@@ -1,6 +1,6 @@
 //! Containers: each opens as its own types alone, and each damaged header has the stated error.
 
-use rkyv_maps::{
+use hodkhaki::{
     update_container, Archive, Builder, Checksum, Error, ErrorKind, Key, Map, MapMut, Number, Width,
 };
 use std::io::{self, Write};

@@ -5,7 +5,7 @@ use std::collections::{BTreeMap, BTreeSet, HashMap, HashSet};
 use std::rc::Rc;
 use std::sync::Arc;
 
-use rkyv_maps::{AsItem, Builder, Key, Map, SetBuilder, Value, Width};
+use hodkhaki::{AsItem, Builder, Key, Map, SetBuilder, Value, Width};
 
 /// The pairs of a map of texts, which are short and long.
 fn texts() -> Vec<(String, u64)> {

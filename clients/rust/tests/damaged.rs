@@ -2,7 +2,7 @@
 
 use std::borrow::Borrow;
 
-use rkyv_maps::{
+use hodkhaki::{
     Builder, ErrorKind, IndexMap, IndexMapMut, Key, Map, MapMut, Number, Set, SetBuilder, Value,
     Width,
 };

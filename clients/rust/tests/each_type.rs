@@ -2,7 +2,7 @@
 
 use std::borrow::Borrow;
 
-use rkyv_maps::{Builder, Key, SetBuilder, Value, Width};
+use hodkhaki::{Builder, Key, SetBuilder, Value, Width};
 
 const WIDTHS: [Width; 2] = [Width::Narrow, Width::Wide];
 

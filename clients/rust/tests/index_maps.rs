@@ -3,8 +3,8 @@
 use std::iter::FusedIterator;
 use std::panic::{catch_unwind, RefUnwindSafe, UnwindSafe};
 
-use rkyv_maps::index_map::{Iter, Keys, Values};
-use rkyv_maps::{
+use hodkhaki::index_map::{Iter, Keys, Values};
+use hodkhaki::{
     update_container, Builder, Checksum, Error, ErrorKind, IndexArchive, IndexMap, IndexMapMut,
     Key, Map, Number, Width,
 };

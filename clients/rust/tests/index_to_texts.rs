@@ -1,7 +1,7 @@
 //! Index maps whose values are texts.
 
-use rkyv_maps::index_map::{Iter, Keys, Values};
-use rkyv_maps::{Builder, Checksum, ErrorKind, IndexArchive, IndexMap, Key, Map, Value, Width};
+use hodkhaki::index_map::{Iter, Keys, Values};
+use hodkhaki::{Builder, Checksum, ErrorKind, IndexArchive, IndexMap, Key, Map, Value, Width};
 
 const WIDTHS: [Width; 2] = [Width::Narrow, Width::Wide];
 

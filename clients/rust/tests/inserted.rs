@@ -3,7 +3,7 @@
 use std::collections::{HashMap, HashSet};
 use std::time::Instant;
 
-use rkyv_maps::{Builder, Key, Number, SetBuilder, Value, Width};
+use hodkhaki::{Builder, Key, Number, SetBuilder, Value, Width};
 
 /// The next number of a generator.
 fn random(state: &mut u64) -> u64 {
@@ -41,7 +41,7 @@ fn compare<K, V, Q>(
     K: Key + ?Sized,
     V: Value + ?Sized,
     V::Owned: Clone + PartialEq + std::fmt::Debug,
-    Q: rkyv_maps::AsItem<K> + Clone + PartialEq + std::fmt::Debug,
+    Q: hodkhaki::AsItem<K> + Clone + PartialEq + std::fmt::Debug,
 {
     let mut state = 88_172_645_463_325_252;
     for count in [0, 1, 2, 5, 60, 700] {

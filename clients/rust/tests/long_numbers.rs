@@ -2,7 +2,7 @@
 
 use std::collections::{HashMap, HashSet};
 
-use rkyv_maps::{
+use hodkhaki::{
     Builder, Checksum, ErrorKind, IndexMap, IndexMapMut, Iter, Map, MapMut, Members, Set,
     SetBuilder, Width,
 };

@@ -5,7 +5,7 @@ use std::collections::HashMap;
 use std::iter::FusedIterator;
 use std::panic::{catch_unwind, AssertUnwindSafe, RefUnwindSafe, UnwindSafe};
 
-use rkyv_maps::{
+use hodkhaki::{
     Archive, AsItem, Builder, Error, ErrorKind, Iter, Key, Keys, Map, MapMut, Number, Values, Width,
 };
 

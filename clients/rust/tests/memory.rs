@@ -3,7 +3,7 @@
 use std::alloc::{GlobalAlloc, Layout, System};
 use std::sync::atomic::{AtomicUsize, Ordering};
 
-use rkyv_maps::Builder;
+use hodkhaki::Builder;
 
 /// The allocator of the system, which counts the bytes that are allocated.
 struct Counting;

@@ -3,7 +3,7 @@
 use std::borrow::Borrow;
 use std::collections::HashSet;
 
-use rkyv_maps::{
+use hodkhaki::{
     Builder, IndexMap, IndexMapBuf, IndexMapMut, Key, Map, MapBuf, MapMut, Set, SetBuf, SetBuilder,
     Value, Width,
 };

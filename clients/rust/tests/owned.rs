@@ -8,7 +8,7 @@ use std::rc::Rc;
 use std::sync::Arc;
 use std::time::{Duration, Instant};
 
-use rkyv_maps::{
+use hodkhaki::{
     Builder, Checksum, ErrorKind, IndexMapBuf, Map, MapBuf, SetBuf, SetBuilder, StableBytes, Width,
 };
 
@@ -179,7 +179,7 @@ fn owned_sets_are_those_of_std() {
 #[test]
 fn invalid_bytes_fail() {
     let modelled = Modelled::new(3, Width::Narrow);
-    let kind = |error: rkyv_maps::Error| error.kind();
+    let kind = |error: hodkhaki::Error| error.kind();
     let open = |bytes: &[u8]| {
         MapBuf::<str, u64>::open(bytes.to_vec(), Width::Narrow)
             .err()

@@ -2,7 +2,7 @@
 
 use std::collections::HashSet;
 
-use rkyv_maps::{Builder, Checksum, ErrorKind, Map, Members, Set, SetArchive, SetBuilder, Width};
+use hodkhaki::{Builder, Checksum, ErrorKind, Map, Members, Set, SetArchive, SetBuilder, Width};
 
 const WIDTHS: [Width; 2] = [Width::Narrow, Width::Wide];
 

@@ -2,7 +2,7 @@
 
 use std::collections::HashMap;
 
-use rkyv_maps::{Builder, Checksum, ErrorKind, Iter, Key, Keys, Map, Value, Values, Width};
+use hodkhaki::{Builder, Checksum, ErrorKind, Iter, Key, Keys, Map, Value, Values, Width};
 
 const WIDTHS: [Width; 2] = [Width::Narrow, Width::Wide];
 

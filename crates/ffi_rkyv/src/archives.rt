@@ -26,7 +26,7 @@ use std::alloc::Global;
 /// - 7: no collection of this library has the codes.
 /// - 16 to 23: the first validation error.
 #[unsafe(no_mangle)]
-pub extern "C" fn rkyv_c_open(archive: &[u8], kind: u8, key: u8, value: u8, width: u8) -> u32
+pub extern "C" fn hk_c_open(archive: &[u8], kind: u8, key: u8, value: u8, width: u8) -> u32
     ensures status { OpensByCodes (codes_of kind key value width) archive.now result }
     ensures accepts { IsValidByCodes (codes_of kind key value width) archive.now → result ≡ 0 }
 {
@@ -44,7 +44,7 @@ pub extern "C" fn rkyv_c_open(archive: &[u8], kind: u8, key: u8, value: u8, widt
 ///
 /// If no collection of this library has the codes, the status is 7, and the numbers are 0.
 #[unsafe(no_mangle)]
-pub extern "C" fn rkyv_c_explain(
+pub extern "C" fn hk_c_explain(
     archive: &[u8],
     kind: u8,
     key: u8,
@@ -69,9 +69,9 @@ pub extern "C" fn rkyv_c_explain(
 ///
 /// # Requires
 ///
-/// - The archive is valid: `rkyv_c_open` returned 0 for these codes.
+/// - The archive is valid: `hk_c_open` returned 0 for these codes.
 #[unsafe(no_mangle)]
-pub extern "C" fn rkyv_c_decode(
+pub extern "C" fn hk_c_decode(
     archive: &[u8],
     kind: u8,
     key: u8,
@@ -97,7 +97,7 @@ pub extern "C" fn rkyv_c_decode(
 ///
 /// # Requires
 ///
-/// - The archive is valid: `rkyv_c_open` returned 0 for these codes.
+/// - The archive is valid: `hk_c_open` returned 0 for these codes.
 /// - `header` is its decoded header.
 ///
 /// # Errors
@@ -105,7 +105,7 @@ pub extern "C" fn rkyv_c_decode(
 /// - 15: the lookups of all keys read more than `limit` strides of sixteen control bytes; `count`
 ///   is unchanged then.
 #[unsafe(no_mangle)]
-pub extern "C" fn rkyv_c_misplaced_up_to(
+pub extern "C" fn hk_c_misplaced_up_to(
     archive: &[u8],
     kind: u8,
     key: u8,
@@ -138,10 +138,10 @@ pub extern "C" fn rkyv_c_misplaced_up_to(
 ///
 /// # Requires
 ///
-/// - The archive is valid: `rkyv_c_open` returned 0 for these codes.
+/// - The archive is valid: `hk_c_open` returned 0 for these codes.
 /// - `header` is its decoded header.
 #[unsafe(no_mangle)]
-pub extern "C" fn rkyv_c_next<'a>(
+pub extern "C" fn hk_c_next<'a>(
     archive: &'a [u8],
     kind: u8,
     key: u8,
@@ -182,7 +182,7 @@ pub extern "C" fn rkyv_c_next<'a>(
 ///
 /// After an error `built` is unchanged.
 #[unsafe(no_mangle)]
-pub extern "C" fn rkyv_c_build<'a>(
+pub extern "C" fn hk_c_build<'a>(
     alloc: Global,
     kind: u8,
     key: u8,

@@ -25,7 +25,7 @@ use ffi_calls::explanation::Explanation;
 ///
 /// - 7: no contents have the codes; `header` is unchanged then.
 #[unsafe(no_mangle)]
-pub extern "C" fn rkyv_c_write_header(
+pub extern "C" fn hk_c_write_header(
     archive: &[u8],
     kind: u8,
     key: u8,
@@ -53,7 +53,7 @@ pub extern "C" fn rkyv_c_write_header(
 ///
 /// - 32 to 41: the first error of the header; `wide` is unchanged then.
 #[unsafe(no_mangle)]
-pub extern "C" fn rkyv_c_container_width(bytes: &[u8], wide: &mut bool) -> u32
+pub extern "C" fn hk_c_container_width(bytes: &[u8], wide: &mut bool) -> u32
     ensures { ReadsWidth bytes.now wide.old result wide.new }
 {
     container_width(bytes, wide)
@@ -68,7 +68,7 @@ pub extern "C" fn rkyv_c_container_width(bytes: &[u8], wide: &mut bool) -> u32
 /// - 7: no contents have the codes; `opened` is unchanged then.
 /// - 32 to 47: the first error of the container; `opened` is unchanged then.
 #[unsafe(no_mangle)]
-pub extern "C" fn rkyv_c_open_container<'a>(
+pub extern "C" fn hk_c_open_container<'a>(
     bytes: &'a [u8],
     kind: u8,
     key: u8,
@@ -94,7 +94,7 @@ pub extern "C" fn rkyv_c_open_container<'a>(
 /// The archive is not validated. If no contents have the codes, the status is 7, and the numbers
 /// are 0.
 #[unsafe(no_mangle)]
-pub extern "C" fn rkyv_c_explain_container(
+pub extern "C" fn hk_c_explain_container(
     bytes: &[u8],
     kind: u8,
     key: u8,
@@ -124,7 +124,7 @@ pub extern "C" fn rkyv_c_explain_container(
 ///
 /// After an error no byte is changed.
 #[unsafe(no_mangle)]
-pub extern "C" fn rkyv_c_update_container(bytes: &mut [u8]) -> u32
+pub extern "C" fn hk_c_update_container(bytes: &mut [u8]) -> u32
     ensures { UpdatesContainer bytes.old result bytes.new }
 {
     update_container(bytes)

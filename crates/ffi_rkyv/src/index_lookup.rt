@@ -13,7 +13,7 @@ use rkyv_table::table::decoded::Decoded;
 ///
 /// # Requires
 ///
-/// - The archive is valid: `rkyv_c_open` returned 0 for these codes.
+/// - The archive is valid: `hk_c_open` returned 0 for these codes.
 /// - `header` is its decoded header.
 ///
 /// # Errors
@@ -25,7 +25,7 @@ use rkyv_table::table::decoded::Decoded;
 ///
 /// After an error `found` is unchanged.
 #[unsafe(no_mangle)]
-pub extern "C" fn rkyv_c_index_get<'a>(
+pub extern "C" fn hk_c_index_get<'a>(
     archive: &'a [u8],
     kind: u8,
     key: u8,

@@ -14,14 +14,14 @@ use rkyv_table::table::decoded::Decoded;
 ///
 /// # Requires
 ///
-/// - The archive is valid: `rkyv_c_open` returned 0 for the map's codes.
+/// - The archive is valid: `hk_c_open` returned 0 for the map's codes.
 /// - `header` is its decoded header.
 ///
 /// # Errors
 ///
 /// - 1: the lookup doesn't find the key; `value` is unchanged then.
 #[unsafe(no_mangle)]
-pub extern "C" fn rkyv_c_get_long_number_u32_narrow(
+pub extern "C" fn hk_c_get_long_number_u32_narrow(
     archive: &[u8],
     header: &Decoded,
     key: u64,
@@ -42,14 +42,14 @@ pub extern "C" fn rkyv_c_get_long_number_u32_narrow(
 ///
 /// # Requires
 ///
-/// - The archive is valid: `rkyv_c_open` returned 0 for the map's codes.
+/// - The archive is valid: `hk_c_open` returned 0 for the map's codes.
 /// - `header` is its decoded header.
 ///
 /// # Errors
 ///
 /// - 1: the lookup doesn't find the key; `value` is unchanged then.
 #[unsafe(no_mangle)]
-pub extern "C" fn rkyv_c_get_long_number_u64_narrow(
+pub extern "C" fn hk_c_get_long_number_u64_narrow(
     archive: &[u8],
     header: &Decoded,
     key: u64,
@@ -69,14 +69,14 @@ pub extern "C" fn rkyv_c_get_long_number_u64_narrow(
 ///
 /// # Requires
 ///
-/// - The archive is valid: `rkyv_c_open` returned 0 for the map's codes.
+/// - The archive is valid: `hk_c_open` returned 0 for the map's codes.
 /// - `header` is its decoded header.
 ///
 /// # Errors
 ///
 /// - 1: the lookup doesn't find the key; `value` is unchanged then.
 #[unsafe(no_mangle)]
-pub extern "C" fn rkyv_c_get_long_number_u32_wide(
+pub extern "C" fn hk_c_get_long_number_u32_wide(
     archive: &[u8],
     header: &Decoded,
     key: u64,
@@ -96,14 +96,14 @@ pub extern "C" fn rkyv_c_get_long_number_u32_wide(
 ///
 /// # Requires
 ///
-/// - The archive is valid: `rkyv_c_open` returned 0 for the map's codes.
+/// - The archive is valid: `hk_c_open` returned 0 for the map's codes.
 /// - `header` is its decoded header.
 ///
 /// # Errors
 ///
 /// - 1: the lookup doesn't find the key; `value` is unchanged then.
 #[unsafe(no_mangle)]
-pub extern "C" fn rkyv_c_get_long_number_u64_wide(
+pub extern "C" fn hk_c_get_long_number_u64_wide(
     archive: &[u8],
     header: &Decoded,
     key: u64,

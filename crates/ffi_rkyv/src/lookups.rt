@@ -17,14 +17,14 @@ use rkyv_table::table::decoded::Decoded;
 ///
 /// # Requires
 ///
-/// - The archive is valid: `rkyv_c_open` returned 0 for the map's codes.
+/// - The archive is valid: `hk_c_open` returned 0 for the map's codes.
 /// - `header` is its decoded header.
 ///
 /// # Errors
 ///
 /// - 1: the lookup doesn't find the key; `value` is unchanged then.
 #[unsafe(no_mangle)]
-pub extern "C" fn rkyv_c_get_number_u32_narrow(
+pub extern "C" fn hk_c_get_number_u32_narrow(
     archive: &[u8],
     header: &Decoded,
     key: u32,
@@ -45,14 +45,14 @@ pub extern "C" fn rkyv_c_get_number_u32_narrow(
 ///
 /// # Requires
 ///
-/// - The archive is valid: `rkyv_c_open` returned 0 for the map's codes.
+/// - The archive is valid: `hk_c_open` returned 0 for the map's codes.
 /// - `header` is its decoded header.
 ///
 /// # Errors
 ///
 /// - 1: the lookup doesn't find the key; `value` is unchanged then.
 #[unsafe(no_mangle)]
-pub extern "C" fn rkyv_c_get_number_u64_narrow(
+pub extern "C" fn hk_c_get_number_u64_narrow(
     archive: &[u8],
     header: &Decoded,
     key: u32,
@@ -73,14 +73,14 @@ pub extern "C" fn rkyv_c_get_number_u64_narrow(
 ///
 /// # Requires
 ///
-/// - The archive is valid: `rkyv_c_open` returned 0 for the map's codes.
+/// - The archive is valid: `hk_c_open` returned 0 for the map's codes.
 /// - `header` is its decoded header.
 ///
 /// # Errors
 ///
 /// - 1: the lookup doesn't find the key; `value` is unchanged then.
 #[unsafe(no_mangle)]
-pub extern "C" fn rkyv_c_get_number_u32_wide(
+pub extern "C" fn hk_c_get_number_u32_wide(
     archive: &[u8],
     header: &Decoded,
     key: u32,
@@ -101,14 +101,14 @@ pub extern "C" fn rkyv_c_get_number_u32_wide(
 ///
 /// # Requires
 ///
-/// - The archive is valid: `rkyv_c_open` returned 0 for the map's codes.
+/// - The archive is valid: `hk_c_open` returned 0 for the map's codes.
 /// - `header` is its decoded header.
 ///
 /// # Errors
 ///
 /// - 1: the lookup doesn't find the key; `value` is unchanged then.
 #[unsafe(no_mangle)]
-pub extern "C" fn rkyv_c_get_number_u64_wide(
+pub extern "C" fn hk_c_get_number_u64_wide(
     archive: &[u8],
     header: &Decoded,
     key: u32,
@@ -128,7 +128,7 @@ pub extern "C" fn rkyv_c_get_number_u64_wide(
 ///
 /// # Requires
 ///
-/// - The archive is valid: `rkyv_c_open` returned 0 for the map's codes.
+/// - The archive is valid: `hk_c_open` returned 0 for the map's codes.
 /// - `header` is its decoded header.
 ///
 /// # Errors
@@ -138,7 +138,7 @@ pub extern "C" fn rkyv_c_get_number_u64_wide(
 ///
 /// After an error `value` is unchanged.
 #[unsafe(no_mangle)]
-pub extern "C" fn rkyv_c_get_text_u32_narrow(
+pub extern "C" fn hk_c_get_text_u32_narrow(
     archive: &[u8],
     header: &Decoded,
     key: &[u8],
@@ -158,7 +158,7 @@ pub extern "C" fn rkyv_c_get_text_u32_narrow(
 ///
 /// # Requires
 ///
-/// - The archive is valid: `rkyv_c_open` returned 0 for the map's codes.
+/// - The archive is valid: `hk_c_open` returned 0 for the map's codes.
 /// - `header` is its decoded header.
 ///
 /// # Errors
@@ -168,7 +168,7 @@ pub extern "C" fn rkyv_c_get_text_u32_narrow(
 ///
 /// After an error `value` is unchanged.
 #[unsafe(no_mangle)]
-pub extern "C" fn rkyv_c_get_text_u64_narrow(
+pub extern "C" fn hk_c_get_text_u64_narrow(
     archive: &[u8],
     header: &Decoded,
     key: &[u8],
@@ -188,7 +188,7 @@ pub extern "C" fn rkyv_c_get_text_u64_narrow(
 ///
 /// # Requires
 ///
-/// - The archive is valid: `rkyv_c_open` returned 0 for the map's codes.
+/// - The archive is valid: `hk_c_open` returned 0 for the map's codes.
 /// - `header` is its decoded header.
 ///
 /// # Errors
@@ -198,7 +198,7 @@ pub extern "C" fn rkyv_c_get_text_u64_narrow(
 ///
 /// After an error `value` is unchanged.
 #[unsafe(no_mangle)]
-pub extern "C" fn rkyv_c_get_text_u32_wide(
+pub extern "C" fn hk_c_get_text_u32_wide(
     archive: &[u8],
     header: &Decoded,
     key: &[u8],
@@ -218,7 +218,7 @@ pub extern "C" fn rkyv_c_get_text_u32_wide(
 ///
 /// # Requires
 ///
-/// - The archive is valid: `rkyv_c_open` returned 0 for the map's codes.
+/// - The archive is valid: `hk_c_open` returned 0 for the map's codes.
 /// - `header` is its decoded header.
 ///
 /// # Errors
@@ -228,7 +228,7 @@ pub extern "C" fn rkyv_c_get_text_u32_wide(
 ///
 /// After an error `value` is unchanged.
 #[unsafe(no_mangle)]
-pub extern "C" fn rkyv_c_get_text_u64_wide(
+pub extern "C" fn hk_c_get_text_u64_wide(
     archive: &[u8],
     header: &Decoded,
     key: &[u8],

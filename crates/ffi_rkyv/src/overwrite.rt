@@ -13,7 +13,7 @@ use ffi_calls::overwrite::set_value;
 ///
 /// # Requires
 ///
-/// - The archive is valid: `rkyv_c_open` returned 0 for these codes.
+/// - The archive is valid: `hk_c_open` returned 0 for these codes.
 ///
 /// # Errors
 ///
@@ -25,7 +25,7 @@ use ffi_calls::overwrite::set_value;
 ///
 /// After an error no byte is changed.
 #[unsafe(no_mangle)]
-pub extern "C" fn rkyv_c_set(
+pub extern "C" fn hk_c_set(
     archive: &mut [u8],
     kind: u8,
     key: u8,

@@ -16,14 +16,14 @@ use rkyv_table::table::decoded::Decoded;
 ///
 /// # Requires
 ///
-/// - The archive is valid: `rkyv_c_open` returned 0 for the set's codes.
+/// - The archive is valid: `hk_c_open` returned 0 for the set's codes.
 /// - `header` is its decoded header.
 ///
 /// # Errors
 ///
 /// - 1: the lookup doesn't find the item.
 #[unsafe(no_mangle)]
-pub extern "C" fn rkyv_c_contains_number_narrow(archive: &[u8], header: &Decoded, item: u32) -> u32
+pub extern "C" fn hk_c_contains_number_narrow(archive: &[u8], header: &Decoded, item: u32) -> u32
     requires archive { IsNumberSet short_key false archive.now }
     requires header { IsHeaderOf (number_set_in short_key false archive.now) header.now }
     ensures found { FindsNumber short_key false archive.now item result }
@@ -36,14 +36,14 @@ pub extern "C" fn rkyv_c_contains_number_narrow(archive: &[u8], header: &Decoded
 ///
 /// # Requires
 ///
-/// - The archive is valid: `rkyv_c_open` returned 0 for the set's codes.
+/// - The archive is valid: `hk_c_open` returned 0 for the set's codes.
 /// - `header` is its decoded header.
 ///
 /// # Errors
 ///
 /// - 1: the lookup doesn't find the item.
 #[unsafe(no_mangle)]
-pub extern "C" fn rkyv_c_contains_number_wide(archive: &[u8], header: &Decoded, item: u32) -> u32
+pub extern "C" fn hk_c_contains_number_wide(archive: &[u8], header: &Decoded, item: u32) -> u32
     requires archive { IsNumberSet short_key true archive.now }
     requires header { IsHeaderOf (number_set_in short_key true archive.now) header.now }
     ensures found { FindsNumber short_key true archive.now item result }
@@ -56,14 +56,14 @@ pub extern "C" fn rkyv_c_contains_number_wide(archive: &[u8], header: &Decoded, 
 ///
 /// # Requires
 ///
-/// - The archive is valid: `rkyv_c_open` returned 0 for the set's codes.
+/// - The archive is valid: `hk_c_open` returned 0 for the set's codes.
 /// - `header` is its decoded header.
 ///
 /// # Errors
 ///
 /// - 1: the lookup doesn't find the item.
 #[unsafe(no_mangle)]
-pub extern "C" fn rkyv_c_contains_long_number_narrow(
+pub extern "C" fn hk_c_contains_long_number_narrow(
     archive: &[u8],
     header: &Decoded,
     item: u64,
@@ -80,14 +80,14 @@ pub extern "C" fn rkyv_c_contains_long_number_narrow(
 ///
 /// # Requires
 ///
-/// - The archive is valid: `rkyv_c_open` returned 0 for the set's codes.
+/// - The archive is valid: `hk_c_open` returned 0 for the set's codes.
 /// - `header` is its decoded header.
 ///
 /// # Errors
 ///
 /// - 1: the lookup doesn't find the item.
 #[unsafe(no_mangle)]
-pub extern "C" fn rkyv_c_contains_long_number_wide(
+pub extern "C" fn hk_c_contains_long_number_wide(
     archive: &[u8],
     header: &Decoded,
     item: u64,
@@ -104,7 +104,7 @@ pub extern "C" fn rkyv_c_contains_long_number_wide(
 ///
 /// # Requires
 ///
-/// - The archive is valid: `rkyv_c_open` returned 0 for the set's codes.
+/// - The archive is valid: `hk_c_open` returned 0 for the set's codes.
 /// - `header` is its decoded header.
 ///
 /// # Errors
@@ -112,7 +112,7 @@ pub extern "C" fn rkyv_c_contains_long_number_wide(
 /// - 4: the bytes of the item aren't UTF-8.
 /// - 1: the lookup doesn't find the item.
 #[unsafe(no_mangle)]
-pub extern "C" fn rkyv_c_contains_text_narrow(archive: &[u8], header: &Decoded, item: &[u8]) -> u32
+pub extern "C" fn hk_c_contains_text_narrow(archive: &[u8], header: &Decoded, item: &[u8]) -> u32
     requires archive { IsTextSet false archive.now }
     requires header { IsHeaderOf (text_set_in false archive.now) header.now }
     ensures found { FindsText false archive.now item.now result }
@@ -125,7 +125,7 @@ pub extern "C" fn rkyv_c_contains_text_narrow(archive: &[u8], header: &Decoded, 
 ///
 /// # Requires
 ///
-/// - The archive is valid: `rkyv_c_open` returned 0 for the set's codes.
+/// - The archive is valid: `hk_c_open` returned 0 for the set's codes.
 /// - `header` is its decoded header.
 ///
 /// # Errors
@@ -133,7 +133,7 @@ pub extern "C" fn rkyv_c_contains_text_narrow(archive: &[u8], header: &Decoded, 
 /// - 4: the bytes of the item aren't UTF-8.
 /// - 1: the lookup doesn't find the item.
 #[unsafe(no_mangle)]
-pub extern "C" fn rkyv_c_contains_text_wide(archive: &[u8], header: &Decoded, item: &[u8]) -> u32
+pub extern "C" fn hk_c_contains_text_wide(archive: &[u8], header: &Decoded, item: &[u8]) -> u32
     requires archive { IsTextSet true archive.now }
     requires header { IsHeaderOf (text_set_in true archive.now) header.now }
     ensures found { FindsText true archive.now item.now result }

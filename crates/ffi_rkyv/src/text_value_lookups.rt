@@ -18,14 +18,14 @@ use rkyv_table::table::decoded::Decoded;
 ///
 /// # Requires
 ///
-/// - The archive is valid: `rkyv_c_open` returned 0 for the map's codes.
+/// - The archive is valid: `hk_c_open` returned 0 for the map's codes.
 /// - `header` is its decoded header.
 ///
 /// # Errors
 ///
 /// - 1: the lookup doesn't find the key; `value` is unchanged then.
 #[unsafe(no_mangle)]
-pub extern "C" fn rkyv_c_get_text_of_number_narrow<'a>(
+pub extern "C" fn hk_c_get_text_of_number_narrow<'a>(
     archive: &'a [u8],
     header: &Decoded,
     key: u32,
@@ -45,14 +45,14 @@ pub extern "C" fn rkyv_c_get_text_of_number_narrow<'a>(
 ///
 /// # Requires
 ///
-/// - The archive is valid: `rkyv_c_open` returned 0 for the map's codes.
+/// - The archive is valid: `hk_c_open` returned 0 for the map's codes.
 /// - `header` is its decoded header.
 ///
 /// # Errors
 ///
 /// - 1: the lookup doesn't find the key; `value` is unchanged then.
 #[unsafe(no_mangle)]
-pub extern "C" fn rkyv_c_get_text_of_number_wide<'a>(
+pub extern "C" fn hk_c_get_text_of_number_wide<'a>(
     archive: &'a [u8],
     header: &Decoded,
     key: u32,
@@ -72,14 +72,14 @@ pub extern "C" fn rkyv_c_get_text_of_number_wide<'a>(
 ///
 /// # Requires
 ///
-/// - The archive is valid: `rkyv_c_open` returned 0 for the map's codes.
+/// - The archive is valid: `hk_c_open` returned 0 for the map's codes.
 /// - `header` is its decoded header.
 ///
 /// # Errors
 ///
 /// - 1: the lookup doesn't find the key; `value` is unchanged then.
 #[unsafe(no_mangle)]
-pub extern "C" fn rkyv_c_get_text_of_long_number_narrow<'a>(
+pub extern "C" fn hk_c_get_text_of_long_number_narrow<'a>(
     archive: &'a [u8],
     header: &Decoded,
     key: u64,
@@ -99,14 +99,14 @@ pub extern "C" fn rkyv_c_get_text_of_long_number_narrow<'a>(
 ///
 /// # Requires
 ///
-/// - The archive is valid: `rkyv_c_open` returned 0 for the map's codes.
+/// - The archive is valid: `hk_c_open` returned 0 for the map's codes.
 /// - `header` is its decoded header.
 ///
 /// # Errors
 ///
 /// - 1: the lookup doesn't find the key; `value` is unchanged then.
 #[unsafe(no_mangle)]
-pub extern "C" fn rkyv_c_get_text_of_long_number_wide<'a>(
+pub extern "C" fn hk_c_get_text_of_long_number_wide<'a>(
     archive: &'a [u8],
     header: &Decoded,
     key: u64,
@@ -126,7 +126,7 @@ pub extern "C" fn rkyv_c_get_text_of_long_number_wide<'a>(
 ///
 /// # Requires
 ///
-/// - The archive is valid: `rkyv_c_open` returned 0 for the map's codes.
+/// - The archive is valid: `hk_c_open` returned 0 for the map's codes.
 /// - `header` is its decoded header.
 ///
 /// # Errors
@@ -136,7 +136,7 @@ pub extern "C" fn rkyv_c_get_text_of_long_number_wide<'a>(
 ///
 /// After an error `value` is unchanged.
 #[unsafe(no_mangle)]
-pub extern "C" fn rkyv_c_get_text_of_text_narrow<'a>(
+pub extern "C" fn hk_c_get_text_of_text_narrow<'a>(
     archive: &'a [u8],
     header: &Decoded,
     key: &[u8],
@@ -156,7 +156,7 @@ pub extern "C" fn rkyv_c_get_text_of_text_narrow<'a>(
 ///
 /// # Requires
 ///
-/// - The archive is valid: `rkyv_c_open` returned 0 for the map's codes.
+/// - The archive is valid: `hk_c_open` returned 0 for the map's codes.
 /// - `header` is its decoded header.
 ///
 /// # Errors
@@ -166,7 +166,7 @@ pub extern "C" fn rkyv_c_get_text_of_text_narrow<'a>(
 ///
 /// After an error `value` is unchanged.
 #[unsafe(no_mangle)]
-pub extern "C" fn rkyv_c_get_text_of_text_wide<'a>(
+pub extern "C" fn hk_c_get_text_of_text_wide<'a>(
     archive: &'a [u8],
     header: &Decoded,
     key: &[u8],

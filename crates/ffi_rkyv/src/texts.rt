@@ -7,7 +7,7 @@ use ffi_calls::texts::is_text;
 
 /// Returns whether the bytes are a text: UTF-8.
 #[unsafe(no_mangle)]
-pub extern "C" fn rkyv_c_is_text(bytes: &[u8]) -> bool
+pub extern "C" fn hk_c_is_text(bytes: &[u8]) -> bool
     ensures { IsTrue result ↔ IsUtf8 bytes.now }
 {
     is_text(bytes)

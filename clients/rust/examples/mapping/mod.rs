@@ -12,7 +12,7 @@ use std::path::{Path, PathBuf};
 use std::ptr::{null_mut, NonNull};
 use std::{env, fs, process};
 
-use rkyv_maps::StableBytes;
+use hodkhaki::StableBytes;
 
 // These numbers are those of Linux, macOS and the BSDs.
 const PROT_READ: c_int = 1;
