@@ -106,7 +106,7 @@ fn compile(sources: &Path, out: &Path) {
     let archive = out.join("libhodkhaki_calls.a");
     let mut archiver = command("AR", "ar");
     archiver.arg("crs").arg(&archive);
-    for name in ["rkyv", "memory"] {
+    for name in ["hodkhaki", "memory"] {
         let source = sources.join(name).with_extension("c");
         let object = out.join(name).with_extension("o");
         println!("cargo::rerun-if-changed={}", source.display());
