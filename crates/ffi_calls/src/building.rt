@@ -188,14 +188,15 @@ fn leak_into<'a>(archive: Result<Vec<u8>, u32>, built: &mut Built<'a>) -> u32
 /// `built`.
 ///
 /// The items are inserted in order, and items with equal keys are kept. The load factor is 7 / 8.
-/// A number is read from `number`, and a text from `bytes`. The values of a set are not read.
+/// A number, a `bool` and a character are read from `number`, texts and byte strings from `bytes`.
+/// The values of a set are not read.
 ///
 /// # Errors
 ///
 /// - `UNKNOWN_CODES`: no collection of this library has the codes.
 /// - `NO_MEMORY`: an allocation fails.
 /// - `VALUE_TOO_LARGE` or `NOT_TEXT`, of the first item with an error, the key before the value: a
-///   number has more bits than its type, or the bytes of a text aren't UTF-8.
+///   number is of no value of its type, or the bytes of a text aren't UTF-8.
 /// - 23 to 29: the status of the write error.
 ///
 /// After an error `built` is unchanged.

@@ -5,7 +5,7 @@
 //! the condition of the calls for their collection.
 //!
 //! The codes are those in the header of a container. `docs/FORMAT.md` lists them. A container may
-//! have contents for which this library has no collection, as signed keys. Their codes are unknown
+//! have contents for which this library has no collection, as `bool` keys. Their codes are unknown
 //! here, as are codes that no contents have.
 
 ghost use Rattle.std.specs.Prelude.{◌≡◌};

@@ -169,14 +169,15 @@ pub extern "C" fn hk_c_next<'a>(
 /// `built`.
 ///
 /// The items are inserted in order, and items with equal keys are kept. The load factor is 7 / 8.
-/// A number is read from `number`, and a text from `bytes`. The values of a set are not read. The
-/// bytes of the archive are a block of `rattle_alloc` or `rattle_realloc`, which the caller frees.
+/// A number, a `bool` and a character are read from `number`, texts and byte strings from `bytes`.
+/// The values of a set are not read. The bytes of the archive are a block of `rattle_alloc` or
+/// `rattle_realloc`, which the caller frees.
 ///
 /// # Errors
 ///
 /// - 7: no collection of this library has the codes.
 /// - 12: an allocation fails.
-/// - 3 or 4, of the first item with an error, the key before the value: a number has more bits than
+/// - 3 or 4, of the first item with an error, the key before the value: a number is of no value of
 ///   its type, or the bytes of a text aren't UTF-8.
 /// - 23 to 29: the error of the write, which is 27 if a text is too long.
 ///

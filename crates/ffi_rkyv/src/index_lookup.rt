@@ -19,7 +19,7 @@ use rkyv_table::table::decoded::Decoded;
 /// # Errors
 ///
 /// - 7: the codes are of a hash map or a hash set.
-/// - 3: the keys are numbers, and `key` has more bits.
+/// - 3: the keys are numbers or characters, and none has the number of `key`.
 /// - 4: the keys are texts, and the bytes of `key` aren't UTF-8.
 /// - 1: the lookup doesn't find the key.
 ///

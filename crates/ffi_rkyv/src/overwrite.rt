@@ -17,10 +17,10 @@ use ffi_calls::overwrite::set_value;
 ///
 /// # Errors
 ///
-/// - 3: the keys are numbers, and the key has more bits.
+/// - 3: the keys are numbers or characters, and none has the number of the key.
 /// - 4: the keys are texts, and the bytes of the key aren't UTF-8.
 /// - 7: the values of the collection aren't numbers.
-/// - 3: the values of the map have 32 bits and the new one has more.
+/// - 3: the new value has more bits than the values of the map.
 /// - 1: the lookup doesn't find the key.
 ///
 /// After an error no byte is changed.

@@ -87,11 +87,7 @@ pub extern "C" fn hk_c_contains_long_number_narrow(
 ///
 /// - 1: the lookup doesn't find the item.
 #[unsafe(no_mangle)]
-pub extern "C" fn hk_c_contains_long_number_wide(
-    archive: &[u8],
-    header: &Decoded,
-    item: u64,
-) -> u32
+pub extern "C" fn hk_c_contains_long_number_wide(archive: &[u8], header: &Decoded, item: u64) -> u32
     requires archive { IsNumberSet long_key true archive.now }
     requires header { IsHeaderOf (number_set_in long_key true archive.now) header.now }
     ensures found { FindsNumber long_key true archive.now item result }
