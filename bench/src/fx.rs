@@ -2,7 +2,7 @@
 
 use std::hash::{BuildHasherDefault, Hasher};
 
-const SEED: u64 = 0x517c_c1b7_2722_0a95;
+pub const SEED: u64 = 0x517c_c1b7_2722_0a95;
 
 /// Rotates, xors and multiplies, a word at a time.
 #[derive(Default)]

@@ -163,6 +163,32 @@ impl<'a, K: Keys> ValidArchive<'a, K> {
             kind: std::marker::PhantomData,
         })
     }
+
+    /// Returns the bytes of the archive.
+    pub fn bytes(&self) -> &'a [u8] {
+        self.archive
+    }
+}
+
+/// Calls for maps with such keys, each like the method of `Keys` with the same name.
+pub struct Calls<K> {
+    pub build: Option<Build<K>>,
+    pub lookup: Option<Lookup<K>>,
+    pub iterate: Option<Iterate<K>>,
+}
+
+pub type Build<K> = fn(&K, &[u32], &mut [u8]) -> usize;
+
+pub type Lookup<K> = fn(&K, &ValidArchive<'_, K>) -> u64;
+
+pub type Iterate<K> = fn(&ValidArchive<'_, K>) -> u64;
+
+impl<K> Calls<K> {
+    pub const NONE: Calls<K> = Calls {
+        build: None,
+        lookup: None,
+        iterate: None,
+    };
 }
 
 /// Numbers.

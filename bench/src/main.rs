@@ -2,17 +2,21 @@
 //!
 //! With the argument `--keep-memory`, the program keeps freed memory. With `--sizes` it takes fewer
 //! measures, of maps of 100 to 10,000,000 entries.
+//!
+//! It first compares `limit` with the library, and stops if their results or archives differ.
 
+mod check;
 mod clock;
 mod common;
 mod fx;
 mod library;
+mod limit;
 mod random;
 
 use clock::now;
 use common::{flags, median, numbers, sum, text_of, time_each, COUNTS, KEYS_A_VALUE, MISS, SIZES};
 use fx::BuildFx;
-use library::{InStd, Keys, Numbers, Ordered, Texts, ValidArchive};
+use library::{Calls, InStd, Keys, Numbers, Ordered, Texts, ValidArchive};
 use random::{XorShift32, XorShift64};
 use std::borrow::Borrow;
 use std::collections::HashMap;
@@ -96,9 +100,15 @@ enum Contestant {
     Ours,
     Sip,
     Fx,
+    Limit,
 }
 
-const CONTESTANTS: [Contestant; 3] = [Contestant::Ours, Contestant::Sip, Contestant::Fx];
+const CONTESTANTS: [Contestant; 4] = [
+    Contestant::Ours,
+    Contestant::Sip,
+    Contestant::Fx,
+    Contestant::Limit,
+];
 
 /// A key for lookups in std's maps, and the key that they own.
 trait Key: Copy + Eq + Hash {
@@ -269,9 +279,52 @@ fn measure_ours<Q, K: Keys>(
     }
 }
 
+fn measure_limit<Q, K: Keys>(
+    measure: Measure,
+    times: usize,
+    work: &Workload<'_, K, Q>,
+    valid: &ValidArchive<'_, K>,
+    limit: &Calls<K>,
+    out: &mut [u8],
+) -> (Duration, u64) {
+    let time_lookups = |keys: &K| {
+        let lookup = limit.lookup.expect("it looks up");
+        time(times, || lookup(black_box(keys), valid))
+    };
+    match measure {
+        Measure::Build => {
+            let build = limit.build.expect("it builds");
+            let call = || build(black_box(work.keys), work.values, out);
+            let (duration, len) = time_each(times, call);
+            assert!(out[..len] == *valid.bytes(), "another archive was built");
+            (duration, work.values.len() as u64)
+        }
+        Measure::Hits => time_lookups(work.hits),
+        Measure::Misses => time_lookups(work.misses),
+        Measure::Iterate => {
+            let iterate = limit.iterate.expect("it iterates");
+            time(times, || iterate(black_box(valid)))
+        }
+        _ => unreachable!("it has no such call"),
+    }
+}
+
+/// Returns whether a contestant takes a measure.
+fn takes<K>(contestant: Contestant, measure: Measure, limit: &Calls<K>) -> bool {
+    match (contestant, measure) {
+        (Contestant::Ours, _) => true,
+        (Contestant::Sip | Contestant::Fx, _) => measure != Measure::Access,
+        (Contestant::Limit, Measure::Build) => limit.build.is_some(),
+        (Contestant::Limit, Measure::Hits | Measure::Misses) => limit.lookup.is_some(),
+        (Contestant::Limit, Measure::Iterate) => limit.iterate.is_some(),
+        (Contestant::Limit, _) => false,
+    }
+}
+
 fn run<Q: Key, K: Keys>(
     kind: &str,
     measures: &[Measure],
+    limit: &Calls<K>,
     work: &Workload<'_, K, Q>,
     rounds: usize,
 ) {
@@ -289,7 +342,7 @@ fn run<Q: Key, K: Keys>(
     let mut tasks: Vec<(Measure, Contestant)> = Vec::new();
     for measure in measures.iter().copied() {
         for contestant in CONTESTANTS {
-            if measure != Measure::Access || contestant == Contestant::Ours {
+            if takes(contestant, measure, limit) {
                 tasks.push((measure, contestant));
             }
         }
@@ -311,6 +364,7 @@ fn run<Q: Key, K: Keys>(
                 Contestant::Ours => measure_ours(*measure, times, work, &archive, &valid, &mut out),
                 Contestant::Sip => measure_std(*measure, times, work, &sip),
                 Contestant::Fx => measure_std(*measure, times, work, &fx),
+                Contestant::Limit => measure_limit(*measure, times, work, &valid, limit, &mut out),
             };
             let expected = match measure {
                 Measure::Hash if *contestant == Contestant::Sip => result,
@@ -325,32 +379,36 @@ fn run<Q: Key, K: Keys>(
             taken.push((*measure, *contestant, duration));
         }
     }
-    let median_of = |measure, contestant| {
-        let of_task = taken
-            .iter()
-            .filter(|(m, c, _)| (*m, *c) == (measure, contestant));
-        median(of_task.map(|(_, _, duration)| *duration).collect())
-    };
     for measure in measures.iter().copied() {
-        let ours = median_of(measure, Contestant::Ours);
-        print!(
-            "| {kind} | {count} | {} | {:.2} |",
-            measure.name(),
-            ours / count as f64
-        );
-        if measure == Measure::Access {
-            println!(" | | | | {:.3} a byte of {len} |", ours / len as f64);
-        } else {
-            let sip = median_of(measure, Contestant::Sip);
-            let fx = median_of(measure, Contestant::Fx);
-            println!(
-                " {:.2} | {:.2} | {:.2} | {:.2} | |",
-                sip / count as f64,
-                fx / count as f64,
-                ours / sip,
-                ours / fx
-            );
+        // The nanoseconds for an entry.
+        let time_of = |contestant| {
+            let of_task = taken
+                .iter()
+                .filter(|(m, c, _)| (*m, *c) == (measure, contestant));
+            let times: Vec<Duration> = of_task.map(|(_, _, duration)| *duration).collect();
+            (!times.is_empty()).then(|| median(times) / count as f64)
+        };
+        let ours = time_of(Contestant::Ours).unwrap();
+        let others = [Contestant::Sip, Contestant::Fx, Contestant::Limit].map(time_of);
+        let ratios = others.map(|time| time.map(|time| ours / time));
+        print!("| {kind} | {count} | {} | {ours:.2} |", measure.name());
+        for number in others.into_iter().chain(ratios) {
+            print_cell(number);
         }
+        if measure == Measure::Access {
+            let of_a_byte = ours * count as f64 / len as f64;
+            println!(" {of_a_byte:.3} a byte of {len} |");
+        } else {
+            println!(" |");
+        }
+    }
+}
+
+/// Prints the rest of a cell, which is empty if there is no number.
+fn print_cell(number: Option<f64>) {
+    match number {
+        Some(number) => print!(" {number:.2} |"),
+        None => print!(" |"),
     }
 }
 
@@ -375,6 +433,7 @@ fn run_other_maps(numbers: [Numbers; 3], lists: &[Vec<u32>; 3], values: &[u32], 
     run(
         "index u32",
         OF_INDEX_MAPS,
+        &limit::OF_INDEX_MAPS,
         &workload(&of_index_maps, lists, values),
         rounds,
     );
@@ -382,12 +441,25 @@ fn run_other_maps(numbers: [Numbers; 3], lists: &[Vec<u32>; 3], values: &[u32], 
     run(
         "std u32",
         OF_STD_MAPS,
+        &Calls::NONE,
         &workload(&of_std_maps, lists, values),
         rounds,
     );
 }
 
+/// Returns keys, the same keys in another order, absent keys, and values.
+fn lists(count: usize) -> ([Vec<u32>; 3], Vec<u32>) {
+    let mut random = XorShift32::new();
+    let keys = numbers(&mut random, count);
+    let misses = numbers(&mut random, count);
+    let values = numbers(&mut random, count);
+    let mut hits = keys.clone();
+    XorShift64::new().shuffle(&mut hits);
+    ([keys, hits, misses], values)
+}
+
 fn main() {
+    check::compare_limit();
     let [by_size, keeps] = flags(["--sizes", "--keep-memory"]);
     let (counts, of_numbers, of_texts) = if by_size {
         (SIZES, BY_SIZE, BY_SIZE)
@@ -408,20 +480,15 @@ fn main() {
         }
     );
     println!();
-    println!("| keys | entries | measure | library, ns | std SipHash, ns | std Fx, ns | library / SipHash | library / Fx | |");
-    println!("|---|--:|---|--:|--:|--:|--:|--:|---|");
+    println!("| keys | entries | measure | library, ns | std SipHash, ns | std Fx, ns | limit, ns | library / SipHash | library / Fx | library / limit | |");
+    println!("|---|--:|---|--:|--:|--:|--:|--:|--:|--:|---|");
     for (count, rounds) in counts.iter().copied() {
-        let mut random = XorShift32::new();
-        let keys = numbers(&mut random, count);
-        let misses = numbers(&mut random, count);
-        let values = numbers(&mut random, count);
-        let mut hits = keys.clone();
-        XorShift64::new().shuffle(&mut hits);
-        let lists = [keys, hits, misses];
+        let (lists, values) = lists(count);
         let number_keys = lists.each_ref().map(|list| Numbers(list.clone()));
         run(
             "u32",
             of_numbers,
+            &limit::OF_NUMBERS,
             &workload(&number_keys, &lists, &values),
             rounds,
         );
@@ -432,6 +499,7 @@ fn main() {
         run(
             "text",
             of_texts,
+            &Calls::NONE,
             &workload(&text_keys, &text_lists, &values),
             rounds,
         );
