@@ -191,6 +191,14 @@ impl<K> Calls<K> {
     };
 }
 
+impl<K: Keys> Calls<K> {
+    pub const OF_LIBRARY: Calls<K> = Calls {
+        build: Some(K::build),
+        lookup: Some(K::lookup),
+        iterate: Some(K::iterate),
+    };
+}
+
 /// Numbers.
 pub struct Numbers(pub Vec<u32>);
 

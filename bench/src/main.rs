@@ -1,13 +1,15 @@
 //! Measures archived hash maps against std's `HashMap`, and prints a table in Markdown.
 //!
 //! With the argument `--keep-memory`, the program keeps freed memory. With `--sizes` it takes fewer
-//! measures, of maps of 100 to 10,000,000 entries.
+//! measures, of maps of 100 to 10,000,000 entries. With `--count SIDE CASE SIZE REPEATS` it only
+//! calls one side, for `bench/instructions`.
 //!
 //! It first compares `limit` with the library, and stops if their results or archives differ.
 
 mod check;
 mod clock;
 mod common;
+mod count;
 mod fx;
 mod library;
 mod limit;
@@ -460,6 +462,12 @@ fn lists(count: usize) -> ([Vec<u32>; 3], Vec<u32>) {
 
 fn main() {
     check::compare_limit();
+    let arguments: Vec<String> = std::env::args().skip(1).collect();
+    if let [flag, call @ ..] = arguments.as_slice() {
+        if flag == "--count" {
+            return count::run(call);
+        }
+    }
     let [by_size, keeps] = flags(["--sizes", "--keep-memory"]);
     let (counts, of_numbers, of_texts) = if by_size {
         (SIZES, BY_SIZE, BY_SIZE)
