@@ -3,7 +3,7 @@
 use crate::library::{Calls, Keys, Numbers, Ordered, ValidArchive};
 use crate::{limit, lists};
 
-/// Stops the program if a result or an archive of `limit` is not that of the library.
+/// Stops the program if a result or an archive of `limit` differs from the library's.
 pub fn compare_limit() {
     for count in (0..=300).chain([1_000, 10_000]) {
         let (lists, values) = lists(count);

@@ -4,7 +4,7 @@ use super::table::{hash, tag, Entry, Sizes, Stride, HEADER, STRIDE, WORD};
 use crate::common::MISS;
 use crate::library::{Numbers, Ordered, ValidArchive};
 
-/// The size of the header of an index map: that of a table, and a distance.
+/// The size of the header of an index map: the header of a table, and a distance.
 const INDEX_HEADER: usize = HEADER + WORD;
 
 /// Returns the sum of the values of the keys, plus 2^32 for each key that isn't found.

@@ -73,7 +73,7 @@ impl NewTable {
     /// # Safety
     ///
     /// - The buckets and the control bytes of the capacity may be read and written.
-    /// - The control bytes are those of earlier pairs, and one bucket is empty.
+    /// - The control bytes are of earlier pairs, and one bucket is empty.
     #[inline]
     unsafe fn place(&self, key: u32, value: u32) {
         let hash = hash(key);
@@ -95,7 +95,7 @@ impl NewTable {
     ///
     /// # Safety
     ///
-    /// - The control bytes may be read. They are those of earlier pairs, and one bucket is empty.
+    /// - The control bytes may be read. They are of earlier pairs, and one bucket is empty.
     #[inline]
     unsafe fn home_bucket(&self, hash: u64) -> usize {
         let mut probe = self.sizes.probe(hash);
