@@ -156,7 +156,7 @@ impl<K: Key + ?Sized, V: Value + ?Sized> Builder<K, V> {
 
     /// Builds the archive of the pairs.
     ///
-    /// This needs about 110 to 170 bytes more for each pair until it returns. The builder keeps its
+    /// This needs about 110 to 185 bytes more for each pair until it returns. The builder keeps its
     /// pairs, so that an archive of another width can be built.
     ///
     /// # Errors
