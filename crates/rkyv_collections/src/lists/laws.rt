@@ -2,6 +2,8 @@
 
 ghost use Rattle.std.specs.Cmp.Lexicographic.{pointwise};
 ghost use Rattle.std.specs.Prelude.{◌&&◌, ◌≡◌, ◌↔◌};
+ghost use Rattle.rkyv_collections.specs.{items_load_factor, listed_items, listed_pairs};
+ghost use Rattle.rkyv_collections.specs.{pairs_load_factor};
 
 use crate::lists::{MapPairs, SetItems};
 
@@ -30,8 +32,8 @@ where
     A: 'a,
     B: 'a,
     ensures { (x y : _) → ⟦<MapPairs<'a, A, B, H> as PartialEq>⟧.eq x y
-        ≡ (pointwise ⟦<(A, B) as PartialEq>⟧.eq x.pairs.now y.pairs.now
-        && ⟦<(usize, usize) as PartialEq>⟧.eq x.load_factor y.load_factor) }
+        ≡ (pointwise ⟦<(A, B) as PartialEq>⟧.eq (listed_pairs x) (listed_pairs y)
+        && ⟦<(usize, usize) as PartialEq>⟧.eq (pairs_load_factor x) (pairs_load_factor y)) }
 {}
 
 /// States that lists of items are equal if their items are, in order, and their load factors.
@@ -39,6 +41,6 @@ pub fn item_lists_are_compared<'a, A: PartialEq, H>()
 where
     A: 'a,
     ensures { (x y : _) → ⟦<SetItems<'a, A, H> as PartialEq>⟧.eq x y
-        ≡ (pointwise A.eq x.items.now y.items.now
-        && ⟦<(usize, usize) as PartialEq>⟧.eq x.load_factor y.load_factor) }
+        ≡ (pointwise A.eq (listed_items x) (listed_items y)
+        && ⟦<(usize, usize) as PartialEq>⟧.eq (items_load_factor x) (items_load_factor y)) }
 {}

@@ -4,7 +4,7 @@
 //! by value.
 ghost use Rattle.std.specs.Prelude.{IsTrue, ◌↔◌, ◌≡◌};
 ghost use Rattle.rkyv_base.specs.{IsAt, IsValidView, bytes_of, pos_of};
-ghost use Rattle.rkyv_table.specs.{IsDecoded};
+ghost use Rattle.rkyv_table.specs.{IsDecoded, table_view};
 ghost use Rattle.rkyv_collections.specs.{map_archive, map_bytes, map_cap, map_header, map_len};
 ghost use Rattle.rkyv_collections.specs.{map_pos, map_spec, map_view};
 
@@ -80,7 +80,7 @@ impl<'a, K: Element, V: Element, H, W: Width> ArchivedHashMap<'a, K, V, H, W> {
     /// Returns the table of the entries.
     #[inline]
     pub(crate) fn table(self) -> ArchivedHashTable<'a, Entry<K, V>, W>
-        ensures at { IsAt result.view (map_archive self.entry) (map_pos self.entry) }
+        ensures at { IsAt (table_view result) (map_archive self.entry) (map_pos self.entry) }
     {
         ArchivedHashTable::with_header(
             self.view.at::<TableOf<Entry<K, V>, W>>(self.view.pos()),
