@@ -12,7 +12,7 @@ use Rattle.std.proofs.lemmas.Nat.{
 use Rattle.rkyv_container.specs.declared.contents.Kind.{Kind}
 use Rattle.rkyv_container.specs.declared.contents.Kind.TheVariants.{HashMap, HashSet, IndexMap, IndexSet}
 use Rattle.rkyv_container.specs.declared.contents.ItemType.{ItemType}
-use Rattle.rkyv_container.specs.declared.contents.ItemType.TheVariants.{Bool as BoolType, Bytes, Char, I16, I32, I64, I8, Text, U16, U32, U64, U8, Unit as UnitType}
+use Rattle.rkyv_container.specs.declared.contents.ItemType.TheVariants.{Bool as BoolType, Bytes, Char, F32, F64, I16, I32, I64, I8, Text, U16, U32, U64, U8, Unit as UnitType}
 use Rattle.rkyv_container.specs.declared.contents.Width.{Width}
 use Rattle.rkyv_container.specs.declared.contents.Width.TheVariants.{Narrow, Wide}
 use Rattle.rkyv_container.specs.declared.contents.Contents.{Contents}
@@ -54,7 +54,8 @@ item_at : ℕ → ItemType
 item_at n =
     cond (n == 1) UnitType (cond (n == 2) BoolType (cond (n == 3) Char (cond (n == 4) Text
     (cond (n == 5) Bytes (cond (n == 17) U8 (cond (n == 18) U16 (cond (n == 20) U32
-    (cond (n == 24) U64 (cond (n == 33) I8 (cond (n == 34) I16 (cond (n == 36) I32 I64)))))))))))
+    (cond (n == 24) U64 (cond (n == 33) I8 (cond (n == 34) I16 (cond (n == 36) I32
+    (cond (n == 40) I64 (cond (n == 52) F32 F64)))))))))))))
 
 width_at : ℕ → Width
 width_at n = cond (n == 4) Narrow Wide
@@ -81,6 +82,8 @@ item_at-item_code I8 = refl
 item_at-item_code I16 = refl
 item_at-item_code I32 = refl
 item_at-item_code I64 = refl
+item_at-item_code F32 = refl
+item_at-item_code F64 = refl
 
 width_at-width_code : (w : Width) → width_at (width_code w) ≡ w
 unfolding width_at

@@ -5,9 +5,9 @@ use Rattle.rkyv_container.specs.declared.contents.Kind.TheVariants.{HashMap, Has
 use Rattle.rkyv_container.specs.declared.contents.Kind.TheVariants.{IndexSet}
 use Rattle.rkyv_container.specs.declared.contents.ItemType.{ItemType}
 use Rattle.rkyv_container.specs.declared.contents.ItemType.TheVariants.{Bool as BoolType, Bytes}
-use Rattle.rkyv_container.specs.declared.contents.ItemType.TheVariants.{Char, I16, I32, I64, I8}
-use Rattle.rkyv_container.specs.declared.contents.ItemType.TheVariants.{Text, U16, U32, U64, U8}
-use Rattle.rkyv_container.specs.declared.contents.ItemType.TheVariants.{Unit as UnitType}
+use Rattle.rkyv_container.specs.declared.contents.ItemType.TheVariants.{Char, F32, F64, I16, I32}
+use Rattle.rkyv_container.specs.declared.contents.ItemType.TheVariants.{I64, I8, Text, U16, U32}
+use Rattle.rkyv_container.specs.declared.contents.ItemType.TheVariants.{U64, U8, Unit as UnitType}
 use Rattle.rkyv_container.specs.declared.contents.Width.{Width}
 use Rattle.rkyv_container.specs.declared.contents.Width.TheVariants.{Narrow, Wide}
 
@@ -33,6 +33,8 @@ item_code I8 = 0x21
 item_code I16 = 0x22
 item_code I32 = 0x24
 item_code I64 = 0x28
+item_code F32 = 0x34
+item_code F64 = 0x38
 
 -- the code of a width: the size of its word in bytes
 abbrev pub width_code : Width → ℕ

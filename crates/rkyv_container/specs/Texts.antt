@@ -5,9 +5,9 @@ use Rattle.rkyv_container.specs.declared.contents.Kind.TheVariants.{HashMap, Has
 use Rattle.rkyv_container.specs.declared.contents.Kind.TheVariants.{IndexSet}
 use Rattle.rkyv_container.specs.declared.contents.ItemType.{ItemType}
 use Rattle.rkyv_container.specs.declared.contents.ItemType.TheVariants.{Bool as BoolType, Bytes}
-use Rattle.rkyv_container.specs.declared.contents.ItemType.TheVariants.{Char, I16, I32, I64, I8}
-use Rattle.rkyv_container.specs.declared.contents.ItemType.TheVariants.{Text, U16, U32, U64, U8}
-use Rattle.rkyv_container.specs.declared.contents.ItemType.TheVariants.{Unit as UnitType}
+use Rattle.rkyv_container.specs.declared.contents.ItemType.TheVariants.{Char, F32, F64, I16, I32}
+use Rattle.rkyv_container.specs.declared.contents.ItemType.TheVariants.{I64, I8, Text, U16, U32}
+use Rattle.rkyv_container.specs.declared.contents.ItemType.TheVariants.{U64, U8, Unit as UnitType}
 use Rattle.rkyv_container.specs.declared.contents.Width.{Width}
 use Rattle.rkyv_container.specs.declared.contents.Width.TheVariants.{Narrow, Wide}
 
@@ -33,6 +33,8 @@ type_text I8 = codes "i8"
 type_text I16 = codes "i16"
 type_text I32 = codes "i32"
 type_text I64 = codes "i64"
+type_text F32 = codes "f32"
+type_text F64 = codes "f64"
 
 -- the text of a width
 abbrev pub width_text : Width → List ℕ

@@ -23,7 +23,8 @@ pub enum Kind {
 
 /// The type of the keys or of the values of a collection.
 ///
-/// The low four bits of a number's code are its size in bytes.
+/// The low four bits of a number's code are its size in bytes. `F32` and `F64` are types of values:
+/// no collection has keys of these types. A header with either as its key type is read.
 #[derive(Clone, Copy, Debug, PartialEq, Eq)]
 pub enum ItemType {
     /// `()`, the type of the values of a set. Its code is 1.
@@ -52,6 +53,10 @@ pub enum ItemType {
     I32,
     /// `i64`. Its code is 40.
     I64,
+    /// `f32`, a type of values. Its code is 52.
+    F32,
+    /// `f64`, a type of values. Its code is 56.
+    F64,
 }
 
 /// The width of an archive. Its code is the size of a word in bytes.
@@ -137,6 +142,8 @@ impl ItemType {
             ItemType::I16 => 0x22,
             ItemType::I32 => 0x24,
             ItemType::I64 => 0x28,
+            ItemType::F32 => 0x34,
+            ItemType::F64 => 0x38,
         }
     }
 
@@ -158,6 +165,8 @@ impl ItemType {
             0x22 => Some(ItemType::I16),
             0x24 => Some(ItemType::I32),
             0x28 => Some(ItemType::I64),
+            0x34 => Some(ItemType::F32),
+            0x38 => Some(ItemType::F64),
             _ => None,
         }
     }
@@ -217,6 +226,8 @@ impl fmt::Display for ItemType {
             ItemType::I16 => write!(f, "i16"),
             ItemType::I32 => write!(f, "i32"),
             ItemType::I64 => write!(f, "i64"),
+            ItemType::F32 => write!(f, "f32"),
+            ItemType::F64 => write!(f, "f64"),
         }
     }
 }

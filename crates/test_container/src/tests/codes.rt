@@ -77,6 +77,8 @@ fn codes_of_types(rt: HostRuntime) {
             (ItemType::I16, 0x22),
             (ItemType::I32, 0x24),
             (ItemType::I64, 0x28),
+            (ItemType::F32, 0x34),
+            (ItemType::F64, 0x38),
         ],
     );
 }

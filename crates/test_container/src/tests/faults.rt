@@ -80,6 +80,9 @@ fn unknown_codes_are_errors(rt: HostRuntime) {
         header_fault(11, 0x13),
         header_fault(12, 6),
         header_fault(12, 0xff),
+        header_fault(11, 0x33),
+        header_fault(12, 0x32),
+        header_fault(12, 0x39),
         header_fault(13, 0),
         header_fault(13, 16),
     ];
@@ -92,6 +95,9 @@ fn unknown_codes_are_errors(rt: HostRuntime) {
             Some(ContainerError::UnknownKeyType(19)),
             Some(ContainerError::UnknownValueType(6)),
             Some(ContainerError::UnknownValueType(255)),
+            Some(ContainerError::UnknownKeyType(51)),
+            Some(ContainerError::UnknownValueType(50)),
+            Some(ContainerError::UnknownValueType(57)),
             Some(ContainerError::UnknownWidth(0)),
             Some(ContainerError::UnknownWidth(16)),
         ]

@@ -1,6 +1,7 @@
 //! Worked rows: the bytes of containers, written down from the layout.
 use rkyv_container::header::header_constants;
 use rkyv_container::{Contents, Header, ItemType, Kind, Width, fill_header, open, open_as};
+use std::process::Abort;
 
 /// The header of the narrow hash map of `u32` with 1 to 2, which has 60 bytes, without a checksum.
 pub(crate) const NUMBERS: [u8; 32] = [
@@ -72,6 +73,42 @@ fn headers_are_read(rt: HostRuntime) {
     };
     assert_eq!(rt; Header::read(&NUMBERS), Ok(header));
     expect_eq!(rt; Header::read(&NAMES), Ok(names_header()));
+}
+
+// Returns the bytes of the header of numbers with these codes of its key and value types.
+fn header_of_types(key: u8, value: u8) -> [u8; 32] {
+    let mut bytes = NUMBERS;
+    bytes[11] = key;
+    bytes[12] = value;
+    bytes
+}
+
+// Fails the test unless the header of numbers with these types is written as bytes with their
+// codes and read from them, in each row: the key type and its code, the value type and its code.
+fn expect_types(rt: &impl Abort, rows: &[(ItemType, u8, ItemType, u8)]) {
+    for (key, key_code, value, value_code) in rows {
+        let mut contents = numbers();
+        contents.key = *key;
+        contents.value = *value;
+        let header = Header::new(contents, &[0; 60], false);
+        let bytes = header_of_types(*key_code, *value_code);
+        expect_eq!(*rt; header.to_bytes(), bytes);
+        expect_eq!(*rt; Header::read(&bytes), Ok(header));
+    }
+}
+
+// A header with floats as keys is read, although no collection has such keys.
+#[test]
+fn headers_of_floats_are_written_and_read(rt: HostRuntime) {
+    expect_types(
+        &rt,
+        &[
+            (ItemType::U32, 0x14, ItemType::F32, 0x34),
+            (ItemType::U32, 0x14, ItemType::F64, 0x38),
+            (ItemType::F32, 0x34, ItemType::U32, 0x14),
+            (ItemType::F64, 0x38, ItemType::U32, 0x14),
+        ],
+    );
 }
 
 #[test]

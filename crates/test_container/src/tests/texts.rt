@@ -129,6 +129,8 @@ fn types_have_names(rt: HostRuntime) {
             (ItemType::I16, "i16"),
             (ItemType::I32, "i32"),
             (ItemType::I64, "i64"),
+            (ItemType::F32, "f32"),
+            (ItemType::F64, "f64"),
         ],
     );
 }
