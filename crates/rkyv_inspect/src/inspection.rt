@@ -136,7 +136,7 @@ fn inspect_width<W: IndexWidth>(
 /// # Errors
 ///
 /// - `Unsupported`: the keys aren't `u32`, `u64` or text, or the values aren't these or unit. The
-///   values of a set must be unit.
+///   values of a set must be unit. Neither `f32` nor `f64` is supported.
 /// - `Invalid`: the bytes aren't a valid archive of this collection.
 /// - `Memory`: an allocation failed.
 ///

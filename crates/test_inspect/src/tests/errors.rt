@@ -45,6 +45,20 @@ fn unsupported_types(rt: HostRuntime) -> Result<(), Fail> {
     Ok(())
 }
 
+// The values of `ONE_NUMBER` have the size of an `f32`, and aren't shown as integers.
+#[test]
+fn unsupported_floats(rt: HostRuntime) {
+    let contents = narrow(Kind::HashMap, ItemType::U32, ItemType::F32);
+    let values = inspect(rt.alloc(), &ONE_NUMBER, contents, 1000);
+    assert!(rt; matches!(&values, Err(InspectError::Unsupported(ItemType::F32))));
+    let contents = narrow(Kind::IndexMap, ItemType::U32, ItemType::F64);
+    let values = inspect(rt.alloc(), &ONE_NUMBER, contents, 1000);
+    assert!(rt; matches!(&values, Err(InspectError::Unsupported(ItemType::F64))));
+    let contents = narrow(Kind::HashMap, ItemType::F32, ItemType::U32);
+    let keys = inspect(rt.alloc(), &ONE_NUMBER, contents, 1000);
+    assert!(rt; matches!(&keys, Err(InspectError::Unsupported(ItemType::F32))));
+}
+
 #[test]
 fn errors_are_converted_into_those_of_their_names(rt: HostRuntime) {
     laws::errors_are_converted();

@@ -133,5 +133,13 @@ fn a_container_line_is_printed(rt: HostRuntime) -> Result<(), Fail> {
     let text = format!(in rt.alloc(); "{}", ContainerLine(header))?;
     let line = "container: index set of text, wide, archive of 32 bytes, no checksum\n";
     expect_eq!(rt; text.as_str(), line);
+    let header = Header {
+        contents: narrow(Kind::IndexMap, ItemType::Text, ItemType::F64),
+        len: 44,
+        checksum: None,
+    };
+    let text = format!(in rt.alloc(); "{}", ContainerLine(header))?;
+    let line = "container: index map of text to f64, narrow, archive of 44 bytes, no checksum\n";
+    expect_eq!(rt; text.as_str(), line);
     Ok(())
 }
