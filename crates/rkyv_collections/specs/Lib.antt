@@ -90,3 +90,4 @@ unfoldable pub use Set.Walking.{WalksAllKeys}
 unfoldable pub use Listed.{SerializesEntries, map_list, map_list_format, pairs_under, set_list}
 unfoldable pub use Listed.{set_list_format, std_map_format}
 unfoldable pub use Lists.{items_load_factor, listed_items, listed_pairs, pairs_load_factor}
+unfoldable pub use Lists.{same_load_factor}

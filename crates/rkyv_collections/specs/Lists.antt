@@ -1,5 +1,5 @@
 -- The parts of the lists that are archived as maps and sets.
-use Rattle.std.specs.Prelude.{ℕ, List}
+use Rattle.std.specs.Prelude.{Bool, List, ℕ, ◌&&◌, ◌==◌}
 use Rattle.rkyv_collections.specs.declared.lists.items.SetItems.{SetItems}
 use Rattle.rkyv_collections.specs.declared.lists.pairs.MapPairs.{MapPairs}
 
@@ -20,3 +20,7 @@ module _ {A H : Type 0} where
   -- the load factor of the list
   abbrev pub items_load_factor : SetItems A H → ℕ × ℕ
   items_load_factor list = list.load_factor
+
+-- two load factors have the same parts
+abbrev pub same_load_factor : ℕ × ℕ → ℕ × ℕ → Bool
+same_load_factor f g = (f.0 == g.0) && (f.1 == g.1)

@@ -1,7 +1,7 @@
 -- The clauses of lookups on their results.
 use Rattle.rkyv_base.specs.declared.element.HasSpec.{Ghosts as Specs}
 use Rattle.rkyv_base.specs.declared.width.Word.{Ghosts as Words}
-use Rattle.std.specs.Prelude.{◌≡◌, ℕ, ◌+◌, Bool, true, IfSome, List, MatchOption, None, Option}
+use Rattle.std.specs.Prelude.{◌≡◌, ℕ, ◌+◌, Bool, true, IfSome, MatchOption, None, Option}
 use Rattle.std.specs.Prelude.{Some}
 use Rattle.rkyv_base.specs.{ElementSpec, IsAt, IsValidView, archive_of, pos_of, value_offset}
 use Rattle.rkyv_base.specs.declared.entry.Entry.{Entry}

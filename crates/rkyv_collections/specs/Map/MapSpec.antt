@@ -1,5 +1,5 @@
 -- The bytes of a hash map, as an element.
-use Rattle.std.specs.Prelude.{◌≡◌, ℕ, List}
+use Rattle.std.specs.Prelude.{ℕ, List}
 use Rattle.std.specs.Int.{Width}
 use Rattle.rkyv_base.specs.{ElementSpec, entry_spec}
 use Rattle.rkyv_table.specs.{HasItemAt, table_spec}

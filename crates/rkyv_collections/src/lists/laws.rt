@@ -3,7 +3,7 @@
 ghost use Rattle.std.specs.Cmp.Lexicographic.{pointwise};
 ghost use Rattle.std.specs.Prelude.{◌&&◌, ◌≡◌, ◌↔◌};
 ghost use Rattle.rkyv_collections.specs.{items_load_factor, listed_items, listed_pairs};
-ghost use Rattle.rkyv_collections.specs.{pairs_load_factor};
+ghost use Rattle.rkyv_collections.specs.{pairs_load_factor, same_load_factor};
 
 use crate::lists::{MapPairs, SetItems};
 
@@ -33,7 +33,7 @@ where
     B: 'a,
     ensures { (x y : _) → ⟦<MapPairs<'a, A, B, H> as PartialEq>⟧.eq x y
         ≡ (pointwise ⟦<(A, B) as PartialEq>⟧.eq (listed_pairs x) (listed_pairs y)
-        && ⟦<(usize, usize) as PartialEq>⟧.eq (pairs_load_factor x) (pairs_load_factor y)) }
+        && same_load_factor (pairs_load_factor x) (pairs_load_factor y)) }
 {}
 
 /// States that lists of items are equal if their items are, in order, and their load factors.
@@ -42,5 +42,5 @@ where
     A: 'a,
     ensures { (x y : _) → ⟦<SetItems<'a, A, H> as PartialEq>⟧.eq x y
         ≡ (pointwise A.eq (listed_items x) (listed_items y)
-        && ⟦<(usize, usize) as PartialEq>⟧.eq (items_load_factor x) (items_load_factor y)) }
+        && same_load_factor (items_load_factor x) (items_load_factor y)) }
 {}
