@@ -1,14 +1,16 @@
 -- The marks of both halves, by bits.
-use Rattle.std.proofs.Common.{◌≡◌, ℕ, zero, suc, ◌+◌, ◌-◌, ◌*◌, ◌/◌, ◌%◌, ◌^◌, ◌<◌, ◌≤◌, ◌⊎◌, inl, inr, false, ◌&&◌, ◌||◌, cond, eqb, max, min, List, slice_index, bit_and, bit_xor, refl, sym, ap, ◌∙◌, arith, eq-eqb, eqb-true}
+use Rattle.std.proofs.Common.{◌≡◌, ℕ, zero, suc, ◌+◌, ◌-◌, ◌*◌, ◌/◌, ◌%◌, ◌^◌, ◌<◌, ◌≤◌, ◌⊎◌, inl, inr, Bool, true, false, [], ◌∷◌, length, slice_get, ◌&&◌, ◌||◌, cond, eqb, max, min, List, slice_index, bit_and, bit_xor, refl, sym, ap, ◌∙◌, arith, eq-eqb, eqb-true}
 use Rattle.std.proofs.lemmas.Grind.{common_steps}
 use Rattle.std.specs.Int.{bit_at}
+use Rattle.std.specs.List.{filter, range_with_len}
 use Rattle.std.specs.Int.RustNames.{bit_or}
-use Rattle.std.proofs.lemmas.Bool.{cases_eq, ne_eqb}
+use Rattle.std.proofs.lemmas.Bool.{cases_Bool, cases_eq, false_from_ne_true, ne_eqb, true≢false}
 use Rattle.std.proofs.lemmas.Nat.{shr_split}
-use Rattle.std.proofs.lemmas.Nat.Bits.{bit_at-lt, bit_at-suc, bit_at-zero, bit_at_and, bit_at_cat_low, bit_at_or}
-use Rattle.std.proofs.Math.Bool.{and-false}
-use Rattle.rkyv_scan.specs.{MarksEqual, bits_after, chain, half_of, indices_where, is_half_match_at, is_word_match_at, mask_indices}
-use Rattle.rkyv_scan.specs.Lemmas.Paired.{half_at, half_lower}
+use Rattle.std.proofs.lemmas.Option.{none-some}
+use Rattle.std.proofs.lemmas.Nat.Bits.{bit_at-lt, bit_at-suc, bit_at_and, bit_at_cat_low, bit_at_or}
+use Rattle.rkyv_scan.specs.{MarksEqual, bits_after, chain, half_of, group_lanes, indices_where, is_half_match_at, is_word_match_at, mask_bits, mask_indices, paired_indices}
+use Rattle.rkyv_scan.specs.declared.simd.paired.bitmask.Bitmask.{Bitmask as PairedMask}
+use Rattle.rkyv_scan.specs.Lemmas.Paired.{half_at, half_lower, paired_lawful}
 use Rattle.rkyv_scan.proofs.Bits.{all_to_at}
 use Rattle.rkyv_scan.proofs.Indices.{range_agree}
 
@@ -66,26 +68,44 @@ module _ (xs : List ℕ) (t equal next : ℕ) (marks_byte : MarksEqual xs t equa
   chain_is zero k l h = marks_byte k l ∙ sym (half_first xs t k (omega arith))
   chain_is (suc n) k l h = chain_step n (chain equal next n) (chain_is n) k l h
 
-  -- a mask that a step leaves unchanged has all marks
-  chain_fixed : (m : ℕ) → ((k : ℕ) → k < 16 → bit_at m k ≡ bit_at (bit_or equal (bit_and (bits_after m) next)) k) → (n : ℕ) → Chains xs t n m
-  chain_fixed m e zero k l h = ap (λ x. eqb x 1) (e k l) ∙ chain_base m k l h
-  chain_fixed m e (suc n) k l h = ap (λ x. eqb x 1) (e k l) ∙ chain_step n m (chain_fixed m e n) k l h
-
-  pub chain_equal : bit_and (bits_after equal) next ≡ 0 → Chains xs t 7 equal
-  chain_equal z = grind (arith, common_steps, chain_fixed, bit_at-zero, bit_at_or)
-
-none_marked : (xs : List ℕ) (t : ℕ) → ((k : ℕ) → k < 16 → eqb (slice_index xs k) t ≡ false) → (n k : ℕ) → k < 16 → k % 8 ≤ n → is_half_match_at xs t k ≡ false
-none_marked xs t none zero k l h = half_first xs t k (omega arith) ∙ none k l
-none_marked xs t none (suc n) k l h = elim (cases_eq (k % 8) 0) [
-  | inl z ↦ half_first xs t k z ∙ none k l
-  | inr nz ↦ grind (arith, common_steps, half_next xs t k nz, and-false (eqb (slice_index xs k) (bit_xor t 1)), none_marked xs t none n (k - 1) (omega arith) (omega arith))
+-- a test and a stricter one that the first index with the weaker one passes keep the same first index
+first_agree : (p q : ℕ → Bool) (a n : ℕ) → ((k : ℕ) → k < a + n → q k ≡ true → p k ≡ true)
+    → ((k : ℕ) → k < a + n → p k ≡ true → ((l : ℕ) → l < k → p l ≡ false) → q k ≡ true)
+    → ((l : ℕ) → l < a → p l ≡ false) → slice_get (filter p (range_with_len a n)) 0 ≡ slice_get (filter q (range_with_len a n)) 0
+first_agree p q a zero inside lowest below = refl
+first_agree p q a (suc n) inside lowest below = elim (cases_Bool (p a)) [
+  | inl hit ↦ let also = lowest a (omega arith) hit below in grind (arith, common_steps)
+  | inr miss ↦
+      let neither : q a ≡ false = false_from_ne_true (q a) (λ y. true≢false (sym (inside a (omega arith) y) ∙ miss)) in
+      let rest = first_agree p q (a + 1) n (λ k l. inside k (omega arith)) (λ k l. lowest k (omega arith))
+      (λ l m. elim (cases_eq l a) [ inl e ↦ ap p e ∙ miss | inr ne ↦ below l (omega arith) ]) in
+      grind (arith, common_steps)
 ]
 
--- if no byte is equal, no index is marked
-pub none_equal : (xs : List ℕ) (t equal : ℕ) → MarksEqual xs t equal → equal ≡ 0 → Chains xs t 7 0
-none_equal xs t equal marks_byte z k l h =
-    let none = λ (j : ℕ) (m : j < 16). sym (marks_byte j m) ∙ ap (λ x. eqb (bit_at x j) 1) z ∙ ap (λ x. eqb x 1) (bit_at-zero j) in
-    ap (λ x. eqb x 1) (bit_at-zero k) ∙ sym (none_marked xs t none 7 k l h)
+-- the lowest mark of a match is the lowest equal byte
+first_marked : (xs : List ℕ) (t m : ℕ) → MarksEqual xs t m → slice_get (indices_where (is_half_match_at xs t) 16) 0 ≡ slice_get (mask_indices 1 0 16 m) 0
+unfolding mask_indices indices_where
+first_marked xs t m marks =
+    let bit : (k : ℕ) → k < 16 → eqb (bit_at m (1 * k + 0)) 1 ≡ eqb (slice_index xs k) t =
+    (λ k l. let at : 1 * k + 0 ≡ k = omega arith in ap (λ j. eqb (bit_at m j) 1) at ∙ marks k l) in
+    first_agree (is_half_match_at xs t) (λ k. eqb (bit_at m (1 * k + 0)) 1) 0 16
+    (λ k l h. paired_lawful.equal xs t k (omega arith) (eqb-true _ _ (sym (bit k (omega arith)) ∙ h)))
+    (λ k l h low. bit k (omega arith) ∙ eq-eqb _ _ (paired_lawful.lowest xs t k h low))
+    (λ l h. absurd (omega arith))
+
+pub known_first : (m : PairedMask) → slice_get (paired_indices m) 0 ≡ slice_get (mask_indices 1 0 16 (mask_bits m.known)) 0
+known_first m =
+    let marks = λ (b : Bool). slice_get (cond b (mask_indices 1 0 16 (mask_bits m.known)) (indices_where (is_half_match_at (group_lanes m.both) m.byte) 16)) 0 in
+    elim (cases_Bool m.is_whole) [
+      | inl whole ↦ ap marks whole
+      | inr not_whole ↦ ap marks not_whole ∙ first_marked (group_lanes m.both) m.byte (mask_bits m.known) (m.equal not_whole)
+    ]
+
+-- of two lists with the same first element, both have one or none has
+pub both_some : (xs ys : List ℕ) → slice_get xs 0 ≡ slice_get ys 0 → 0 < length xs → 0 < length ys
+both_some [] ys e l = absurd (omega arith)
+both_some (x ∷ xs) [] e l = absurd (none-some x (sym e))
+both_some (x ∷ xs) (y ∷ ys) e l = omega arith
 
 pub chained_indices : (xs : List ℕ) (t m : ℕ) → Chains xs t 7 m → mask_indices 1 0 16 m ≡ indices_where (is_half_match_at xs t) 16
 unfolding mask_indices indices_where
@@ -93,3 +113,12 @@ chained_indices xs t m h =
     range_agree _ _ 0 16 (λ k l b.
     let at : 1 * k + 0 ≡ k = omega arith in
     ap (λ j. eqb (bit_at m j) 1) at ∙ h k (omega arith) (omega arith))
+
+-- the marks after seven steps are all marks of the match
+pub whole_marks : (m : PairedMask) (next : ℕ) → m.is_whole ≡ false → MarksEqual (group_lanes m.both) (bit_xor m.byte 1) next
+    → mask_indices 1 0 16 (chain (mask_bits m.known) next 7) ≡ paired_indices m
+whole_marks m next not_whole marks_next =
+    let xs = group_lanes m.both in
+    let marks = λ (b : Bool). cond b (mask_indices 1 0 16 (mask_bits m.known)) (indices_where (is_half_match_at xs m.byte) 16) in
+    chained_indices xs m.byte (chain (mask_bits m.known) next 7) (chain_is xs m.byte (mask_bits m.known) next (m.equal not_whole) marks_next 7)
+    ∙ sym (ap marks not_whole)

@@ -3,3 +3,4 @@ pub mod KindLaws
 pub mod Ascending
 pub mod Numbers
 pub mod Paired
+pub mod PairedMask

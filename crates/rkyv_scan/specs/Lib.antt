@@ -5,6 +5,7 @@ pub mod Laws
 pub mod Lemmas
 pub mod Masks
 pub mod Paired
+pub mod PairedMask
 unfoldable pub use Groups.{AllBelow, bytewise_kind, flag_indices, generic_kind, indices_where}
 unfoldable pub use Groups.{is_empty, is_equal_at, is_full, is_word_match_at, lanes_kind}
 unfoldable pub use Groups.{mask_indices}
@@ -20,3 +21,4 @@ unfoldable pub use Laws.{FixedCallsHashAlike, IsFixed, WritesJoin}
 unfoldable pub use Masks.{group_bytes, group_lanes, group_word, mask_bits, mask_flags, mask_word}
 unfoldable pub use Masks.{paired_lanes}
 unfoldable pub use Paired.{MarksEqual, bits_after, chain, half_of, is_half_match_at, paired_kind}
+unfoldable pub use PairedMask.{paired_indices}

@@ -15,15 +15,25 @@ pub struct Bitmask {
 }
 
 impl Bitmask {
+    ghost use Rattle.rkyv_scan.specs.{mask_bits};
+
     /// The mask that marks no index.
     pub const EMPTY: Self = Bitmask { bits: 0 };
 
     /// Returns the mask with these bits.
     #[inline]
     pub(crate) fn of_bits(bits: u16) -> Self
-        ensures { result.bits ≡ bits }
+        ensures { mask_bits result ≡ bits }
     {
         Bitmask { bits }
+    }
+
+    /// Returns the bits of the mask.
+    #[inline]
+    pub(crate) fn bits(self) -> u16
+        ensures { result ≡ mask_bits self }
+    {
+        self.bits
     }
 }
 

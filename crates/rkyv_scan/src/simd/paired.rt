@@ -2,12 +2,16 @@
 //!
 //! It compares sixteen bytes at once. The lookups of `rkyv_table` use it.
 ghost use Rattle.std.specs.Prelude.{◌≡◌, ℕ, ◌+◌, ◌*◌, ◌%◌, ◌<◌, ◌==◌};
-ghost use Rattle.rkyv_scan.specs.{bits_after, chain, paired_kind};
+ghost use Rattle.std.specs.Iterator.{YieldsFirst, item_count};
+ghost use Rattle.rkyv_scan.specs.{bits_after, chain, mask_bits, mask_indices, paired_indices};
+ghost use Rattle.rkyv_scan.specs.{paired_kind};
 ghost use Rattle.rkyv_scan.specs.Lemmas.Paired.{paired_lawful};
 ghost use Rattle.std.proofs.Common.{refl};
 
-use crate::simd::GroupKind;
-use crate::simd::lanes::{self, Bitmask};
+pub mod bitmask;
+
+use crate::simd::paired::bitmask::Bitmask;
+use crate::simd::{GroupKind, Marks, lanes};
 
 /// A group of sixteen control bytes.
 ///
@@ -29,8 +33,7 @@ fn after(marks: u16) -> u16
 /// Returns the marks of a match, after seven steps from `equal`.
 ///
 /// Each step also marks an index of `next` if the index right below it in the same half is marked.
-#[cold]
-#[inline(never)]
+#[inline]
 fn chained(equal: u16, next: u16) -> u16
     ensures { result ≡ chain equal next 7 }
 {
@@ -39,6 +42,72 @@ fn chained(equal: u16, next: u16) -> u16
         marks = equal | (after(marks) & next);
     }
     marks
+}
+
+impl Bitmask {
+    /// Returns the whole mask.
+    #[inline]
+    fn whole(self) -> lanes::Bitmask
+        ensures { mask_indices 1 0 16 (mask_bits result) ≡ paired_indices self }
+    {
+        if self.is_whole {
+            return self.known;
+        }
+        let next = self.both.equal_bits(self.byte ^ 1);
+        lanes::Bitmask::of_bits(chained(self.known.bits(), next))
+    }
+}
+
+impl Marks for Bitmask {
+    ghost use Rattle.rkyv_scan.specs.{paired_indices};
+    ghost use Rattle.rkyv_scan.specs.Lemmas.PairedMask.{paired_ascends};
+
+    ghost indices = { paired_indices };
+
+    ghost ascend = { paired_ascends };
+
+    ghost ready = { λ _. tt };
+
+    ghost yields = { λ _ _ _ h. h };
+
+    ghost ends = { λ _. refl };
+
+    #[inline]
+    fn any_bit_set(self) -> bool {
+        self.known.any_bit_set()
+    }
+
+    #[inline]
+    fn remove_lowest_bit(self) -> Self {
+        Bitmask {
+            known: self.whole().remove_lowest_bit(),
+            both: self.both,
+            byte: self.byte,
+            is_whole: true,
+        }
+    }
+
+    #[inline]
+    fn lowest_set_bit(self) -> Option<usize> {
+        self.known.lowest_set_bit()
+    }
+}
+
+impl Iterator for Bitmask {
+    ghost use Rattle.rkyv_scan.specs.{paired_indices};
+
+    type Item = usize;
+
+    ghost next_gives = { YieldsFirst paired_indices };
+
+    ghost remaining = { item_count paired_indices };
+
+    #[inline]
+    fn next(&mut self) -> Option<usize> {
+        let index = self.lowest_set_bit()?;
+        *self = self.remove_lowest_bit();
+        Some(index)
+    }
 }
 
 impl GroupKind for Group {
@@ -67,24 +136,31 @@ impl GroupKind for Group {
 
     #[inline]
     fn match_byte(self, byte: u8) -> Bitmask {
-        let equal = self.both.equal_bits(byte);
-        if equal == 0 {
-            return Bitmask::of_bits(0);
+        Bitmask {
+            known: lanes::Bitmask::of_bits(self.both.equal_bits(byte)),
+            both: self.both,
+            byte,
+            is_whole: false,
         }
-        let next = self.both.equal_bits(byte ^ 1);
-        if after(equal) & next == 0 {
-            return Bitmask::of_bits(equal);
-        }
-        Bitmask::of_bits(chained(equal, next))
     }
 
     #[inline]
     fn match_empty(self) -> Bitmask {
-        self.both.match_empty()
+        Bitmask {
+            known: self.both.match_empty(),
+            both: self.both,
+            byte: 0,
+            is_whole: true,
+        }
     }
 
     #[inline]
     fn match_full(self) -> Bitmask {
-        self.both.match_full()
+        Bitmask {
+            known: self.both.match_full(),
+            both: self.both,
+            byte: 0,
+            is_whole: true,
+        }
     }
 }
