@@ -1,22 +1,16 @@
 //! Archived hash maps and hash sets: writing, validating, reading and changing them in place.
 //!
-//! A map is a table of entries under the hashes of their keys, as in rkyv.
-//! A set is the map of its keys to the unit value. `HashMapOf` and `HashSetOf` are the element
-//! types of the headers. `ArchivedHashMap` and `ArchivedHashSet` are a map and a set that are read.
+//! A map is a SwissTable of entries: it has one control byte for each bucket, and a lookup compares
+//! sixteen of them at once. Probing is triangular, and a capacity need not be a power of two.
+//! A set is the map of its keys to the unit value. The bytes are rkyv's, as tests compare them.
+//! Unlike in rkyv, each lookup terminates, also in an untrusted archive.
 //!
-//! - To archive a list, wrap it in `MapPairs` or `SetItems`. To archive a map or set of std,
-//!   wrap it in `Hashed`.
-//! - To archive from an iterator, `serialize_from_iter` writes a map or set and returns
-//!   its resolver.
-//! - To read, `ArchivedHashMap::of` and `ArchivedHashSet::of` decode the header at a view,
-//!   once for all lookups.
-//! - To look up, `get` and `get_key_value` take a query, and `get_with` and `get_key_value_with`
-//!   also a comparison.
-//! - To walk over a map, `iter`, `keys` and `values` return iterators.
-//! - To write values in place, the module `map::in_place` has a table of the calls.
-//! - To compare, `eq_map` and `eq_set` take an archived map or set, and `eq_std` one of std.
-//! - To deserialize, `deserialize_std` returns a map or set of std.
-//! - To validate hashes, `misplaced` counts the keys that a lookup of their own doesn't find.
+//! - To archive a list, wrap it in `MapPairs` or `SetItems`; a std map or set, in `Hashed`.
+//! - To read, pass a view of a `HashMapOf` to `ArchivedHashMap::of`, or of a `HashSetOf`
+//!   to `ArchivedHashSet::of`. Begin with `get` and `iter`.
+//! - To write values in place, `map::in_place` has a table of the calls.
+//! - To compare, there are `eq_map`, `eq_set` and `eq_std`; `deserialize_std` returns std's types.
+//! - `misplaced` counts the keys that lookups don't find.
 //!
 //! `FxHasher64` takes no secret key, so it doesn't protect from chosen input.
 //! In an untrusted archive, a lookup may read all control bytes.

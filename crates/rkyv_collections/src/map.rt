@@ -29,9 +29,9 @@ pub struct HashMapOf<K, V, H = FxHasher64, W = Narrow> {
     kinds: PhantomData<(K, V, H, W)>,
 }
 
-/// A hash map of `K` to `V` under the hasher `H` that is read in an archive of the width `W`.
+/// A hash map of `K` to `V` under the hasher `H`, read in an archive of the width `W`.
 ///
-/// Its bytes are valid. It holds its decoded header.
+/// Its bytes are valid, so its calls need no condition. It is small, and is passed by value.
 pub struct ArchivedHashMap<'a, K: HasSpec, V: HasSpec, H = FxHasher64, W: Word = Narrow> {
     pub(crate) view: View<'a, HashMapOf<K, V, H, W>>,
     pub(crate) header: Decoded,

@@ -1,7 +1,7 @@
 //! Hash sets.
 //!
 //! A set is the map of its keys to the unit value. `write` writes sets from iterators,
-//! and `laws` has laws of their bytes, their layout, lookups and walks.
+//! and `laws` has laws of their bytes, their layout, lookups and iterators.
 ghost use Rattle.std.specs.Prelude.{MatchResult, Ok, ◌≡◌, ⊤};
 
 mod accessors;
@@ -22,9 +22,9 @@ pub struct HashSetOf<K, H = FxHasher64, W = Narrow> {
     kinds: PhantomData<(K, H, W)>,
 }
 
-/// A hash set of `K` under the hasher `H` that is read in an archive of the width `W`.
+/// A hash set of `K` under the hasher `H`, read in an archive of the width `W`.
 ///
-/// Its bytes are valid. It is the map of its keys to the unit value, and holds its decoded header.
+/// Its bytes are valid. It is the map of its keys to the unit value.
 pub struct ArchivedHashSet<'a, K: HasSpec, H = FxHasher64, W: Word = Narrow> {
     pub(crate) map: ArchivedHashMap<'a, K, (), H, W>,
 }

@@ -1,9 +1,9 @@
-//! Maps and sets of std: archiving, comparing and deserializing them.
+//! Archiving, comparing and deserializing std's maps and sets.
 //!
 //! - `hashed` has the wrapper for archiving them, or references to them.
 //! - `equality` compares them with archived maps and sets.
 //! - `round_trip` writes, opens and compares them, and `laws` has the laws of their archives.
-//! - `nested` has the laws of maps and sets of std that are values of maps of std.
+//! - `nested` has the laws of std maps and sets that are values of std maps.
 
 mod deserialize;
 pub mod equality;

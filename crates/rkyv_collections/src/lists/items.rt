@@ -19,18 +19,7 @@ use std::marker::PhantomData;
 
 /// A list of items that is archived as a set under the hasher `H` and a load factor.
 ///
-/// The items are inserted in order, and equal items are kept. A lookup finds the first of them.
-/// Two lists are equal if their items and load factors are.
-///
-/// # Examples
-///
-/// ```rust
-/// // Archives words as a set.
-/// fn write_words(alloc: Global, words: &[&str]) -> Result<Vec<u8>, WriteError<NoMemory>> {
-///     let items: SetItems<'_, &str> = SetItems::new(words);
-///     to_bytes(alloc, &items)
-/// }
-/// ```
+/// Equal items are kept, and a lookup finds the first of them in the order of the slice.
 #[derive_where(Clone, Copy)]
 #[derive_where(Debug, Eq, PartialEq; A)]
 pub struct SetItems<'a, A, H = FxHasher64> {
@@ -52,7 +41,7 @@ impl<'a, A> SetItems<'a, A> {
 }
 
 impl<'a, A, H> SetItems<'a, A, H> {
-    /// Returns the list under a load factor: a numerator and a denominator.
+    /// Returns the list under a load factor, numerator first.
     ///
     /// Archiving fails with `InvalidLoadFactor` unless the load factor is above 0 and at most 1.
     #[inline]

@@ -1,4 +1,4 @@
-//! Laws of the lists, over their definitions alone.
+//! Laws of the lists, over only their definitions.
 
 ghost use Rattle.std.specs.Cmp.Lexicographic.{pointwise};
 ghost use Rattle.std.specs.Prelude.{◌&&◌, ◌≡◌, ◌↔◌};

@@ -19,8 +19,7 @@ use std::marker::PhantomData;
 
 /// A list of pairs that is archived as a map under the hasher `H` and a load factor.
 ///
-/// The pairs are inserted in order, and pairs with equal keys are kept. A lookup finds
-/// the first of them. Two lists are equal if their pairs and load factors are.
+/// Pairs with equal keys are kept, and a lookup finds the first of them in the order of the slice.
 ///
 /// # Examples
 ///
@@ -49,7 +48,7 @@ impl<'a, A, B> MapPairs<'a, A, B> {
 }
 
 impl<'a, A, B, H> MapPairs<'a, A, B, H> {
-    /// Returns the list under a load factor: a numerator and a denominator.
+    /// Returns the list under a load factor, numerator first.
     ///
     /// Archiving fails with `InvalidLoadFactor` unless the load factor is above 0 and at most 1.
     #[inline]

@@ -21,6 +21,8 @@
 //! `make_ascii_uppercase_of` is in `map::in_place::text`.
 //! `get_seal_with` and `get_key_value_seal_with` look up by a comparison.
 //! If the map is a value of another map, `map::laws::nested` has the laws of the outer map.
+//!
+//! In an untrusted archive, a lookup may read all control bytes.
 ghost use Rattle.std.specs.Prelude.{IfSome, length, ℕ, ◌+◌, ◌≡◌, ◌≤◌};
 ghost use Rattle.rkyv_base.specs.{Viewable, value_pos};
 ghost use Rattle.rkyv_table.specs.{MayWriteIn, WritesAmongParts, WritesIn};
@@ -39,7 +41,6 @@ use rkyv_base::{Element, Represents, Scalar, View, Width, found_pos, set_at};
 use rkyv_keys::{KeyElement, KeyHash, NativeKey, Query};
 use rkyv_scan::KeyHasher;
 
-/// Returns the map whose header is at `root` of an archive.
 #[inline]
 fn map_over<K: Element, V: Element, H, W: Width>(
     archive: &[u8],
@@ -53,7 +54,7 @@ fn map_over<K: Element, V: Element, H, W: Width>(
 }
 
 impl<'a, K: KeyElement, V: Element, H: KeyHasher, W: Width> ArchivedHashMap<'a, K, V, H, W> {
-    /// Returns the position of the value that a lookup finds, in the map at `root` of an archive.
+    /// Returns the position of the value that a lookup finds in the map at `root`.
     #[inline]
     pub(crate) fn value_pos_in<Q: Query<K>>(archive: &[u8], root: u64, key: &Q) -> Option<u64>
         requires map { Viewable (map_spec W.word K.spec V.spec) archive.now root }
@@ -69,8 +70,6 @@ impl<'a, K: KeyElement, V: Element, H: KeyHasher, W: Width> ArchivedHashMap<'a, 
         found_pos(map_over::<K, V, H, W>(archive, root).get(key))
     }
 
-    /// Returns the position of the value of a key that the comparison accepts, in the map at `root`
-    /// of an archive.
     #[inline]
     fn value_pos_by<Q: KeyHash, F: Fn(&Q, View<'_, K>) -> bool>(
         archive: &[u8],
@@ -90,32 +89,9 @@ impl<'a, K: KeyElement, V: Element, H: KeyHasher, W: Width> ArchivedHashMap<'a, 
         found_pos(map_over::<K, V, H, W>(archive, root).get_with(key, cmp))
     }
 
-    /// Calls `write` with the archive and the position of the value that a lookup finds.
+    /// Calls `write` with the archive and the position of a key's value, in the map at `root`.
     ///
-    /// The map is at `root` of the archive. The result is that of `write`. If no key is found,
-    /// the result is `None`, and nothing is written.
-    ///
-    /// In an untrusted archive, the lookup may read all control bytes.
-    ///
-    /// # Requires
-    ///
-    /// - The archive has a valid map at `root`.
-    /// - `write` can be called with the archive and each position of a valid value.
-    ///
-    /// # Examples
-    ///
-    /// ```rust
-    /// type Points = HashMapOf<Text, Entry<i32, i32>>;
-    ///
-    /// let root = access::<Points>(&*archive)?.pos();
-    /// let found = ArchivedHashMap::<Text, Entry<i32, i32>, FxHasher64, Narrow>::found_with(
-    ///     archive,
-    ///     root,
-    ///     &name,
-    ///     |bytes: &mut [u8], pos: u64| write_point(bytes, pos, point),
-    /// );
-    /// Ok(found.is_some())
-    /// ```
+    /// Returns the result of `write`, or `None` if no key is found. `write` may write any bytes.
     #[inline]
     pub fn found_with<Q: Query<K>, R, F: FnOnce(&mut [u8], u64) -> R>(
         archive: &mut [u8],
@@ -133,18 +109,7 @@ impl<'a, K: KeyElement, V: Element, H: KeyHasher, W: Width> ArchivedHashMap<'a, 
         Some(write(archive, pos))
     }
 
-    /// Calls `write` with the archive and the position of the value of a key that the comparison
-    /// accepts.
-    ///
-    /// It looks up as `get_with` does, and writes as `found_with` does.
-    ///
-    /// In an untrusted archive, the lookup may read all control bytes.
-    ///
-    /// # Requires
-    ///
-    /// - The archive has a valid map at `root`.
-    /// - The comparison can be called with `key` and each key of the map.
-    /// - `write` can be called with the archive and each position of a valid value.
+    /// Writes as `found_with` does, and looks up as `get_with` does.
     #[inline]
     pub fn found_by<Q: KeyHash, R, F: Fn(&Q, View<'_, K>) -> bool, G: FnOnce(&mut [u8], u64) -> R>(
         archive: &mut [u8],
@@ -166,17 +131,9 @@ impl<'a, K: KeyElement, V: Element, H: KeyHasher, W: Width> ArchivedHashMap<'a, 
     }
 }
 
-/// Writes the value of a key in the map at `root` of an archive, and returns `true`.
-///
-/// In a map that represents a list of pairs with keys of type `A`, it is the value of the first
-/// pair with an equal key. All other bytes are unchanged. If no key is found, the result is
-/// `false`, and nothing is written.
+/// Writes the value of a key in the map at `root`. Returns `false` if the key isn't found.
 ///
 /// In an untrusted archive, the lookup may read all control bytes.
-///
-/// # Requires
-///
-/// - The archive has a valid map at `root`.
 ///
 /// # Examples
 ///

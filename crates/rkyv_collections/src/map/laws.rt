@@ -1,6 +1,6 @@
-//! Laws of maps, over their definitions alone.
+//! Laws of maps, over only their definitions.
 //!
-//! - This module has laws of equality, lookups, walks and clones.
+//! - This module has laws of equality, lookups, iterators and clones.
 //! - `written` is about the bytes of written maps, and `list_archives` about root maps.
 //! - `in_place` is about writes of one value, `each` about writes of all values.
 //! - `nested` is about maps that are values of maps.
@@ -32,8 +32,6 @@ use rkyv_keys::{ElementEq, ElementEquiv, FixedKey, KeyElement, Query};
 use rkyv_scan::{FxHasher64, KeyHasher};
 
 /// States that the iterators yield the pairs, keys and values at their positions in turn.
-///
-/// At most as many items remain as positions are left, and `next` has no condition.
 pub fn items_are_yielded<'a, K: 'a + Element, V: 'a + Element, H: 'a, W: 'a>()
     ensures pairs { SameSteps ⟦<Iter<'a, K, V, H, W> as Iterator>⟧.next_gives
         (YieldsPair K.spec V.spec) }
@@ -49,9 +47,7 @@ pub fn items_are_yielded<'a, K: 'a + Element, V: 'a + Element, H: 'a, W: 'a>()
         → ⟦<Values<'a, K, V, H, W> as Iterator>⟧.can_next left }
 {}
 
-/// States that a `for` over a map, or over a reference to it, visits the pairs of `iter`.
-///
-/// They are all pairs of the map, in bucket order.
+/// States that a `for` over a map, or over a reference to it, iterates as `iter` does.
 pub fn walks_by_for_are_iterations<'a, 'b, K: Element, V: Element, H, W: Width>()
     ensures owned { (map pairs : _) →
         ⟦<ArchivedHashMap<'a, K, V, H, W> as IntoIterator>⟧.into_iter_gives map pairs
@@ -70,33 +66,24 @@ pub fn clones_are_the_same<'a, K: HasSpec, V: HasSpec, H, W: Word>()
 {}
 
 /// States that two maps that are values are compared by their lengths and by lookups.
-///
-/// They are the same if they have the same length, and a lookup of each key of the first finds
-/// the same value in the second.
 pub fn maps_are_compared<K: KeyElement, V: ElementEq, H: KeyHasher, W: Width>()
     ensures { SameComparison ⟦<HashMapOf<K, V, H, W> as ElementEq>⟧.same
         (map_equal W.word K.spec V.spec (archived_hash H.KeyHasher K.KeyElement) K.same V.same) }
 {}
 
 /// States that written maps of distinct keys are equal if and only if they have the same pairs.
-///
-/// They have the same pairs if each pair of either is the same as one of the other.
 pub fn equal_maps_have_the_same_pairs<K: KeyElement, V: ElementEquiv, H: KeyHasher, W: Width>()
     ensures { EqualHaveSamePairs W.word K.spec V.spec (archived_hash H.KeyHasher K.KeyElement)
         K.same V.same }
 {}
 
-/// States that `misplaced` is the number of keys that are the same as an earlier key.
-///
-/// The map must be a written one. Earlier keys are those that were inserted before.
+/// States that `misplaced` of a written map counts the keys that are the same as an earlier key.
 pub fn repeated_keys_are_misplaced<K: KeyElement, V: Element, H: KeyHasher, W: Width>()
     ensures { RepeatedKeysAreMisplaced W.word K.spec V.spec
         (archived_keys H.KeyHasher K.KeyElement) }
 {}
 
-/// States that a query that matches a key of a written map finds it, or a key that is the same.
-///
-/// The found key was not inserted later. If no two keys of the map are the same, it is that key.
+/// States that a query that matches a key of a written map finds it, or an earlier equal key.
 pub fn matched_keys_are_found<Q: Query<K>, K: KeyElement, V: Element, H: KeyHasher, W: Width>()
     ensures { FindsMatchedKeys W.word K.spec V.spec
         (lookup_of H.KeyHasher K.KeyElement Q.Query) }
@@ -104,11 +91,7 @@ pub fn matched_keys_are_found<Q: Query<K>, K: KeyElement, V: Element, H: KeyHash
 
 /// States that a lookup finds the first pair of the represented list with an accepted key.
 ///
-/// It returns `None` if the list has no such pair. The clause `first` of a lookup is about
-/// this pair.
-///
-/// The comparison must decide by the values that the keys represent. That of a native key accepts
-/// the keys that equal it.
+/// The comparison must depend only on the represented keys. For a native key it is equality.
 pub fn lookups_find_listed<
     A,
     B,
@@ -123,9 +106,8 @@ pub fn lookups_find_listed<
 
 /// States that `iter`, `keys` and `values` return each pair of the represented list once.
 ///
-/// - `homes`: a walk visits the home bucket of each pair once, and no other bucket.
-///   The buckets are in ascending order, and the n-th home bucket has the n-th pair.
-/// - `pairs`: the positions of a walk have the pairs of the list, each once, in some order.
+/// - `homes`: they visit the home bucket of each pair, and no other, in ascending order.
+/// - `pairs`: the positions that they visit have the pairs of the list, in some order.
 pub fn walks_visit_each<
     A,
     B,
@@ -140,15 +122,9 @@ pub fn walks_visit_each<
         (archived_hash H.KeyHasher K.KeyElement) }
 {}
 
-/// States that a map whose keys hash no `usize` or `isize` is looked up alike by both hashers.
+/// States that `FxHasher64` and `FxHasher64Wide` find the same keys, if these are `FixedKey`.
 ///
-/// `FxHasher64` and `FxHasher64Wide` differ in the calls for `usize` and `isize` alone.
-/// A `FixedKey` makes none of them, and all keys of `rkyv_keys` but byte strings implement it.
-///
-/// - `written`: a map that was written under one hasher was written under the other.
-/// - `compared`: in any map, a comparison finds the same key under both, if the query makes none
-///   of these calls.
-/// - `queried`: in a written map, a query finds the same key under both.
+/// Such keys hash no `usize` or `isize`. In `rkyv_keys` only byte strings aren't `FixedKey`.
 pub fn both_hashers_look_up_alike<Q: Query<K>, K: FixedKey, V: Element, W: Width>()
     ensures written { WrittenAlike W.word K.spec V.spec K.key_calls }
     ensures compared { ComparedAlike W.word K.spec V.spec }
@@ -156,8 +132,6 @@ pub fn both_hashers_look_up_alike<Q: Query<K>, K: FixedKey, V: Element, W: Width
 {}
 
 /// States the layout of a map, and that it represents the pairs of a list in insertion order.
-///
-/// Without a hasher and a width, it is that of `FxHasher64` and of a narrow archive.
 pub fn maps_are_laid_out<'a, W, H, A, B, K, V>()
 where
     A: 'a,

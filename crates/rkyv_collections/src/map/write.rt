@@ -22,38 +22,23 @@ use rkyv_scan::simd::lanes;
 use rkyv_table::{ArchivedHashTable, HashTableResolver};
 use std::alloc::Global;
 
-/// The resolver of a written map: that of the table of its entries.
+/// The resolver of a written map, which is the resolver of the table of its entries.
 pub type HashMapResolver<W = Narrow> = HashTableResolver<W>;
 
 impl<'a, K: KeyElement, V: HasSpec, H: KeyHasher, W: Width> ArchivedHashMap<'a, K, V, H, W> {
-    /// Writes a map of `len` pairs and returns its resolver.
+    /// Writes a map of `len` pairs, under a load factor, and returns its resolver.
     ///
-    /// The pairs have their keys and values as themselves or by reference.
-    /// Pairs with equal keys are kept, and a lookup finds the first.
-    ///
-    /// The bytes are those of a table of the entries, each under the hash of its key.
-    /// The table's own `serialize_from_iter` has the layout. Nothing is written for no pairs.
-    ///
-    /// By tests alone: the iterator is called at most `len + 1` times,
-    /// and not after it returned `None`. No pair is taken before an allocation failure
-    /// of this call.
-    ///
-    /// # Requires
-    ///
-    /// - The iterator can be called.
+    /// The pairs have keys and values or references to them. Pairs with equal keys are kept, and
+    /// a lookup finds the first. Tested only: the iterator is called at most `len + 1` times, not
+    /// after it returned `None`, and not if an allocation of this call fails.
     ///
     /// # Errors
     ///
     /// - `InvalidLoadFactor`: the load factor isn't above 0 and at most 1.
     /// - `CapacityTooLarge`: the capacity is above `W::MAX_CAPACITY`.
     /// - `Memory`: `len` isn't 0, and memory for placing the pairs could not be allocated.
-    /// - `IteratorLengthMismatch`: the number of pairs isn't `len`. The number is counted up
-    ///   to `len + 1`.
-    /// - The error of the first key, value or piece that fails.
-    ///
-    /// If the call itself fails with one of the first four errors, nothing is written. A key
-    /// or value that fails with the same error may follow bytes that were written. The bytes
-    /// written before the call are unchanged.
+    /// - `IteratorLengthMismatch`: the number of pairs, counted up to `len + 1`, isn't `len`.
+    /// - The error of the first key, value or piece that fails. Bytes may have been written.
     ///
     /// # Examples
     ///
@@ -102,17 +87,10 @@ impl<'a, K: KeyElement, V: HasSpec, H: KeyHasher, W: Width> ArchivedHashMap<'a, 
         >(alloc, entries, len, load_factor, serializer)
     }
 
-    /// Writes the header of a written map over the whole of `out`, for a header at `pos`.
+    /// Writes the header of a written map at `pos` over the whole of `out`.
     ///
-    /// # Requires
-    ///
-    /// - `len` and `load_factor` are those of the resolver.
-    /// - `out` has the size of a header.
-    ///
-    /// # Errors
-    ///
-    /// - `DistanceTooLarge`: the map isn't empty, and the distance doesn't fit in the width.
-    ///   `out` is unchanged.
+    /// Requires the `len` and `load_factor` of the resolver. Fails with `DistanceTooLarge`
+    /// if the map isn't empty and the distance doesn't fit in the width.
     pub fn resolve_from_len(
         len: usize,
         load_factor: (usize, usize),

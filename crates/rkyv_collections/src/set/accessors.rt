@@ -1,4 +1,4 @@
-//! Opening, walking over and looking up in a set.
+//! Opening a set, iterating over it and looking up keys.
 //!
 //! `get` returns a view of the key that a query finds, and `contains` returns `true`
 //! if there is one.
@@ -46,11 +46,7 @@ impl<K: Element, H, W: Width> Element for HashSetOf<K, H, W> {
 }
 
 impl<'a, K: Element, H, W: Width> ArchivedHashSet<'a, K, H, W> {
-    /// Returns the set at a view of its header, which is decoded here, once.
-    ///
-    /// # Requires
-    ///
-    /// - The view is of a valid set.
+    /// Returns the set at a view of its header. Decodes the header, once for all lookups.
     ///
     /// # Examples
     ///
@@ -96,22 +92,6 @@ impl<'a, K: Element, H, W: Width> ArchivedHashSet<'a, K, H, W> {
     }
 
     /// Returns an iterator over the keys, in bucket order.
-    ///
-    /// # Examples
-    ///
-    /// ```rust
-    /// // Returns the sum of the keys of a set.
-    /// fn sum(archive: &[u8]) -> Result<u8, VerifyError> {
-    ///     let set = ArchivedHashSet::of(access::<HashSetOf<u8>>(archive)?);
-    ///     let mut sum = 0u8;
-    ///     for key in set.iter() {
-    ///         sum = sum.wrapping_add(key.to_native());
-    ///     }
-    ///     Ok(sum)
-    /// }
-    ///
-    /// assert_eq!(rt; sum(&three_keys()).ok(), Some(6));
-    /// ```
     #[inline]
     pub fn iter(self) -> Keys<'a, K, (), H, W>
         ensures archive { result.archive ≡ set_archive self.entry }
@@ -122,7 +102,7 @@ impl<'a, K: Element, H, W: Width> ArchivedHashSet<'a, K, H, W> {
     }
 }
 
-/// `for key in set` visits the keys, in bucket order.
+/// `for key in set` iterates over the keys, in bucket order.
 impl<'a, K: Element, H, W: Width> IntoIterator for ArchivedHashSet<'a, K, H, W> {
     type Item = View<'a, K>;
 
@@ -138,7 +118,7 @@ impl<'a, K: Element, H, W: Width> IntoIterator for ArchivedHashSet<'a, K, H, W> 
     }
 }
 
-/// `for key in &set` visits the keys, in bucket order.
+/// `for key in &set` iterates over the keys, in bucket order.
 impl<'a, K: Element, H, W: Width> IntoIterator for &ArchivedHashSet<'a, K, H, W> {
     type Item = View<'a, K>;
 
@@ -155,28 +135,9 @@ impl<'a, K: Element, H, W: Width> IntoIterator for &ArchivedHashSet<'a, K, H, W>
 }
 
 impl<'a, K: KeyElement, H: KeyHasher, W: Width> ArchivedHashSet<'a, K, H, W> {
-    /// Returns the key that the query finds, or `None`.
+    /// Returns the key that the query finds, or `None`, by a lookup like `get_key_value` of maps.
     ///
-    /// In a written set, it is the first key in insertion order that the query matches.
-    ///
-    /// In an untrusted set, a lookup may miss a key that the query matches.
-    /// No key is missed if `misplaced` is 0. The lookup then finds the one key that the query
-    /// matches, and `None` if and only if it matches none.
-    ///
-    /// A lookup in an untrusted set may read all of its control bytes.
-    ///
-    /// # Examples
-    ///
-    /// ```rust
-    /// // Returns the key of a set that a query finds.
-    /// fn stored(archive: &[u8], key: u8) -> Result<Option<u8>, VerifyError> {
-    ///     let set = ArchivedHashSet::of(access::<HashSetOf<u8>>(archive)?);
-    ///     Ok(set.get(&key).map(|stored| stored.to_native()))
-    /// }
-    ///
-    /// let found = [stored(&three_keys(), 3).ok(), stored(&three_keys(), 4).ok()];
-    /// assert_eq!(rt; found, [Some(Some(3)), Some(None)]);
-    /// ```
+    /// An untrusted set may miss keys unless `misplaced` is 0, and may read all control bytes.
     #[inline]
     pub fn get<Q: Query<K>>(self, key: &Q) -> Option<View<'a, K>>
         ensures { GetsMember self.entry
@@ -186,19 +147,7 @@ impl<'a, K: KeyElement, H: KeyHasher, W: Width> ArchivedHashSet<'a, K, H, W> {
         Some(stored)
     }
 
-    /// Returns `true` if and only if the query finds a key.
-    ///
-    /// A lookup in an untrusted set may read all of its control bytes.
-    ///
-    /// # Examples
-    ///
-    /// ```rust
-    /// // Returns the number of words, and whether one is among them.
-    /// fn has_word(archive: &[u8], word: &str) -> Result<(usize, bool), VerifyError> {
-    ///     let words = ArchivedHashSet::of(access::<HashSetOf<Text>>(archive)?);
-    ///     Ok((words.len(), words.contains(&word)))
-    /// }
-    /// ```
+    /// Returns `true` if and only if `get` returns a key.
     #[inline]
     pub fn contains<Q: Query<K>>(self, key: &Q) -> bool
         ensures { FoundMemberHas self.entry

@@ -1,7 +1,7 @@
-//! Laws of sets, over their definitions alone.
+//! Laws of sets, over only their definitions.
 //!
-//! They are about equality, walks, lookups and clones. `written` is about the bytes of written
-//! sets.
+//! They are about equality, iterators, lookups and clones. `written` is about the bytes of
+//! written sets.
 
 ghost use Rattle.std.specs.Int.{w32};
 ghost use Rattle.std.specs.Prelude.{◌↔◌, ◌≡◌};
@@ -22,9 +22,7 @@ use rkyv_base::{Element, HasSpec, Represents, Width};
 use rkyv_keys::{ElementEq, FixedKey, KeyElement, NativeQuery, Query};
 use rkyv_scan::{FxHasher64, KeyHasher};
 
-/// States that a `for` over a set, or over a reference to it, visits the keys of `iter`.
-///
-/// They are all keys of the set, in bucket order.
+/// States that a `for` over a set, or over a reference to it, iterates as `iter` does.
 pub fn walks_by_for_are_iterations<'a, 'b, K: Element, H, W: Width>()
     ensures owned { (set keys : _) →
         ⟦<ArchivedHashSet<'a, K, H, W> as IntoIterator>⟧.into_iter_gives set keys
@@ -43,25 +41,18 @@ pub fn clones_are_the_same<'a, K: HasSpec, H, W: Word>()
 {}
 
 /// States that two sets that are values are compared by their lengths and by lookups.
-///
-/// They are the same if they have the same length, and a lookup finds each key of the first
-/// in the second.
 pub fn sets_are_compared<K: KeyElement, H: KeyHasher, W: Width>()
     ensures { SameComparison ⟦<HashSetOf<K, H, W> as ElementEq>⟧.same
         (set_equal W.word K.spec (archived_hash H.KeyHasher K.KeyElement) K.same) }
 {}
 
 /// States that `iter` returns each key of the list that a set represents once.
-///
-/// The positions of a walk have the keys of the list, each once, in some order.
 pub fn walks_visit_each<A, K: KeyElement + Represents<A>, H: KeyHasher, W: Width>()
     ensures { SetWalksVisitEach W.word K.spec K.represents
         (archived_hash H.KeyHasher K.KeyElement) }
 {}
 
 /// States that `contains` is `true` if and only if the represented list has an equal key.
-///
-/// The set may be the value of a map.
 pub fn lookups_find_listed<
     A,
     Q: NativeQuery<A, K>,
@@ -74,8 +65,6 @@ pub fn lookups_find_listed<
 {}
 
 /// States that `contains` in a root set is `true` if and only if the list has an equal key.
-///
-/// The set must be the root of an archive, and represent the list.
 pub fn members_found_are_listed<
     A,
     Q: NativeQuery<A, K>,
@@ -87,9 +76,7 @@ pub fn members_found_are_listed<
         (native_keys K.represents (archived_hash H.KeyHasher K.KeyElement) Q.fits Q.equals) }
 {}
 
-/// States that a set whose keys hash no `usize` or `isize` is looked up alike by both hashers.
-///
-/// It is the law of maps for the map of the keys to the unit value.
+/// States that `FxHasher64` and `FxHasher64Wide` find the same keys, if these are `FixedKey`.
 pub fn both_hashers_look_up_alike<Q: Query<K>, K: FixedKey, W: Width>()
     ensures written { WrittenAlike W.word K.spec unit_spec K.key_calls }
     ensures compared { ComparedAlike W.word K.spec unit_spec }
@@ -99,8 +86,6 @@ pub fn both_hashers_look_up_alike<Q: Query<K>, K: FixedKey, W: Width>()
 }
 
 /// States the layout of a set, and that it represents the keys of a list in insertion order.
-///
-/// Without a hasher and a width, it is that of `FxHasher64` and of a narrow archive.
 pub fn sets_are_laid_out<'a, W, H, A, K>()
 where
     A: 'a,

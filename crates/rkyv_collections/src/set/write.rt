@@ -17,47 +17,14 @@ use rkyv_scan::KeyHasher;
 use rkyv_table::table::list_inputs::WithUnits;
 use std::alloc::Global;
 
-/// The resolver of a written set: that of the map of its keys.
+/// The resolver of a written set, which is the resolver of the map of its keys.
 pub type HashSetResolver<W = Narrow> = HashMapResolver<W>;
 
 impl<'a, K: KeyElement, H: KeyHasher, W: Width> ArchivedHashSet<'a, K, H, W> {
-    /// Writes a set of `len` keys and returns its resolver.
+    /// Writes a set of `len` keys, under a load factor, and returns its resolver.
     ///
-    /// The keys are themselves or references. The bytes are those of the map of the keys
-    /// to the unit value. Equal keys are kept, and a lookup finds the first.
-    ///
-    /// By tests alone: the iterator is called at most `len + 1` times,
-    /// and not after it returned `None`. No key is taken before an allocation failure
-    /// of this call.
-    ///
-    /// # Requires
-    ///
-    /// - The iterator can be called.
-    ///
-    /// # Errors
-    ///
-    /// - `InvalidLoadFactor`: the load factor isn't above 0 and at most 1.
-    /// - `CapacityTooLarge`: the capacity is above `W::MAX_CAPACITY`.
-    /// - `Memory`: `len` isn't 0, and memory for placing the keys could not be allocated.
-    /// - `IteratorLengthMismatch`: the number of keys isn't `len`. The number is counted up
-    ///   to `len + 1`.
-    /// - The error of the first key or piece that fails.
-    ///
-    /// If the call itself fails with one of the first four errors, nothing is written. A key
-    /// that fails with the same error may follow bytes that were written. The bytes written
-    /// before the call are unchanged.
-    ///
-    /// # Examples
-    ///
-    /// ```rust
-    /// let mut writer = VecWriter::new(alloc);
-    /// let resolver = ArchivedHashSet::<K, FxHasher64, Narrow>::serialize_from_iter::<
-    ///     VecWriter,
-    ///     K,
-    ///     &K,
-    ///     _,
-    /// >(alloc, keys.iter(), keys.len(), (7, 8), &mut writer)?;
-    /// ```
+    /// The keys are themselves or references. Equal keys are kept, and a lookup finds the first.
+    /// Errors and limits are the same as in a map's `serialize_from_iter`.
     pub fn serialize_from_iter<
         S: Writer,
         A: NativeKey<K> + Serialize<S, W, Archived = K>,
@@ -86,17 +53,10 @@ impl<'a, K: KeyElement, H: KeyHasher, W: Width> ArchivedHashSet<'a, K, H, W> {
         )
     }
 
-    /// Writes the header of a written set over the whole of `out`, for a header at `pos`.
+    /// Writes the header of a written set at `pos` over the whole of `out`.
     ///
-    /// # Requires
-    ///
-    /// - `len` and `load_factor` are those of the resolver.
-    /// - `out` has the size of a header.
-    ///
-    /// # Errors
-    ///
-    /// - `DistanceTooLarge`: the set isn't empty, and the distance doesn't fit in the width.
-    ///   `out` is unchanged.
+    /// Requires the `len` and `load_factor` of the resolver. Fails with `DistanceTooLarge`
+    /// if the set isn't empty and the distance doesn't fit in the width.
     pub fn resolve_from_len(
         len: usize,
         load_factor: (usize, usize),

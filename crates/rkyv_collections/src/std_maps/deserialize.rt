@@ -1,4 +1,4 @@
-//! Deserializing archived maps as maps of std.
+//! Deserializing archived maps as std maps.
 //!
 //! `deserialize_std` takes the hash state of the new map. `Deserialize` takes the default one.
 
@@ -17,7 +17,6 @@ use std::alloc::Global;
 use std::collections::HashMap;
 use std::hash::{BuildHasher, BuildHasherDefault, Hash};
 
-/// Deserializes a pair and inserts it.
 #[inline]
 fn insert_read<K: Deserialize<A>, V: Deserialize<B>, A: Eq + Hash + Drop, B: Drop, T: BuildHasher>(
     map: &mut HashMap<A, B, T>,
@@ -39,31 +38,15 @@ fn insert_read<K: Deserialize<A>, V: Deserialize<B>, A: Eq + Hash + Drop, B: Dro
 }
 
 impl<'a, K: Element, V: Element, H, W: Width> ArchivedHashMap<'a, K, V, H, W> {
-    /// Returns the map of std of the pairs, with the hash state `state`.
+    /// Returns the std map of the pairs, with the hash state `state`.
     ///
-    /// The pairs are inserted in bucket order. Of pairs with equal keys,
-    /// the key of the first and the value of the last are kept.
-    ///
-    /// By its code alone, memory for as many pairs as the archived map has is allocated first.
+    /// The pairs are inserted in bucket order. Of pairs with equal keys, the key of the first and
+    /// the value of the last are kept. Not proved: memory for all pairs is allocated first.
     ///
     /// # Errors
     ///
     /// - `Memory`: memory for the map could not be allocated. An empty map needs none.
     /// - The first error of deserializing a key or a value, in bucket order.
-    ///
-    /// # Examples
-    ///
-    /// ```rust
-    /// type Ages = HashMap<String, u8>;
-    ///
-    /// // Archives a map of std's, and reads it back.
-    /// fn ages_round_trip(alloc: Global, ages: &Ages) -> Result<Ages, Fail> {
-    ///     let ages: Hashed<&Ages> = Hashed::new(ages);
-    ///     let archive = to_bytes(alloc, &ages)?;
-    ///     let map = ArchivedHashMap::of(access::<HashMapOf<Text, u8>>(archive.as_slice())?);
-    ///     Ok(map.deserialize_std(alloc, BuildHasherDefault::new())?)
-    /// }
-    /// ```
     pub fn deserialize_std<A: Eq + Hash + Drop, B: Drop, T: BuildHasher + Drop>(
         self,
         alloc: Global,

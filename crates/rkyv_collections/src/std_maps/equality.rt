@@ -1,7 +1,7 @@
-//! Comparing archived maps with maps of std.
+//! Comparing archived maps with std maps.
 //!
-//! - `ArchivedHashMap::eq_std` takes a map of std.
-//! - `EqArchived::eq_archived` is the same call from the side of the map of std.
+//! - `ArchivedHashMap::eq_std` takes a std map.
+//! - `EqArchived::eq_archived` is the same call from the side of the std map.
 //! - `MatchesNative` compares maps that are values.
 
 ghost use Rattle.std.specs.Prelude.{IsTrue, ◌↔◌};
@@ -23,7 +23,6 @@ use std::collections::HashMap;
 use std::hash::{BuildHasher, Hash};
 
 impl<'a, K: KeyElement, V: HasSpec, H: KeyHasher, W: Width> ArchivedHashMap<'a, K, V, H, W> {
-    /// Returns `true` if and only if a lookup of the key finds a value that equals `value`.
     #[inline]
     pub(crate) fn finds_equal<A: Query<K>, B>(self, key: &A, value: &B) -> bool
     where
@@ -37,9 +36,6 @@ impl<'a, K: KeyElement, V: HasSpec, H: KeyHasher, W: Width> ArchivedHashMap<'a, 
         }
     }
 
-    /// Returns `true` if and only if a lookup of the key agrees with that in the map of std.
-    ///
-    /// They agree if both find a value and the values are equal, or if neither finds one.
     #[inline]
     pub(crate) fn agrees_on<A: NativeKey<K> + Hash, B, T: BuildHasher>(
         self,
@@ -59,23 +55,9 @@ impl<'a, K: KeyElement, V: HasSpec, H: KeyHasher, W: Width> ArchivedHashMap<'a, 
         }
     }
 
-    /// Returns `true` if and only if this map equals a map of std.
+    /// Returns `true` if and only if this map equals a std map of the same length, by lookups here.
     ///
-    /// They are equal if they have the same length, and a lookup of each key of `other` finds
-    /// an equal value in this map.
-    ///
-    /// Each pair of `other` costs a lookup. In an untrusted map, a lookup may read all control
-    /// bytes.
-    ///
-    /// # Examples
-    ///
-    /// ```rust
-    /// // Returns whether an archived map equals a map of std's, by the calls of both sides.
-    /// fn equals_small(bytes: &[u8], map: &HashMap<i8, i8>) -> Result<(bool, bool), VerifyError> {
-    ///     let root = ArchivedHashMap::of(access::<HashMapOf<i8, i8>>(bytes)?);
-    ///     Ok((root.eq_std(map), map.eq_archived(root)))
-    /// }
-    /// ```
+    /// Each pair of `other` costs a lookup, which may read all control bytes of an untrusted map.
     #[inline]
     pub fn eq_std<A: NativeKey<K> + Hash, B, T: BuildHasher>(self, other: &HashMap<A, B, T>) -> bool
     where
@@ -152,9 +134,8 @@ where
         A.Archive.laws B.equal };
 }
 
-/// A map or set of std that can be compared with an archived one of the type `C`.
+/// A std map or set that can be compared with an archived one of the type `C`.
 pub trait EqArchived<C> {
-    // The archived map or set equals the value.
     ghost equals_archived: { C → Self → Type 0 };
 
     /// Returns the result of `eq_std` of the archived map or set.

@@ -1,4 +1,4 @@
-//! Maps of std as values that archived maps represent, and their serialization.
+//! Archived maps as representations of std's maps, and the serialization of these.
 
 ghost use Rattle.rkyv_base.specs.{RepresentsAs, written_as};
 ghost use Rattle.rkyv_keys.specs.{native_format, native_hash};
@@ -78,7 +78,6 @@ where
     }
 }
 
-/// Writes the parts of the map that a map of std is archived as.
 pub(crate) fn serialize_map<
     S: Writer,
     W: Width,

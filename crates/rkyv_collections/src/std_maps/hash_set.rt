@@ -1,4 +1,4 @@
-//! Sets of std: archiving, comparing and deserializing them.
+//! Archiving, comparing and deserializing std's sets.
 
 ghost use Rattle.std.specs.Prelude.{IsTrue, MatchResult, ◌↔◌};
 ghost use Rattle.rkyv_base.specs.{AtView, IsValidView, RepresentsAs, unit_format, unit_represents};
@@ -83,7 +83,6 @@ where
     }
 }
 
-/// Writes the parts of the set that a set of std is archived as.
 pub(crate) fn serialize_set<
     S: Writer,
     W: Width,
@@ -107,7 +106,6 @@ where
     )
 }
 
-/// Deserializes a key and inserts it.
 #[inline]
 fn insert_read<K: Deserialize<A>, A: Eq + Hash + Drop, T: BuildHasher>(
     set: &mut HashSet<A, T>,
@@ -125,28 +123,15 @@ fn insert_read<K: Deserialize<A>, A: Eq + Hash + Drop, T: BuildHasher>(
 }
 
 impl<'a, K: Element, H, W: Width> ArchivedHashSet<'a, K, H, W> {
-    /// Returns the set of std of the keys, with the hash state `state`.
+    /// Returns the std set of the keys, with the hash state `state`.
     ///
     /// The keys are inserted in bucket order. Of equal keys, the first is kept.
-    ///
-    /// By its code alone, memory for as many keys as the archived set has is allocated first.
+    /// Not proved: memory for all keys is allocated first.
     ///
     /// # Errors
     ///
     /// - `Memory`: memory for the set could not be allocated. An empty set needs none.
     /// - The first error of deserializing a key, in bucket order.
-    ///
-    /// # Examples
-    ///
-    /// ```rust
-    /// let mut primes = HashSet::new(alloc);
-    /// primes.insert(2)?;
-    /// primes.insert(3)?;
-    /// let primes: Hashed<HashSet<u32>> = Hashed::new(primes);
-    /// let archive = to_bytes(alloc, &primes)?;
-    /// let set = ArchivedHashSet::of(access::<HashSetOf<u32>>(archive.as_slice())?);
-    /// Ok(set.deserialize_std(alloc, state)?)
-    /// ```
     pub fn deserialize_std<A: Eq + Hash + Drop, T: BuildHasher + Drop>(
         self,
         alloc: Global,
@@ -167,13 +152,9 @@ impl<'a, K: Element, H, W: Width> ArchivedHashSet<'a, K, H, W> {
 }
 
 impl<'a, K: KeyElement, H: KeyHasher, W: Width> ArchivedHashSet<'a, K, H, W> {
-    /// Returns `true` if and only if this set equals a set of std.
+    /// Returns `true` if and only if this set equals a std set of the same length, by lookups here.
     ///
-    /// They are equal if they have the same length, and a lookup finds each key
-    /// of `other` in this set.
-    ///
-    /// Each key of `other` costs a lookup. In an untrusted set, a lookup may read all control
-    /// bytes.
+    /// Each key of `other` costs a lookup, which may read all control bytes of an untrusted set.
     #[inline]
     pub fn eq_std<A: NativeKey<K> + Hash, T: BuildHasher>(self, other: &HashSet<A, T>) -> bool
     where

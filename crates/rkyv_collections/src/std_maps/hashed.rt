@@ -1,4 +1,4 @@
-//! The wrapper for archiving a map or set of std.
+//! The wrapper for archiving a std map or set.
 //!
 //! std's types have no hasher of archived maps, so `Hashed` names it.
 
@@ -11,25 +11,21 @@ use rkyv_scan::FxHasher64;
 use std::fmt::{self, Debug, Formatter, Write};
 use std::marker::PhantomData;
 
-/// A map or set of std that is archived under the hasher `H`, with the load factor 7 / 8.
+/// A std map or set, or a reference to one, that is archived under the hasher `H`.
 ///
-/// A reference to a map or set is archived as well: `Hashed<&M, H>`.
-///
-/// The pairs or keys are inserted in the order of the iterator of the map or set.
+/// The load factor is 7 / 8. The pairs or keys are inserted in the order of the iterator.
 ///
 /// # Examples
 ///
 /// ```rust
-/// fn archive_equals_map(alloc: Global) -> Result<bool, Fail> {
-///     let mut map = HashMap::new(alloc);
-///     map.insert(1, 2)?;
-///     let map: Hashed<HashMap<i8, i8>> = Hashed::new(map);
-///     let bytes = to_bytes(alloc, &map)?;
-///     let root = ArchivedHashMap::of(access::<HashMapOf<i8, i8>>(bytes.as_slice())?);
-///     match root.get(&1i8) {
-///         Some(value) => Ok(value.to_native() == 2 && root.eq_std(map.get())),
-///         None => Ok(false),
-///     }
+/// type Ages = HashMap<String, u8>;
+///
+/// // Archives a map of std's, and reads it back.
+/// fn ages_round_trip(alloc: Global, ages: &Ages) -> Result<Ages, Fail> {
+///     let ages: Hashed<&Ages> = Hashed::new(ages);
+///     let archive = to_bytes(alloc, &ages)?;
+///     let map = ArchivedHashMap::of(access::<HashMapOf<Text, u8>>(archive.as_slice())?);
+///     Ok(map.deserialize_std(alloc, BuildHasherDefault::new())?)
 /// }
 /// ```
 #[derive(Drop)]

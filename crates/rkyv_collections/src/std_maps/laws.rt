@@ -1,4 +1,4 @@
-//! Laws of archives of maps and sets of std, over their definitions alone.
+//! Laws of archives of std maps and sets, over only their definitions.
 //!
 //! They are about the written bytes, lookups in these archives, comparisons, and values that are
 //! read back.
@@ -33,13 +33,9 @@ use rkyv_scan::{FxHasher64, KeyHasher};
 use std::collections::{HashMap, HashSet};
 use std::hash::{BuildHasher, Hash};
 
-/// States that a lookup in an archive of a map of std agrees with that map.
+/// States that a lookup in any archive of a std map agrees with that map, for any query.
 ///
-/// It finds the value of the accepted key, and no key if and only if the map has none.
-/// The law is about any archive that has the written bytes, and about any query.
-///
-/// The comparison must decide by the values that the keys represent. That of a native key accepts
-/// the keys that equal it.
+/// The comparison must depend only on the represented keys. For a native key it is equality.
 pub fn written_maps_are_looked_up<
     Q: Query<A::Archived>,
     W: Width,
@@ -58,13 +54,9 @@ where
     nested_maps_are_looked_up::<Q, W, H, A, B, T, ValueRelation>();
 }
 
-/// States that a lookup in an archive of a set of std agrees with that set.
+/// States that a lookup in any archive of a std set agrees with that set, for any query.
 ///
-/// It finds a key if and only if the set has an accepted key.
-///
-/// The law is about any archive that has the written bytes, and about any query.
-///
-/// The comparison must decide by the values that the keys represent.
+/// The comparison must depend only on the represented keys. For a native key it is equality.
 pub fn written_sets_are_looked_up<
     Q: Query<A::Archived>,
     W: Width,
@@ -80,9 +72,7 @@ where
         format }
 {}
 
-/// States that a map represents the map of std of its pairs, inserted in bucket order.
-///
-/// It represents a reference to that map too. Without a hasher, `Hashed` has `FxHasher64`.
+/// States that a map represents the std map of its pairs, inserted in bucket order.
 pub fn std_maps_are_represented<'a, K, V, A, B, T: BuildHasher, H, W: Width>()
 where
     K: Represents<A>,
@@ -104,9 +94,7 @@ where
         ⟦<HashMapOf<K, V> as Represents<Hashed<HashMap<A, B, T>, FxHasher64>>>⟧.represents }
 {}
 
-/// States that a set represents the set of std of its keys, inserted in bucket order.
-///
-/// It represents a reference to that set too. Without a hasher, `Hashed` has `FxHasher64`.
+/// States that a set represents the std set of its keys, inserted in bucket order.
 pub fn std_sets_are_represented<'a, K, A, T: BuildHasher, H, W: Width>()
 where
     K: Represents<A>,
@@ -126,10 +114,7 @@ where
         ⟦<HashSetOf<K> as Represents<Hashed<HashSet<A, T>, FxHasher64>>>⟧.represents }
 {}
 
-/// States that an archived map is compared with a map of std by their lengths and by lookups.
-///
-/// They are equal if they have the same length, and a lookup of each key of the map of std
-/// finds an equal value.
+/// States that an archived map is compared with a std map by their lengths and by lookups.
 pub fn std_maps_are_compared<K, V, H, W: Width, A, B, T: BuildHasher>()
 where
     K: KeyElement + Represents<A>,
@@ -144,9 +129,7 @@ where
         (StdMapEquals W.word K.spec V.spec (native_hash H.KeyHasher A.KeyHash) A.fits V.equals)) }
 {}
 
-/// States that an archived set is compared with a set of std by their lengths and by lookups.
-///
-/// They are equal if they have the same length, and a lookup finds each key of the set of std.
+/// States that an archived set is compared with a std set by their lengths and by lookups.
 pub fn std_sets_are_compared<K, H, W: Width, A, T: BuildHasher>()
 where
     K: KeyElement + Represents<A>,
@@ -160,9 +143,7 @@ where
         (StdSetEquals W.word K.spec (native_hash H.KeyHasher A.KeyHash) A.fits)) }
 {}
 
-/// States which archived maps and sets `eq_archived` of a map or set of std takes as equal.
-///
-/// They are those whose `eq_std` returns `true` for the map or set of std.
+/// States that `eq_archived` of a std map or set returns the result of `eq_std`.
 pub fn std_values_are_compared<'a, K, V, H, W: Width, A, B, T: BuildHasher>()
 where
     K: KeyElement + Represents<A>,
@@ -177,12 +158,12 @@ where
         ↔ StdSetEqualsIn s (queries_of H.KeyHasher A.Query) x }
 {}
 
-/// States that wrapped maps or sets of std are equal if and only if the maps or sets are.
+/// States that wrapped std maps or sets are equal if and only if the maps or sets are.
 pub fn hashed_values_are_compared<M: PartialEq, H>()
     ensures { (x y : _) → ⟦<Hashed<M, H> as PartialEq>⟧.eq x y ≡ M.eq (inner x) (inner y) }
 {}
 
-/// States that a clone of a wrapped value wraps a clone of it, and fails only if that clone does.
+/// States that a clone of a wrapped value wraps a clone of it, and fails only if cloning it does.
 pub fn hashed_values_are_cloned<M: Clone, H>()
     ensures clones { (x clone : _) →
         ⟦<Hashed<M, H> as Clone>⟧.is_clone x clone ↔ M.is_clone (inner x) (inner clone) }
@@ -190,10 +171,7 @@ pub fn hashed_values_are_cloned<M: Clone, H>()
         ⟦<Hashed<M, H> as Clone>⟧.is_infallible x ↔ M.is_infallible (inner x) }
 {}
 
-/// States which errors deserializing a map of std can return.
-///
-/// Memory could not be allocated, and the map is not empty, or a key or a value has the error,
-/// after all pairs before it, in bucket order, were deserialized.
+/// States which errors deserializing a std map can return.
 pub fn std_maps_fail_as_pairs<K, V, A, B, H, W: Width>()
 where
     K: Deserialize<A>,
@@ -208,10 +186,7 @@ where
         (std_map_fails W.word K.Deserialize V.Deserialize) }
 {}
 
-/// States which errors deserializing a set of std can return.
-///
-/// Memory could not be allocated, and the set is not empty, or a key has the error,
-/// after all keys before it, in bucket order, were deserialized.
+/// States which errors deserializing a std set can return.
 pub fn std_sets_fail_as_keys<K, A, H, W: Width>()
 where
     K: Deserialize<A>,
@@ -222,7 +197,7 @@ where
         SameErrors s.deserialize_fails (std_set_fails W.word K.Deserialize) }
 {}
 
-/// States that a map of std is written as the map of its entries, whose keys are distinct.
+/// States that a std map is written as the map of its entries, whose keys are distinct.
 pub fn std_maps_are_written<W: Width, H: KeyHasher, K, A, B, T: BuildHasher>()
 where
     K: KeyElement + Represents<A>,
@@ -234,7 +209,7 @@ where
         inner_entries) }
 {}
 
-/// States that a set of std is written as the set of its keys, which are distinct.
+/// States that a std set is written as the set of its keys, which are distinct.
 pub fn std_sets_are_written<W: Width, H: KeyHasher, K, A, T: BuildHasher>()
 where
     K: KeyElement + Represents<A>,
@@ -245,7 +220,7 @@ where
         (λ x. with_units (inner_keys x))) }
 {}
 
-/// States that a wrapped reference to a map of std is written as the wrapped map.
+/// States that a wrapped reference to a std map is written as the wrapped map.
 pub fn map_references_are_written<'a, W: Width, H: KeyHasher, A, B: Archive<W>, T: BuildHasher>()
 where
     A: Archive<W> + Hash + 'a,
@@ -257,7 +232,7 @@ where
         (written_as referent ⟦<Hashed<HashMap<A, B, T>, H> as Archive<W>>⟧.format) }
 {}
 
-/// States that a wrapped reference to a set of std is written as the wrapped set.
+/// States that a wrapped reference to a std set is written as the wrapped set.
 pub fn set_references_are_written<'a, W: Width, H: KeyHasher, A, T: BuildHasher>()
 where
     A: Archive<W> + Hash + 'a,
@@ -268,7 +243,7 @@ where
         (written_as referent ⟦<Hashed<HashSet<A, T>, H> as Archive<W>>⟧.format) }
 {}
 
-/// States that in any archive with the written bytes of a map of std, the archived map equals it.
+/// States that in any archive with the written bytes of a std map, the archived map equals it.
 pub fn written_maps_are_equal<
     W: Width,
     H: KeyHasher,
@@ -287,7 +262,7 @@ where
     written_values_are_equal::<W, Hashed<HashMap<A, B, T>, H>>();
 }
 
-/// States that in any archive with the written bytes of a set of std, the archived set equals it.
+/// States that in any archive with the written bytes of a std set, the archived set equals it.
 pub fn written_sets_are_equal<W: Width, H: KeyHasher, A: Archive<W> + Hash, T: BuildHasher>()
 where
     A::Archived: KeyElement,
@@ -298,10 +273,7 @@ where
     written_values_are_equal::<W, Hashed<HashSet<A, T>, H>>();
 }
 
-/// States that the root of an archive of a map of std represents the list of its entries.
-///
-/// The archive has the written bytes of the map. The laws of lookups in a map that represents
-/// a list are then about its entries, whose keys are distinct.
+/// States that the root of an archive of a std map represents the list of its entries.
 pub fn written_maps_are_lists<
     W: Width,
     H: KeyHasher,
@@ -319,9 +291,7 @@ where
     nested_maps_are_lists::<W, H, A, B, T, ValueRelation>();
 }
 
-/// States that the root of an archive of a set of std represents the list of its keys.
-///
-/// The archive has the written bytes of the set.
+/// States that the root of an archive of a std set represents the list of its keys.
 pub fn written_sets_are_lists<W: Width, H: KeyHasher, A: Archive<W> + Hash, T: BuildHasher>()
 where
     A::Archived: KeyElement,
@@ -335,10 +305,7 @@ where
 
 /// States that the root of an archive of a value equals the value.
 ///
-/// Each value that the root represents equals it too.
-///
-/// The archive is one that `to_bytes` makes. The root equals the value in place.
-/// A deserialized value is represented by the root, and so it is `==` to the value.
+/// So a deserialized value, which the root represents, is `==` to the value.
 pub fn archives_round_trip<W: Width, M: EqualsWritten<W> + PartialEq>()
 where
     M::Archived: MatchesNative<M> + RepresentsUniquely<M>,

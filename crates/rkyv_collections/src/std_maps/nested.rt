@@ -1,8 +1,8 @@
-//! Maps and sets of std that are values of maps of std, or parts of such values.
+//! Values of std maps that are std maps or sets, or that have such parts.
 //!
-//! By `Represents`, an archived map has the pairs of a map of std. Only a written map also has them
+//! By `Represents`, an archived map has the pairs of a std map. Only a written map also has them
 //! where lookups find them. The laws of this module keep this fact of inner maps: they are about
-//! values under any `WrittenRelation`, and `EntriesRelation` is that of written maps of std.
+//! values under any `WrittenRelation`. `EntriesRelation` is the relation of written std maps.
 
 ghost use Rattle.std.specs.Prelude.{List, ℕ};
 ghost use Rattle.rkyv_base.specs.{IsFormat, PairRepresents, SameValues};
@@ -27,8 +27,6 @@ use std::hash::{BuildHasher, Hash};
 use std::marker::PhantomData;
 
 /// A relation between bytes and values of the type `B`, in archives of the width `W`.
-///
-/// The written bytes of a value have the relation to it.
 pub trait WrittenRelation<W: Width, B: Archive<W>> {
     // The bytes at a position are related to a value.
     ghost related: { List ℕ → ℕ → B → Type 0 };
@@ -46,10 +44,9 @@ impl<W: Width, B: Archive<W>> WrittenRelation<W, B> for ValueRelation {
     ghost written = { B.laws };
 }
 
-/// The relation of maps that represent the list of the entries of a map of std.
+/// The relation of maps that represent the entries of a std map, each value by the relation `R`.
 ///
-/// Each value has the relation `R`, so these relations nest to any depth. For a map of maps of std,
-/// the relation is `EntriesRelation<EntriesRelation<ValueRelation>>`.
+/// For a std map of std maps, it is `EntriesRelation<EntriesRelation<ValueRelation>>`.
 pub struct EntriesRelation<R> {
     values: PhantomData<R>,
 }
@@ -74,7 +71,7 @@ where
         inner_entries };
 }
 
-/// The relation of sets that represent the list of the keys of a set of std.
+/// The relation of sets that represent the list of the keys of a std set.
 pub struct KeysRelation {}
 
 impl<W: Width, H: KeyHasher, A: Archive<W> + Hash, T: BuildHasher> WrittenRelation<
@@ -95,8 +92,8 @@ where
 
 /// The relation of entries to pairs, whose parts have the relations `R` and `S`.
 ///
-/// So a part of a pair may be a map of std. For a map of pairs of a number and a map of std,
-/// the relation is `EntriesRelation<PairRelation<ValueRelation, EntriesRelation<ValueRelation>>>`.
+/// For a std map to pairs of an integer and a std map, it is
+/// `EntriesRelation<PairRelation<ValueRelation, EntriesRelation<ValueRelation>>>`.
 pub struct PairRelation<R, S> {
     parts: PhantomData<(R, S)>,
 }
@@ -115,18 +112,12 @@ impl<
 }
 
 /// States that the written bytes of a value have the relation `R` to it.
-///
-/// - `root`: at the root of an archive.
-/// - `written`: anywhere in an archive.
 pub fn written_values_are_related<W: Width, B: Archive<W>, R: WrittenRelation<W, B>>()
     ensures root { WrittenRootsAre B.Archived.spec R.related B.format }
     ensures written { IsFormat B.Archived.spec R.related B.format }
 {}
 
-/// States that a lookup in an archive of a map of std finds a value with the relation `R`.
-///
-/// It finds the value of the accepted key, and no key if and only if the map of std has none.
-/// With `ValueRelation`, this is the law `written_maps_are_looked_up`.
+/// States that a lookup in an archive of a std map finds a value with the relation `R`.
 pub fn nested_maps_are_looked_up<
     Q: Query<A::Archived>,
     W: Width,
@@ -144,10 +135,7 @@ where
         ⟦<Hashed<HashMap<A, B, T>, H> as Archive<W>>⟧.format }
 {}
 
-/// States that a written map of std represents the list of its entries, each value by `R`.
-///
-/// - `root`: the root of an archive. With `ValueRelation`, this is `written_maps_are_lists`.
-/// - `written`: a map anywhere in an archive that has the written bytes of the map of std.
+/// States that a written std map represents the list of its entries, each value by `R`.
 pub fn nested_maps_are_lists<
     W: Width,
     H: KeyHasher,
@@ -192,9 +180,7 @@ where
         (found_views R.related) }
 {}
 
-/// States that a walk visits each pair of the represented list once, whose value has relation `R`.
-///
-/// The clauses are as in `walks_visit_each` of `map::laws`.
+/// States that iterators return each pair of the represented list once, with a value by `R`.
 pub fn nested_walks_visit_each<
     W: Width,
     H: KeyHasher,
@@ -210,7 +196,7 @@ where
         R.related (archived_hash H.KeyHasher A.Archived.KeyElement) }
 {}
 
-/// States the definitions of the relations of values, of maps of std, of sets of std and of pairs.
+/// States the definitions of the relations of values, of std maps, of std sets and of pairs.
 pub fn written_relations_are_defined<W: Width, H: KeyHasher, K, V, A, B, T: BuildHasher, R, S>()
 where
     K: KeyElement + Represents<A>,

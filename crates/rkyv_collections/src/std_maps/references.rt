@@ -1,6 +1,6 @@
-//! References to maps and sets of std: archiving them without giving them away.
+//! Archiving std's maps and sets by reference, without giving them away.
 //!
-//! The archive of a wrapped reference is that of the wrapped map or set.
+//! The archive of a wrapped reference is the archive of the wrapped map or set.
 
 ghost use Rattle.rkyv_base.specs.{RepresentsAs, unit_spec, written_as};
 ghost use Rattle.rkyv_base.specs.Lemmas.Empty.{unit_element, unit_is_format, unit_local};

@@ -1,7 +1,7 @@
 //! Round trips: values that are written, opened, compared and deserialized.
 //!
 //! - `round_trips_equal` writes a value, opens and deserializes it, and compares both.
-//! - `lookups_agree` compares a lookup in the archive with one in the map of std.
+//! - `lookups_agree` compares a lookup in the archive with one in the std map.
 //! - `laws::archives_round_trip` is the law behind `round_trips_equal`.
 
 ghost use Rattle.std.specs.Prelude.{◌≡◌, IfErr, IfOk, true};
@@ -22,13 +22,7 @@ use std::hash::{BuildHasher, Hash};
 
 /// Writes a value, opens the archive, compares the root with the value, and deserializes it.
 ///
-/// Returns `Ok(true)` if the archive is valid, the root equals the value,
-/// and the deserialized value is `==` to it. The result is never `Ok(false)`.
-///
-/// # Errors
-///
-/// - `RoundTripError::Write`: the error of `to_bytes_in`.
-/// - `RoundTripError::Read`: the error of `deserialize`.
+/// Returns `Ok(true)` or an error: `Write` of `to_bytes_in`, or `Read` of `deserialize`.
 pub fn round_trips_equal<
     W: Width,
     M: Serialize<VecWriter, W> + EqualsWritten<W> + PartialEq + Drop,
@@ -52,14 +46,9 @@ where
     Ok(back == *value)
 }
 
-/// Writes a map of std, and compares a lookup in the archive with one in the map.
+/// Writes a std map, and compares a lookup in the archive with one in the map.
 ///
-/// Returns `Ok(true)` if both find equal values, or neither finds one.
-/// The result is never `Ok(false)`.
-///
-/// # Errors
-///
-/// - `RoundTripError::Write`: the error of `to_bytes_in`.
+/// Returns `Ok(true)` or the error of `to_bytes_in`.
 pub fn lookups_agree<
     W: Width,
     H: KeyHasher,

@@ -14,7 +14,6 @@ use rkyv_keys::KeyElement;
 use rkyv_scan::KeyHasher;
 use rkyv_table::ArchivedHashTable;
 
-/// Returns the position of the value behind the key at `pos`.
 #[inline]
 fn value_behind<K: Element, V: Element>(bytes: &[u8], pos: u64) -> u64
     requires { value_pos K.spec V.spec pos ≤ length bytes.now }
@@ -23,7 +22,6 @@ fn value_behind<K: Element, V: Element>(bytes: &[u8], pos: u64) -> u64
     pos + value_offset::<K, V>() as u64
 }
 
-/// Calls `write` with a seal of each value of the map at `root` of an archive, in bucket order.
 fn seal_values<K: Element, V: Element, W: Width, F: Fn(&mut Seal<'_, V>)>(
     archive: &mut [u8],
     root: u64,
@@ -44,36 +42,9 @@ fn seal_values<K: Element, V: Element, W: Width, F: Fn(&mut Seal<'_, V>)>(
 }
 
 impl<'a, K: KeyElement, V: Element, H: KeyHasher, W: Width> ArchivedHashMap<'a, K, V, H, W> {
-    /// Calls `write` with a seal of each value of the map at `root` of an archive.
+    /// Calls `write` once with a seal of each value of the map at `root`, in bucket order.
     ///
-    /// The values are in bucket order, and each is written once. The map stays valid, and its keys
-    /// are unchanged.
-    ///
-    /// # Requires
-    ///
-    /// - The archive has a valid map at `root`.
-    /// - `write` can be called with a seal of each valid value. Such a call writes only the value,
-    ///   and keeps it valid. It keeps the seal's reference.
-    ///
-    /// # Examples
-    ///
-    /// ```rust
-    /// type Levels = HashMapOf<i8, i8>;
-    ///
-    /// // Doubles each level.
-    /// fn double_each(archive: &mut [u8]) -> Result<(), VerifyError> {
-    ///     let root = access::<Levels>(&*archive)?.pos();
-    ///     ArchivedHashMap::<i8, i8, FxHasher64, Narrow>::for_each_value(
-    ///         archive,
-    ///         root,
-    ///         |level: &mut Seal<'_, i8>| {
-    ///             let doubled = level.to_native().wrapping_mul(2);
-    ///             level.set(doubled);
-    ///         },
-    ///     );
-    ///     Ok(())
-    /// }
-    /// ```
+    /// Requires that each call of `write` only writes the value, and keeps it valid.
     pub fn for_each_value<F: Fn(&mut Seal<'_, V>)>(archive: &mut [u8], root: u64, write: F)
         requires map { Viewable (map_spec W.word K.spec V.spec) archive.old root }
         requires write { WritesValues F.pre F.post V.spec write }

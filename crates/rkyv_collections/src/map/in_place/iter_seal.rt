@@ -28,9 +28,6 @@ use rkyv_scan::FxHasher64;
 use rkyv_table::{ArchivedHashTable, RawIterSeal};
 use std::marker::PhantomData;
 
-/// Returns a view of the key at `pos` and a seal of the value behind it.
-///
-/// Returns `None` if the archive has no valid key at `pos`.
 #[inline]
 fn pair_at<K: Element, V: Element>(
     archive: &mut [u8],
@@ -51,7 +48,6 @@ fn pair_at<K: Element, V: Element>(
     Some((key, Seal::over(back, 0)))
 }
 
-/// Returns the position of the value behind the key at `pos`.
 #[inline]
 fn behind<K: Element, V: Element>(bytes: &[u8], pos: u64) -> u64
     requires { value_pos K.spec V.spec pos ≤ length bytes.now }
@@ -62,12 +58,8 @@ fn behind<K: Element, V: Element>(bytes: &[u8], pos: u64) -> u64
 
 /// A cursor over the pairs of a map, in bucket order, for writing their values in place.
 ///
-/// `iter_seal` and `iter_over` return it. While only values are written and stay valid, `next_pos`
-/// and `next_with` return each pair once. They return as many pairs as `len` says, and then `None`.
-/// The cursor is unspecified after `next_seal`.
-///
-/// If control bytes are overwritten, the cursor may find no further pair. Its calls then return
-/// `None`, and `len` stays above 0.
+/// If control bytes are overwritten, it may find no further pair. Its calls then return `None`,
+/// and `len` stays above 0.
 #[derive(Drop)]
 #[must_use]
 pub struct IterMut<'a, K, V, H = FxHasher64, W = Narrow> {
@@ -103,12 +95,7 @@ impl<'a, K: Element, V: Element, H, W> IterMut<'a, K, V, H, W> {
 
     /// Calls `write` with the archive and the position of the next key, and returns the position.
     ///
-    /// If no pair remains, the result is `None`, and nothing is written.
-    ///
-    /// # Requires
-    ///
-    /// - `write` can be called with the archive and each position at which a pair fits. It may rely
-    ///   on a valid key and a valid value there if the cursor is over a valid map.
+    /// `write` may rely on a valid pair at the position if the cursor is over a valid map.
     #[inline]
     pub fn next_with<F: FnOnce(&mut [u8], u64)>(&mut self, write: F) -> Option<u64>
         requires { MayWritePair K.spec V.spec F.pre (entries_in self.old) write }
@@ -123,10 +110,6 @@ impl<'a, K: Element, V: Element, H, W> IterMut<'a, K, V, H, W> {
     }
 
     /// Returns a view of the key at `pos`.
-    ///
-    /// # Requires
-    ///
-    /// - The archive has a valid key at `pos`.
     #[inline]
     pub fn key_at(&self, pos: u64) -> View<'_, K>
         requires { Viewable K.spec (cursor_bytes (entries_in self.now)) pos }
@@ -139,11 +122,9 @@ impl<'a, K: Element, V: Element, H, W> IterMut<'a, K, V, H, W> {
 
     /// Returns a view of the next key and a seal of its value, or `None` at the end.
     ///
-    /// The archive is cut in two at the start of the value. The view is of the front,
-    /// and the seal is at the start of the back.
-    ///
-    /// The key is validated again. If it is not valid any more, the result is `None`.
-    /// The contract of `next_with` also covers the pairs that remain.
+    /// The view borrows the bytes before the value, and the seal borrows the rest.
+    /// The key is validated again, and the result is `None` if it is no longer valid.
+    /// The cursor is unspecified afterwards.
     #[inline]
     pub fn next_seal(&mut self) -> Option<(View<'_, K>, Seal<'_, V>)>
         ensures inside { IfSome result (λ pair. LiesIn V.spec pair.1) }
@@ -158,11 +139,7 @@ impl<'a, K: Element, V: Element, H, W> IterMut<'a, K, V, H, W> {
 }
 
 impl<'a, K: Element, N: Scalar, H, W> IterMut<'a, K, N, H, W> {
-    /// Writes a scalar as the value behind the key at `pos`. All other bytes are unchanged.
-    ///
-    /// # Requires
-    ///
-    /// - The value behind the key ends inside the archive.
+    /// Writes a scalar as the value behind the key at `pos`.
     #[inline]
     pub fn set_at(&mut self, pos: u64, value: N)
         requires { value_pos K.spec N.spec pos + N.spec.size
@@ -178,14 +155,7 @@ impl<'a, K: Element, N: Scalar, H, W> IterMut<'a, K, N, H, W> {
     }
 }
 
-/// A cursor over the values of a map, in bucket order, for writing them in place.
-///
-/// `values_seal` and `values_over` return it. While only values are written and stay valid,
-/// `next_pos` and `next_with` return each value once. They return as many values as `len` says, and
-/// then `None`. The cursor is unspecified after `next_seal`.
-///
-/// If control bytes are overwritten, the cursor may find no further value. Its calls then return
-/// `None`, and `len` stays above 0.
+/// A cursor over the values of a map, in bucket order, for writing them; otherwise as `IterMut`.
 #[derive(Drop)]
 #[must_use]
 pub struct ValuesMut<'a, K, V, H = FxHasher64, W = Narrow> {
@@ -217,12 +187,7 @@ impl<'a, K: Element, V: Element, H, W> ValuesMut<'a, K, V, H, W> {
 
     /// Calls `write` with the archive and the position of the next value, and returns the position.
     ///
-    /// If no value remains, the result is `None`, and nothing is written.
-    ///
-    /// # Requires
-    ///
-    /// - `write` can be called with the archive and each position at which a value fits. It may
-    ///   rely on a valid value there if the cursor is over a valid map.
+    /// `write` may rely on a valid value at the position if the cursor is over a valid map.
     #[inline]
     pub fn next_with<F: FnOnce(&mut [u8], u64)>(&mut self, write: F) -> Option<u64>
         requires { MayWriteValue K.spec V.spec F.pre (entries_of self.old) write }
@@ -236,9 +201,7 @@ impl<'a, K: Element, V: Element, H, W> ValuesMut<'a, K, V, H, W> {
         next
     }
 
-    /// Returns a seal of the next value, or `None` at the end.
-    ///
-    /// The contract of `next_with` also covers the values that remain.
+    /// Returns a seal of the next value, or `None` at the end. The cursor is then unspecified.
     #[inline]
     pub fn next_seal(&mut self) -> Option<Seal<'_, V>>
         ensures inside { IfSome result (LiesIn V.spec) }
@@ -253,11 +216,7 @@ impl<'a, K: Element, V: Element, H, W> ValuesMut<'a, K, V, H, W> {
 }
 
 impl<'a, K: Element, N: Scalar, H, W> ValuesMut<'a, K, N, H, W> {
-    /// Writes a scalar as the value at `pos`. All other bytes are unchanged.
-    ///
-    /// # Requires
-    ///
-    /// - The value ends inside the archive.
+    /// Writes a scalar as the value at `pos`.
     #[inline]
     pub fn set_at(&mut self, pos: u64, value: N)
         requires { pos + N.spec.size ≤ length (cursor_bytes (entries_of self.old)) }
@@ -274,12 +233,7 @@ impl<'a, K: Element, N: Scalar, H, W> ValuesMut<'a, K, N, H, W> {
 impl<'a, K: Element, V: Element, H, W: Width> ArchivedHashMap<'a, K, V, H, W> {
     /// Returns a cursor over the pairs of a sealed map, in bucket order, for writing their values.
     ///
-    /// Once the cursor is dropped, its caller knows nothing of the bytes. The contracts of
-    /// `for_each_value` and of `set_value_of` cover them.
-    ///
-    /// # Requires
-    ///
-    /// - The archive has a valid map at the position of the seal.
+    /// After it is dropped, no clause describes the archive's bytes, unlike after `for_each_value`.
     ///
     /// # Examples
     ///
@@ -309,14 +263,7 @@ impl<'a, K: Element, V: Element, H, W: Width> ArchivedHashMap<'a, K, V, H, W> {
         Self::iter_over(archive, pos)
     }
 
-    /// Returns a cursor over the pairs of the map at `pos` of an archive, for writing their values.
-    ///
-    /// The pairs are in bucket order. Once the cursor is dropped, its caller knows nothing of the
-    /// bytes. The contracts of `for_each_value` and of `set_value_of` cover them.
-    ///
-    /// # Requires
-    ///
-    /// - The archive has a valid map at `pos`.
+    /// Returns the cursor of `iter_seal` over the map at `pos` of an archive.
     #[inline]
     pub fn iter_over(archive: &'a mut [u8], pos: u64) -> IterMut<'a, K, V, H, W>
         requires map { Viewable (map_spec W.word K.spec V.spec) archive.old pos }
@@ -332,32 +279,7 @@ impl<'a, K: Element, V: Element, H, W: Width> ArchivedHashMap<'a, K, V, H, W> {
         }
     }
 
-    /// Returns a cursor over the values of a sealed map, in bucket order, for writing them.
-    ///
-    /// Once the cursor is dropped, its caller knows nothing of the bytes. The contracts of
-    /// `for_each_value` and of `set_value_of` cover them.
-    ///
-    /// # Requires
-    ///
-    /// - The archive has a valid map at the position of the seal.
-    ///
-    /// # Examples
-    ///
-    /// ```rust
-    /// type Prices = HashMapOf<Text, u32>;
-    ///
-    /// // Doubles each price, by a cursor over the values.
-    /// fn double_prices(archive: &mut [u8]) -> Result<(), VerifyError> {
-    ///     let mut rest = ArchivedHashMap::values_seal(access_mut::<Prices>(archive)?);
-    ///     for _ in 0..rest.len() {
-    ///         if let Some(mut price) = rest.next_seal() {
-    ///             let doubled = price.to_native().wrapping_mul(2);
-    ///             price.set(doubled);
-    ///         }
-    ///     }
-    ///     Ok(())
-    /// }
-    /// ```
+    /// Returns a cursor over the values of a sealed map, in bucket order; see `iter_seal`.
     #[inline]
     pub fn values_seal(this: ArchiveSeal<'a, HashMapOf<K, V, H, W>>) -> ValuesMut<'a, K, V, H, W>
         requires map { IsMapSeal W.word K.spec V.spec this }
@@ -370,25 +292,7 @@ impl<'a, K: Element, V: Element, H, W: Width> ArchivedHashMap<'a, K, V, H, W> {
         }
     }
 
-    /// Returns a cursor over the values of the map at `pos` of an archive, for writing them.
-    ///
-    /// The values are in bucket order. Once the cursor is dropped, its caller knows nothing of the
-    /// bytes. The contracts of `for_each_value` and of `set_value_of` cover them.
-    ///
-    /// # Requires
-    ///
-    /// - The archive has a valid map at `pos`.
-    ///
-    /// # Examples
-    ///
-    /// ```rust
-    /// let mut rest = ArchivedHashMap::<K, N, H, W>::values_over(bytes, root);
-    /// for value in values {
-    ///     if let Some(pos) = rest.next_pos() {
-    ///         rest.set_at(pos, *value);
-    ///     }
-    /// }
-    /// ```
+    /// Returns the cursor of `values_seal` over the map at `pos` of an archive.
     #[inline]
     pub fn values_over(archive: &'a mut [u8], pos: u64) -> ValuesMut<'a, K, V, H, W>
         requires map { Viewable (map_spec W.word K.spec V.spec) archive.old pos }

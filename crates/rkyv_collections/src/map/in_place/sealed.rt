@@ -21,7 +21,6 @@ use rkyv_base::{ArchiveSeal, Element, Seal, View, Width, found_pos};
 use rkyv_keys::{KeyElement, KeyHash, Query};
 use rkyv_scan::KeyHasher;
 
-/// Returns the map at the seal, to be read.
 #[inline]
 fn map_in<'s, K: Element, V: Element, H, W: Width>(
     this: &'s ArchiveSeal<'_, HashMapOf<K, V, H, W>>,
@@ -33,9 +32,7 @@ fn map_in<'s, K: Element, V: Element, H, W: Width>(
     ArchivedHashMap::of(this.as_view())
 }
 
-// Every sealed lookup is a call of one of the first two functions, and then of one of the others.
 impl<'a, K: KeyElement, V: Element, H: KeyHasher, W: Width> ArchivedHashMap<'a, K, V, H, W> {
-    /// Returns the position of the key that `find` finds, or `None`.
     #[inline]
     fn find_pos<Q: KeyHash, F: Fn(&Q, View<'_, K>) -> bool>(
         this: &ArchiveSeal<'_, HashMapOf<K, V, H, W>>,
@@ -52,7 +49,6 @@ impl<'a, K: KeyElement, V: Element, H: KeyHasher, W: Width> ArchivedHashMap<'a, 
         found_pos(map_in(this).find(key, cmp))
     }
 
-    /// Returns the position of the key that the query finds, or `None`.
     #[inline]
     fn find_key_pos<Q: Query<K>>(
         this: &ArchiveSeal<'_, HashMapOf<K, V, H, W>>,
@@ -67,7 +63,6 @@ impl<'a, K: KeyElement, V: Element, H: KeyHasher, W: Width> ArchivedHashMap<'a, 
         found_pos(map_in(this).find_key(key))
     }
 
-    /// Returns a view of the found key and a seal of its value.
     #[inline]
     fn lend_pair(
         this: ArchiveSeal<'a, HashMapOf<K, V, H, W>>,
@@ -83,7 +78,6 @@ impl<'a, K: KeyElement, V: Element, H: KeyHasher, W: Width> ArchivedHashMap<'a, 
         Some(this.split_value(found?))
     }
 
-    /// Returns a seal of the value of the found key.
     #[inline]
     fn lend_value(
         this: ArchiveSeal<'a, HashMapOf<K, V, H, W>>,
@@ -102,19 +96,9 @@ impl<'a, K: KeyElement, V: Element, H: KeyHasher, W: Width> ArchivedHashMap<'a, 
 }
 
 impl<'a, K: KeyElement, V: Element, H: KeyHasher, W: Width> ArchivedHashMap<'a, K, V, H, W> {
-    /// Returns a key that the comparison accepts and a seal of its value, or `None`.
+    /// Returns the key that `get_key_value_with` finds and a seal of its value, or `None`.
     ///
-    /// It looks up as `get_key_value_with` does.
-    ///
-    /// The archive is cut in two at the start of the value. The view is of the front,
-    /// and the seal is at the start of the back.
-    ///
-    /// The contract of `found_by` also covers the bytes of the archive afterwards.
-    ///
-    /// # Requires
-    ///
-    /// - The archive has a valid map at the position of the seal.
-    /// - The comparison can be called with `key` and each key of the map.
+    /// It splits the archive as `get_key_value_seal` does. `found_by` has clauses on its bytes.
     #[inline]
     pub fn get_key_value_seal_with<Q: KeyHash, F: Fn(&Q, View<'_, K>) -> bool>(
         this: ArchiveSeal<'a, HashMapOf<K, V, H, W>>,
@@ -134,34 +118,10 @@ impl<'a, K: KeyElement, V: Element, H: KeyHasher, W: Width> ArchivedHashMap<'a, 
         Self::lend_pair(this, found)
     }
 
-    /// Returns the key that the query finds and a seal of its value, or `None`.
+    /// Returns the key that `get_key_value` finds and a seal of its value, or `None`.
     ///
-    /// It looks up as `get_key_value` does.
-    ///
-    /// The archive is cut in two at the start of the value. The view is of the front,
-    /// and the seal is at the start of the back.
-    ///
-    /// The contract of `found_with` also covers the bytes of the archive afterwards.
-    ///
-    /// # Requires
-    ///
-    /// - The archive has a valid map at the position of the seal.
-    ///
-    /// # Examples
-    ///
-    /// ```rust
-    /// type Numbers<W> = HashMapOf<u32, u32, FxHasher64, W>;
-    ///
-    /// let whole = access_mut_in::<W, Numbers<W>>(bytes)?;
-    /// match ArchivedHashMap::get_key_value_seal(whole, &key) {
-    ///     Some((found, mut seal)) => {
-    ///         let before = (found.to_native(), seal.to_native());
-    ///         seal.set(value);
-    ///         Ok(Some(before))
-    ///     }
-    ///     None => Ok(None),
-    /// }
-    /// ```
+    /// The view borrows the bytes before the value, and the seal borrows the rest.
+    /// The contract of `found_with` also covers the archive's bytes after a write.
     #[inline]
     pub fn get_key_value_seal<Q: Query<K>>(
         this: ArchiveSeal<'a, HashMapOf<K, V, H, W>>,
@@ -179,16 +139,7 @@ impl<'a, K: KeyElement, V: Element, H: KeyHasher, W: Width> ArchivedHashMap<'a, 
         Self::lend_pair(this, found)
     }
 
-    /// Returns a seal of the value of a key that the comparison accepts, or `None`.
-    ///
-    /// It looks up as `get_with` does.
-    ///
-    /// The contract of `found_by` also covers the bytes of the archive afterwards.
-    ///
-    /// # Requires
-    ///
-    /// - The archive has a valid map at the position of the seal.
-    /// - The comparison can be called with `key` and each key of the map.
+    /// Returns a seal of the value that `get_with` finds, or `None`. See `found_by` for the bytes.
     #[inline]
     pub fn get_seal_with<Q: KeyHash, F: Fn(&Q, View<'_, K>) -> bool>(
         this: ArchiveSeal<'a, HashMapOf<K, V, H, W>>,
@@ -209,15 +160,9 @@ impl<'a, K: KeyElement, V: Element, H: KeyHasher, W: Width> ArchivedHashMap<'a, 
         Self::lend_value(this, found)
     }
 
-    /// Returns a seal of the value of the key that the query finds, or `None`.
+    /// Returns a seal of the value that `get` finds, or `None`.
     ///
-    /// It looks up as `get` does.
-    ///
-    /// The contract of `found_with` also covers the bytes of the archive afterwards.
-    ///
-    /// # Requires
-    ///
-    /// - The archive has a valid map at the position of the seal.
+    /// The contract of `found_with` also covers the archive's bytes after a write.
     ///
     /// # Examples
     ///

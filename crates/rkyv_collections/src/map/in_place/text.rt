@@ -15,28 +15,8 @@ use rkyv_scan::KeyHasher;
 
 /// Writes each letter from a to z of the text of a key in upper case, if the text is inline.
 ///
-/// The map is at `root` of the archive. If it represents a list of pairs of an `A` and a `&str`,
-/// the text is that of the first pair with an equal key.
-///
-/// - `Some(true)`: the text is inline, and is written. All other bytes are unchanged.
-/// - `Some(false)`: the text is out of line. Nothing is written.
-/// - `None`: no key is found. Nothing is written.
-///
-/// In an untrusted archive, the lookup may read all control bytes.
-///
-/// # Requires
-///
-/// - The archive has a valid map to texts at `root`.
-///
-/// # Examples
-///
-/// ```rust
-/// // Writes the text of a key in upper case. Returns the result of the call.
-/// fn uppercase(bytes: &mut [u8], key: &str) -> Result<Option<bool>, VerifyError> {
-///     let root = access::<HashMapOf<Text, Text>>(&*bytes)?.pos();
-///     Ok(make_ascii_uppercase_of::<&str, Text, FxHasher64, Narrow>(bytes, root, &key))
-/// }
-/// ```
+/// Returns `Some(true)` if the text is written, `Some(false)` if it is out of line, or `None`
+/// if no key is found.
 pub fn make_ascii_uppercase_of<
     A: NativeKey<K>,
     K: KeyElement + Represents<A>,

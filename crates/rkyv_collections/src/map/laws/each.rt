@@ -8,7 +8,7 @@ use rkyv_scan::KeyHasher;
 
 /// States that `for_each_value` replaces each value in the represented list of pairs.
 ///
-/// The closure must compute the new native value from the old one only.
+/// The closure must compute the new native value from only the old one.
 pub fn each_written_represents<
     A,
     B,

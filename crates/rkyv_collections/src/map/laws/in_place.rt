@@ -8,11 +8,7 @@ use rkyv_base::{Element, Represents, Width};
 use rkyv_keys::{KeyElement, Query};
 use rkyv_scan::KeyHasher;
 
-/// States that a write of one value in place that keeps it valid keeps the map.
-///
-/// - The map is valid. All keys and all other values are unchanged.
-/// - Each lookup whose comparison depends only on the key finds the same key.
-/// - A written map is still one.
+/// States that a write of one value in place that keeps it valid keeps the map and its lookups.
 pub fn value_writes_keep_maps<K: KeyElement, V: Element, H: KeyHasher, W: Width>()
     ensures { ValueWritesKeepMaps W.word K.spec V.spec
         (archived_hash H.KeyHasher K.KeyElement) }

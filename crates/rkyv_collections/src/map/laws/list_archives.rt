@@ -11,8 +11,6 @@ use rkyv_keys::{KeyElement, NativeQuery};
 use rkyv_scan::KeyHasher;
 
 /// States that `get` in a root map returns a view of the value of the first equal key.
-///
-/// The view represents that value of the list.
 pub fn values_found_are_listed<
     A,
     Q: NativeQuery<A, K>,
@@ -41,7 +39,7 @@ pub fn scalars_found_are_listed<
         (found_scalars N.encoding) }
 {}
 
-/// States that `get` in a root map of texts finds the bytes of the text of the first equal key.
+/// States that `get` in a root map to texts finds the bytes of the text of the first equal key.
 pub fn texts_found_are_listed<
     A,
     Q: NativeQuery<A, K>,

@@ -8,18 +8,11 @@ use rkyv_keys::{KeyElement, NativeQuery, Query};
 use rkyv_scan::KeyHasher;
 
 /// States that a write of one value that keeps it valid is a write among its map's parts.
-///
-/// So the map may itself be the value of another map.
 pub fn value_writes_are_nested<K: KeyElement, V: Element, W: Width>()
     ensures { ValueWritesAreNested W.word K.spec V.spec }
 {}
 
 /// States that a write among the parts of a value that keeps it valid keeps the map.
-///
-/// - The map is valid. All keys and all other values are unchanged.
-/// - Each lookup whose comparison depends only on the key and its parts finds the same key.
-/// - A written map is still one.
-/// - The write is one among the parts of the map.
 pub fn nested_writes_keep_maps<K: KeyElement, V: Element, H: KeyHasher, W: Width>()
     ensures { NestedWritesKeepMaps W.word K.spec V.spec (archived_hash H.KeyHasher K.KeyElement) }
 {}
@@ -31,8 +24,6 @@ pub fn nested_writes_keep_lookups<K: KeyElement, V: Element, Q: Query<K>, H: Key
 {}
 
 /// States that a write among the parts of a found value replaces it in the represented list.
-///
-/// The map represents the list with the new value in the first pair with an equal key.
 pub fn nested_writes_represent<
     A,
     Q: NativeQuery<A, K>,

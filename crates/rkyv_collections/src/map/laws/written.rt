@@ -12,9 +12,7 @@ use rkyv_scan::KeyHasher;
 
 /// States that a written map with its header is valid in any archive that has its bytes.
 ///
-/// The header must be aligned and after the written bytes. It then has the length and the capacity
-/// of the map. The entries are under the hashes of their keys in insertion order.
-/// Each pair is in its home bucket.
+/// The header must be aligned and after the written bytes.
 pub fn written_maps_represent<
     W: Width,
     H: KeyHasher,

@@ -1,7 +1,7 @@
-//! Opening a map, and the numbers of its header.
+//! Opening a map, and the counts of its header.
 //!
-//! `of` decodes the header once. The map is a copy of the view and the numbers, so it can be passed
-//! by value.
+//! `of` decodes the header once. The map is a copy of the view and the counts, so it can be
+//! passed by value.
 ghost use Rattle.std.specs.Prelude.{IsTrue, ◌↔◌, ◌≡◌};
 ghost use Rattle.rkyv_base.specs.{IsAt, IsValidView, bytes_of, pos_of};
 ghost use Rattle.rkyv_table.specs.{IsDecoded, table_view};
@@ -14,11 +14,7 @@ use rkyv_table::table::decoded::Decoded;
 use rkyv_table::{ArchivedHashTable, TableOf};
 
 impl<'a, K: Element, V: Element, H, W: Width> ArchivedHashMap<'a, K, V, H, W> {
-    /// Returns the map at a view of its header, which is decoded here, once.
-    ///
-    /// # Requires
-    ///
-    /// - The view is of a valid map.
+    /// Returns the map at a view of its header. Decodes the header, once for all lookups.
     ///
     /// # Examples
     ///
@@ -35,8 +31,6 @@ impl<'a, K: Element, V: Element, H, W: Width> ArchivedHashMap<'a, K, V, H, W> {
     ///         None => Ok((map.len(), None)),
     ///     }
     /// }
-    ///
-    /// assert_eq!(rt; look_up(&four_pairs(), 3).ok(), Some((4, Some(4))));
     /// ```
     #[inline]
     pub fn of(view: View<'a, HashMapOf<K, V, H, W>>) -> ArchivedHashMap<'a, K, V, H, W>
@@ -51,11 +45,6 @@ impl<'a, K: Element, V: Element, H, W: Width> ArchivedHashMap<'a, K, V, H, W> {
     }
 
     /// Returns the map at a view of its header, which was decoded before.
-    ///
-    /// # Requires
-    ///
-    /// - The view is of a valid map.
-    /// - `header` is the decoded header of the map at the view.
     #[inline]
     pub fn with_header(
         view: View<'a, HashMapOf<K, V, H, W>>,
@@ -77,7 +66,6 @@ impl<'a, K: Element, V: Element, H, W: Width> ArchivedHashMap<'a, K, V, H, W> {
         self.header
     }
 
-    /// Returns the table of the entries.
     #[inline]
     pub(crate) fn table(self) -> ArchivedHashTable<'a, Entry<K, V>, W>
         ensures at { IsAt (table_view result) (map_archive self.entry) (map_pos self.entry) }

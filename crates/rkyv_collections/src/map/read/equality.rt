@@ -13,7 +13,6 @@ use rkyv_keys::{ElementEq, KeyElement, KeyView};
 use rkyv_scan::KeyHasher;
 
 impl<'a, K: KeyElement, V: ElementEq, H: KeyHasher, W: Width> ArchivedHashMap<'a, K, V, H, W> {
-    /// Returns `true` if and only if a lookup of the key finds a value that is the same.
     #[inline]
     fn matches(self, key: View<'_, K>, value: View<'_, V>) -> bool
         requires key { IsValidView K.spec key }
@@ -28,28 +27,11 @@ impl<'a, K: KeyElement, V: ElementEq, H: KeyHasher, W: Width> ArchivedHashMap<'a
         }
     }
 
-    /// Returns `true` if and only if both maps have the same length and the same pairs.
+    /// Returns `true` if and only if the lengths and, by lookups in `other`, the pairs are equal.
     ///
-    /// They have the same pairs if a lookup of each key of this map finds the same value
-    /// in `other`. A map with misplaced keys may differ from itself. A map with repeated keys
-    /// may equal one that has a pair which it lacks, and which then differs from it.
-    ///
+    /// A map with misplaced keys may differ from itself, and with repeated keys it isn't symmetric.
     /// Each pair costs a lookup in `other`. In an untrusted map, keys that share a hash make
     /// the cost quadratic in their number.
-    ///
-    /// # Examples
-    ///
-    /// ```rust
-    /// // Returns whether the maps in two archives have the same pairs.
-    /// fn equal(first: &[u8], second: &[u8]) -> Result<bool, VerifyError> {
-    ///     let first = ArchivedHashMap::of(access::<HashMapOf<i8, i8>>(first)?);
-    ///     let second = ArchivedHashMap::of(access::<HashMapOf<i8, i8>>(second)?);
-    ///     Ok(first.eq_map(second))
-    /// }
-    ///
-    /// let same = equal(&four_pairs(), &four_pairs_backwards()).ok();
-    /// assert_eq!(rt; same, Some(true));
-    /// ```
     #[inline]
     pub fn eq_map(self, other: ArchivedHashMap<'_, K, V, H, W>) -> bool
         ensures { let key_hash = archived_hash H.KeyHasher K.KeyElement in

@@ -167,8 +167,6 @@ impl<'a, K: Element, V: Element, H, W: Width> ArchivedHashMap<'a, K, V, H, W> {
     ///     }
     ///     Ok(total)
     /// }
-    ///
-    /// assert_eq!(rt; total(&four_pairs()).ok(), Some(20));
     /// ```
     #[inline]
     pub fn iter(self) -> Iter<'a, K, V, H, W>
@@ -204,7 +202,7 @@ impl<'a, K: Element, V: Element, H, W: Width> ArchivedHashMap<'a, K, V, H, W> {
     }
 }
 
-/// `for (key, value) in map` visits the pairs, in bucket order.
+/// `for (key, value) in map` iterates over the pairs, in bucket order.
 impl<'a, K: Element, V: Element, H, W: Width> IntoIterator for ArchivedHashMap<'a, K, V, H, W> {
     type Item = PairView<'a, K, V>;
 
@@ -220,7 +218,7 @@ impl<'a, K: Element, V: Element, H, W: Width> IntoIterator for ArchivedHashMap<'
     }
 }
 
-/// `for (key, value) in &map` visits the pairs, in bucket order.
+/// `for (key, value) in &map` iterates over the pairs, in bucket order.
 impl<'a, K: Element, V: Element, H, W: Width> IntoIterator for &ArchivedHashMap<'a, K, V, H, W> {
     type Item = PairView<'a, K, V>;
 

@@ -20,7 +20,6 @@ use rkyv_base::{Element, Entry, View, Width};
 use rkyv_keys::{KeyElement, KeyHash, Query, hash_value};
 use rkyv_scan::KeyHasher;
 
-/// Returns `true` if and only if an entry is found.
 #[inline]
 pub(crate) fn is_found<T: Element>(found: Option<View<'_, T>>) -> bool
     ensures { (key_pos : Option ℕ) → IsViewAt found.entry key_pos → IsFoundAt result key_pos }
@@ -28,7 +27,6 @@ pub(crate) fn is_found<T: Element>(found: Option<View<'_, T>>) -> bool
     found.is_some()
 }
 
-/// Returns the key and the value of a found entry.
 #[inline]
 pub(crate) fn found_pair<'a, K: Element, V: Element>(
     found: Option<View<'a, Entry<K, V>>>,
@@ -40,7 +38,6 @@ pub(crate) fn found_pair<'a, K: Element, V: Element>(
     Some((entry.key(), entry.value()))
 }
 
-/// Returns the value of a found entry.
 #[inline]
 pub(crate) fn found_value<'a, K: Element, V: Element>(
     found: Option<View<'a, Entry<K, V>>>,
@@ -79,18 +76,8 @@ impl<'a, K: KeyElement, V: Element, H: KeyHasher, W: Width> ArchivedHashMap<'a, 
 
     /// Returns a pair whose key the comparison accepts, in a lookup under the hash of `key`.
     ///
-    /// The result is `None` or a pair of the map, whatever the comparison returns.
-    /// The comparison is called with keys of the map alone, and may be called twice with one.
-    ///
-    /// If the comparison depends only on the position of a key, the control bytes decide which pair
-    /// it is. In a written map, it is the first accepted pair in insertion order
-    /// if each accepted key is under the hash of `key`.
-    ///
-    /// A lookup in an untrusted map may read all of its control bytes.
-    ///
-    /// # Requires
-    ///
-    /// - The comparison can be called with `key` and each key of the map.
+    /// The comparison may be called twice with one key. If it depends only on the key, and each
+    /// accepted key is under the hash of `key`, the first accepted pair of a written map is found.
     #[inline]
     pub fn get_key_value_with<Q: KeyHash, F>(self, key: &Q, cmp: F) -> Option<PairView<'a, K, V>>
     where
@@ -103,15 +90,7 @@ impl<'a, K: KeyElement, V: Element, H: KeyHasher, W: Width> ArchivedHashMap<'a, 
         found_pair(self.find(key, cmp))
     }
 
-    /// Returns the value of a pair whose key the comparison accepts, or `None`.
-    ///
-    /// It looks up as `get_key_value_with` does.
-    ///
-    /// A lookup in an untrusted map may read all of its control bytes.
-    ///
-    /// # Requires
-    ///
-    /// - The comparison can be called with `key` and each key of the map.
+    /// Returns the value of the pair that `get_key_value_with` returns, or `None`.
     #[inline]
     pub fn get_with<Q: KeyHash, F>(self, key: &Q, cmp: F) -> Option<View<'a, V>>
     where
@@ -124,7 +103,6 @@ impl<'a, K: KeyElement, V: Element, H: KeyHasher, W: Width> ArchivedHashMap<'a, 
         found_value(self.find(key, cmp))
     }
 
-    /// Returns the entry of the key that the query finds, or `None`.
     #[inline]
     pub(crate) fn find_key<Q: Query<K>>(self, key: &Q) -> Option<View<'a, Entry<K, V>>>
         ensures { GetsKey entry_part self.entry
@@ -143,13 +121,8 @@ impl<'a, K: KeyElement, V: Element, H: KeyHasher, W: Width> ArchivedHashMap<'a, 
     /// Returns the pair of the key that the query finds, or `None`.
     ///
     /// In a written map, it is the first pair in insertion order whose key the query matches.
-    ///
-    /// In an untrusted map, a lookup may miss a key that the query matches.
-    /// No key is missed if `misplaced` is 0. The lookup then finds the one key that the query
-    /// matches, and `None` if and only if it matches none.
-    ///
-    /// A lookup in an untrusted map may read all of its control bytes.
-    /// `FxHasher64` takes no secret key, so it doesn't protect from chosen input.
+    /// In an untrusted map, a lookup may miss keys unless `misplaced` is 0, and may read all
+    /// control bytes. `FxHasher64` takes no secret key, so it doesn't protect from chosen input.
     #[inline]
     pub fn get_key_value<Q: Query<K>>(self, key: &Q) -> Option<PairView<'a, K, V>>
         ensures { GetsKey pair_part self.entry
@@ -158,11 +131,7 @@ impl<'a, K: KeyElement, V: Element, H: KeyHasher, W: Width> ArchivedHashMap<'a, 
         found_pair(self.find_key(key))
     }
 
-    /// Returns the value of the key that the query finds, or `None`.
-    ///
-    /// It looks up as `get_key_value` does.
-    ///
-    /// A lookup in an untrusted map may read all of its control bytes.
+    /// Returns the value of the pair that `get_key_value` returns, or `None`.
     ///
     /// # Examples
     ///
@@ -182,9 +151,7 @@ impl<'a, K: KeyElement, V: Element, H: KeyHasher, W: Width> ArchivedHashMap<'a, 
         found_value(self.find_key(key))
     }
 
-    /// Returns `true` if and only if the query finds a key.
-    ///
-    /// A lookup in an untrusted map may read all of its control bytes.
+    /// Returns `true` if and only if `get` returns a value.
     #[inline]
     pub fn contains_key<Q: Query<K>>(self, key: &Q) -> bool
         ensures { FoundKeyHas self.entry
@@ -194,27 +161,7 @@ impl<'a, K: KeyElement, V: Element, H: KeyHasher, W: Width> ArchivedHashMap<'a, 
         is_found(self.find_key(key))
     }
 
-    /// Returns the value of the key that the query finds.
-    ///
-    /// A lookup in an untrusted map may read all of its control bytes.
-    ///
-    /// # Requires
-    ///
-    /// - The query finds a key. `contains_key` then returns `true`.
-    ///
-    /// # Examples
-    ///
-    /// ```rust
-    /// // Returns the value of a key by `index`, if the map has the key.
-    /// fn indexed(bytes: &[u8], key: u32) -> Result<Option<u32>, VerifyError> {
-    ///     let root = access_in::<Wide, HashMapOf<u32, u32, FxHasher64, Wide>>(bytes)?;
-    ///     let map = ArchivedHashMap::of(root);
-    ///     if map.contains_key(&key) {
-    ///         return Ok(Some(map.index(&key).to_native()));
-    ///     }
-    ///     Ok(None)
-    /// }
-    /// ```
+    /// Returns the value of a key for which `contains_key` returns `true`.
     #[inline]
     pub fn index<Q: Query<K>>(self, key: &Q) -> View<'a, V>
         requires found { FindsKey self

@@ -17,28 +17,11 @@ use rkyv_scan::KeyHasher;
 use rkyv_table::Strides;
 
 impl<'a, K: KeyElement, V: Element, H: KeyHasher, W: Width> ArchivedHashMap<'a, K, V, H, W> {
-    /// Returns the number of keys that a lookup of their own doesn't find.
+    /// Counts the keys that their own lookup doesn't find: it returns another equal key, or `None`.
     ///
-    /// A key is found if the lookup returns its own bucket. Otherwise the lookup finds another key
-    /// that is the same, or returns `None`.
-    ///
-    /// In a written map, it is the number of keys that are the same as an earlier key
-    /// in insertion order. An untrusted map may have other misplaced keys.
-    ///
-    /// By its code alone, each key is looked up once. Each lookup may read all control bytes.
-    /// Keys that share a hash cost a number of comparisons that is quadratic in their number.
-    /// `FxHasher64` takes no secret key, so chosen keys can share one.
-    ///
-    /// # Examples
-    ///
-    /// ```rust
-    /// // Returns the number of keys of a map that a lookup of their own doesn't find.
-    /// fn misplaced(archive: &[u8]) -> Result<usize, VerifyError> {
-    ///     Ok(ArchivedHashMap::of(access::<HashMapOf<i8, i8>>(archive)?).misplaced())
-    /// }
-    ///
-    /// assert_eq!(rt; misplaced(&one_key_twice()).ok(), Some(1));
-    /// ```
+    /// In a written map, these are the repeated keys. An untrusted map may have others.
+    /// Not proved: each key is looked up once. Keys that share a hash cost a number of comparisons
+    /// that is quadratic in their number, and chosen keys can share one.
     pub fn misplaced(self) -> usize
         ensures { result ≡ misplaced_keys self.entry (archived_keys H.KeyHasher K.KeyElement) }
     {
@@ -57,31 +40,10 @@ impl<'a, K: KeyElement, V: Element, H: KeyHasher, W: Width> ArchivedHashMap<'a, 
         )
     }
 
-    /// Returns the number of misplaced keys, or `None` at a limit on the strides that it reads.
+    /// Returns the result of `misplaced`, or `None` if its lookups read more than `limit` strides.
     ///
-    /// The number is the result of `misplaced`.
-    ///
-    /// The result is `None` if and only if the lookups of all keys read more than `limit` strides
-    /// of sixteen control bytes.
-    ///
-    /// By its code alone, it reads at most `limit` strides and those of one more lookup, so its
-    /// cost on an untrusted map is bounded. The contract of `misplaced_up_to_by` of tables also
-    /// says so. A written map takes about one stride for each key if the hashes of its keys are
-    /// spread evenly.
-    ///
-    /// # Examples
-    ///
-    /// ```rust
-    /// fn misplaced_within(archive: &[u8], limit: u64) -> Result<Option<usize>, VerifyError> {
-    ///     Ok(ArchivedHashMap::of(access::<HashMapOf<i8, i8>>(archive)?).misplaced_up_to(limit))
-    /// }
-    ///
-    /// let counted = [
-    ///     misplaced_within(&four_pairs(), 4).ok(),
-    ///     misplaced_within(&four_pairs(), 3).ok(),
-    /// ];
-    /// assert_eq!(rt; counted, [Some(Some(0)), Some(None)]);
-    /// ```
+    /// A stride is sixteen control bytes. A written map takes about one for each key if the hashes
+    /// are spread evenly. Not proved: the call reads at most `limit` strides and one more lookup's.
     pub fn misplaced_up_to(self, limit: u64) -> Option<usize>
         ensures { CountsKeysUpTo self.entry (archived_keys H.KeyHasher K.KeyElement) limit result }
     {

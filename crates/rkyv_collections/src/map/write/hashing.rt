@@ -9,7 +9,6 @@ use rkyv_keys::{KeyHash, hash_value};
 use rkyv_scan::KeyHasher;
 use std::marker::PhantomData;
 
-/// The pairs of an iterator, each as an entry under the hash of its key.
 #[derive(Drop)]
 pub(crate) struct HashedEntries<I, A, B, H> {
     pairs: I,

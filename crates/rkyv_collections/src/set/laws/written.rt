@@ -12,8 +12,7 @@ use rkyv_scan::KeyHasher;
 
 /// States that a written set with its header is valid in any archive that has its bytes.
 ///
-/// The header must be aligned and after the written bytes. It then has the length and the capacity
-/// of the set. The keys are under their hashes in insertion order. Each key is in its home bucket.
+/// The header must be aligned and after the written bytes.
 pub fn written_sets_represent<
     W: Width,
     H: KeyHasher,
