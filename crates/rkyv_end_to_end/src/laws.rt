@@ -1,6 +1,6 @@
 //! The laws of written lists, and of errors that `?` converts.
 //!
-//! Those of lists hold after writes of items in place too.
+//! The laws of lists also cover writes of items in place.
 ghost use Rattle.std.specs.Prelude.{ℕ, ◌≡◌, ◌↔◌};
 ghost use Rattle.rkyv_end_to_end.specs.{ItemsAreReplaced, ListsAreFound, ListsAreValid};
 ghost use Rattle.rkyv_end_to_end.specs.{LookupsFindListed, encoding};
@@ -31,9 +31,6 @@ pub fn errors_are_converted()
 {}
 
 /// States that a written table with its header is valid in each archive that has its bytes.
-///
-/// It is valid with each range around the table. Each item is in its home bucket,
-/// and the walk visits these buckets and no others.
 pub fn written_lists_represent<W: Width, U: Archive<W>, X: Lend<U>>()
     ensures { (load_factor : ℕ × ℕ) →
         ListsAreValid W.word (encoding U.Archived.Represents U.Archive X.Lend) load_factor }
@@ -46,12 +43,7 @@ pub fn written_lists_represent<W: Width, U: Archive<W>, X: Lend<U>>()
 
 /// States that a written list is valid and found with its header anywhere behind its table.
 ///
-/// The header must be at an aligned position, and have the words that `resolve` writes for this
-/// position. There may be any bytes between the table and the header.
-///
-/// Each item is in its home bucket, and the walk visits these buckets and no others. With a range
-/// around the table, `look_over` never returns `Verify`. Its lookup finds the first accepted item,
-/// within the bound. The comparison has the conditions of `write_and_look_over`.
+/// The header must be aligned, and have the words that `resolve` writes for its position.
 pub fn written_lists_are_found<
     W: Width,
     U: Archive<W>,
@@ -70,9 +62,7 @@ pub fn written_lists_are_found<
 
 /// States that a write of one item in place puts the new item into the list of the table.
 ///
-/// The write must change the bytes of this item alone and keep it valid, and they must represent
-/// the new item, as after a write through a seal of a lookup or a cursor. The new item has the hash
-/// of the old one. The table is valid in the same ranges, and the walk visits each item once.
+/// The write must change only this item and keep it valid. The item keeps its hash.
 pub fn written_items_are_replaced<W: Width, U: Archive<W>, X: Lend<U>>()
     ensures { ItemsAreReplaced W.word (encoding U.Archived.Represents U.Archive X.Lend) }
 {
@@ -82,10 +72,7 @@ pub fn written_items_are_replaced<W: Width, U: Archive<W>, X: Lend<U>>()
     lent_items_written_represent::<W, U, X>();
 }
 
-/// States that the lookup of `look_over` in a table of a list finds the first accepted item.
-///
-/// The list was written, or is that of `written_items_are_replaced` after writes in place.
-/// The conditions on the comparison are those of `write_and_look_over`.
+/// States that `look_over` finds the first accepted item of a list, also after writes in place.
 pub fn lookups_find_listed<
     W: Width,
     U: Archive<W>,

@@ -1,4 +1,4 @@
-//! Validation, walk and lookup of a table in untrusted bytes.
+//! Validating, iterating over and looking up in a table of untrusted bytes.
 
 ghost use Rattle.std.specs.Prelude.{IfOk, MatchResult, length, ◌%◌, ◌*◌, ◌+◌, ◌<◌, ◌≡◌, ◌≤◌};
 ghost use Rattle.std.specs.Int.{byte_len};
@@ -56,14 +56,12 @@ impl From<AllocError> for LookError {
     }
 }
 
-// The result of one lookup.
 #[derive(Drop)]
 struct LookupResult {
     found: Option<u64>,
     strides: u64,
 }
 
-// Returns the positions of the items of the table at `pos`, in bucket order.
 fn walk<W: Width, T: Element>(alloc: Global, bytes: &[u8], pos: u64) -> Result<Vec<u64>, AllocError>
     requires { Viewable (table_spec W.word T.spec) bytes.now pos }
     ensures items { MatchResult result
@@ -79,7 +77,6 @@ fn walk<W: Width, T: Element>(alloc: Global, bytes: &[u8], pos: u64) -> Result<V
     Ok(walked)
 }
 
-// Looks up `hash` in the table at `pos`, and counts the strides that it reads.
 fn look_up<W: Width, T: Element, F: Fn(View<'_, T>) -> bool>(
     bytes: &[u8],
     pos: u64,
@@ -104,36 +101,14 @@ fn look_up<W: Width, T: Element, F: Fn(View<'_, T>) -> bool>(
     }
 }
 
-/// Validates the table whose header is at `pos`, walks over its items, and looks up `hash`.
+/// Validates the table whose header is at `pos`, iterates over its items, and looks up `hash`.
 ///
-/// The items of the table must be in the range.
-///
-/// The contract is for all bytes, and for any results of the comparison. Each item of the walk
-/// is valid and inside the bytes. The lookup finds no item, or one that the comparison accepted.
-/// It reads at most ceil(buckets / 16) strides of sixteen control bytes.
-///
-/// # Requires
-///
-/// - The header at `pos` ends inside `bytes`.
-/// - `pos` is a multiple of the size of a word.
-/// - The range ends at or after its start, and at or before `pos`.
-/// - `cmp` can be called on each item of the table.
+/// The items must be in the range, which must end at or before `pos`.
 ///
 /// # Errors
 ///
 /// - `Verify`: the bytes are not a valid table. It has the first fault.
-/// - `Memory`: the table is valid and has items, and memory for their positions could not be
-///   allocated.
-///
-/// # Examples
-///
-/// ```rust
-/// // Looks up a hash in that table, with a comparison that accepts every item.
-/// fn look(alloc: Global, bytes: &[u8; 60], hash: u64) -> Result<TableReport, LookError> {
-///     let range = PartRange { lo: 0, hi: 48 };
-///     look_over::<Narrow, Entry<u32, u32>, _>(alloc, bytes, 48, range, hash, |_| true)
-/// }
-/// ```
+/// - `Memory`: memory for the positions of the items could not be allocated.
 pub fn look_over<W: Width, T: Element, F: Fn(View<'_, T>) -> bool>(
     alloc: Global,
     bytes: &[u8],

@@ -20,9 +20,7 @@ pub enum ListError {
     /// The list can't be written.
     #[error("{0}")]
     Write(WriteError<NoMemory>),
-    /// The list was written, and memory for the positions could not be allocated.
-    ///
-    /// It is never `LookError::Verify`, since the written bytes are valid.
+    /// Memory for the positions of the written list could not be allocated. Never `Verify`.
     #[error("{0}")]
     Look(LookError),
 }
@@ -45,46 +43,10 @@ impl From<LookError> for ListError {
     }
 }
 
-/// Writes a list of `len` items as a table, validates it, walks over it, and looks up `hash`.
+/// Writes a list of `len` items as a table, validates it, iterates over it, and looks up `hash`.
 ///
-/// Each item has the next of the hashes. The table follows the bytes that the writer already has,
-/// and the header follows the table.
-///
-/// - The appended bytes are the table, zeros up to the header's alignment, and the header.
-/// - They are valid.
-/// - The walk visits each item once, and nothing else.
-/// - The lookup finds the first inserted item that the comparison accepts, and returns `None` if
-///   there is no such item. This is under two conditions: the comparison depends on the item alone,
-///   and accepts only items with the hash `hash`.
-/// - The lookup reads at most ceil(buckets / 16) strides of sixteen control bytes.
-///
-/// # Requires
-///
-/// - Both iterators can be advanced.
-/// - `cmp` can be called on each valid item.
-///
-/// # Errors
-///
-/// - `Write`: the list can't be written. It has the error of `write_list`.
-/// - `Look(LookError::Memory)`: the list has items, and memory for their positions could not be
-///   allocated.
-///
-/// # Examples
-///
-/// ```rust
-/// let items = [10u8, 20, 30];
-/// let hashes = [2u64, 2, 5];
-/// let result = write_and_look_over::<W, u8, &u8, _, _, _>(
-///     alloc,
-///     items.iter(),
-///     hashes.iter().copied(),
-///     3,
-///     (1, 1),
-///     &mut writer,
-///     2,
-///     |item| item.to_native() > 10,
-/// );
-/// ```
+/// Each item has the next of the hashes. The lookup finds the first inserted item that `cmp`
+/// accepts, if `cmp` depends only on the item and accepts only items with the hash `hash`.
 pub fn write_and_look_over<
     W: Width,
     U: Serialize<VecWriter, W>,

@@ -17,38 +17,8 @@ pub struct WrittenList {
 
 /// Writes a list of `len` items as a table, followed by its aligned header.
 ///
-/// Each item has the next of the hashes. The writer may be of any type. By the law
-/// `written_lists_represent`, the table is valid in any archive that has the written bytes,
-/// and its walk visits the home bucket of each item once.
-///
-/// # Requires
-///
-/// - Both iterators can be advanced.
-///
-/// # Errors
-///
-/// - `InvalidLoadFactor`: the load factor isn't above 0 and at most 1.
-/// - `CapacityTooLarge`: the capacity is above `W::MAX_CAPACITY`.
-/// - `Memory`: `len` isn't 0, and memory for placing the items could not be allocated.
-/// - `IteratorLengthMismatch`: the number of items isn't `len`, or else the number of hashes isn't.
-///   The number is counted up to `len + 1`.
-/// - The error of the first item or piece that fails.
-/// - The error of appending zeros up to the header's alignment.
-/// - `DistanceTooLarge`: the distance to the table doesn't fit in the width.
-/// - The error of appending the header.
-///
-/// # Examples
-///
-/// ```rust
-/// let wrote = write_list::<W, _, u8, &u8, _, _>(
-///     alloc,
-///     items.iter(),
-///     hashes.iter().copied(),
-///     3,
-///     (1, 1),
-///     &mut writer,
-/// );
-/// ```
+/// Each item has the next of the hashes. Fails with the errors of `serialize_from_iter` of tables,
+/// of appending the zeros before the header, with `DistanceTooLarge`, or of appending the header.
 pub fn write_list<
     W: Width,
     S: Writer,
