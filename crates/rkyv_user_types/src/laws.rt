@@ -1,7 +1,7 @@
 //! Laws of `PairEntry` and `TupleEntry`.
 //!
-//! They say by which parts a value is archived, represented, compared and hashed, with which errors
-//! it fails to deserialize, and what its clones are.
+//! They state by which parts a value is archived, represented, compared and hashed, with which
+//! errors it fails to deserialize, and how it is cloned.
 
 ghost use Rattle.std.specs.Prelude.{◌&&◌, ◌++◌, ◌↔◌, ◌≡◌};
 ghost use Rattle.rkyv_base.specs.{SameFormat, SameValues, pair_format, written_as};

@@ -56,16 +56,6 @@ pub trait AsPair {
 }
 
 /// A type that is rebuilt from its two parts by deserialization.
-///
-/// # Examples
-///
-/// ```rust
-/// impl FromPair for Point {
-///     fn from_pair(x: i32, y: i32) -> Point {
-///         Point { x, y }
-///     }
-/// }
-/// ```
 pub trait FromPair: AsPair {
     /// Returns a value with these parts.
     fn from_pair(first: Self::First, second: Self::Second) -> Self
@@ -73,16 +63,6 @@ pub trait FromPair: AsPair {
 }
 
 /// A value that is archived, hashed and compared as the pair of its parts.
-///
-/// # Examples
-///
-/// ```rust
-/// let point = PairEntry(Point { x: -2, y: 3 });
-///
-/// let bytes = to_bytes(rt.alloc(), &point)?;
-/// let root = access::<Entry<i32, i32>>(bytes.as_slice())?;
-/// let back: PairEntry<Point> = Entry::<i32, i32>::deserialize(rt.alloc(), root)?;
-/// ```
 #[derive(Clone, Copy, Debug, Drop)]
 pub struct PairEntry<T>(pub T);
 

@@ -47,20 +47,6 @@ pub trait AsTuple {
 }
 
 /// A type that is rebuilt from its tuple by deserialization.
-///
-/// # Examples
-///
-/// ```rust
-/// impl FromTuple for Pixel {
-///     fn from_tuple(level: u8, place: (u16, u16)) -> Pixel {
-///         Pixel {
-///             level,
-///             x: place.0,
-///             y: place.1,
-///         }
-///     }
-/// }
-/// ```
 pub trait FromTuple: AsTuple {
     /// Returns a value with these parts.
     fn from_tuple(first: Self::First, second: Self::Second) -> Self
@@ -69,13 +55,8 @@ pub trait FromTuple: AsTuple {
 
 /// A value that is archived, hashed and compared as the tuple of its parts.
 ///
-/// # Examples
-///
-/// ```rust
-/// let bytes = to_bytes(rt.alloc(), &pixel)?;
-/// let root = access::<Entry<u8, Entry<u16, u16>>>(bytes.as_slice())?;
-/// let back: TupleEntry<Pixel> = Entry::<u8, Entry<u16, u16>>::deserialize(rt.alloc(), root)?;
-/// ```
+/// Three parts are nested pairs, each padded to its own alignment, so a struct that rkyv derives
+/// may be smaller.
 #[derive(Clone, Copy, Debug, Drop)]
 pub struct TupleEntry<T>(pub T);
 
