@@ -26,14 +26,12 @@ use rkyv_base::{
 use rkyv_collections::{ArchivedHashMap, FxHasher64, HashMapOf, MapPairs, NativeKey, Query};
 use std::alloc::{AllocError, Global};
 
-/// Appends the text and a line feed.
 pub(crate) fn push_line(out: &mut String, text: &str) -> Result<(), AllocError>
     ensures { AppendsText result out.old out.new (line text.now) }
 {
     writeln!(out, "{text}")
 }
 
-/// Validates the archive of a map, and returns the number of its pairs.
 fn check_map<P: Printable, W: Width>(bytes: &[u8]) -> Result<usize, VerifyError>
     ensures { let m = parts_by W.word W.LIMIT P.spec P.text P.same P.key_calls in
         MatchResult result
@@ -44,7 +42,6 @@ fn check_map<P: Printable, W: Width>(bytes: &[u8]) -> Result<usize, VerifyError>
     Ok(ArchivedHashMap::of(root).len())
 }
 
-/// Returns a view of the map in a valid archive.
 fn map_of<'a, P: Printable, W: Width>(bytes: &'a [u8]) -> ArchivedHashMap<'a, P, P, FxHasher64, W>
     requires { let m = parts_by W.word W.LIMIT P.spec P.text P.same P.key_calls in
         IsMapArchive m bytes.now }
@@ -54,7 +51,6 @@ fn map_of<'a, P: Printable, W: Width>(bytes: &'a [u8]) -> ArchivedHashMap<'a, P,
     ArchivedHashMap::of(access_unchecked(bytes))
 }
 
-/// Appends the line of the value, or the line `none` without one.
 fn push_text<P: Printable>(value: Option<View<'_, P>>, out: &mut String) -> Result<(), AllocError>
     requires { IfSome value (IsValidView P.spec) }
     ensures { AppendsText result out.old out.new (value_line (option_map
@@ -69,7 +65,6 @@ fn push_text<P: Printable>(value: Option<View<'_, P>>, out: &mut String) -> Resu
     }
 }
 
-/// Appends the line of the value that a lookup of the key finds, or the line `none`.
 fn push_found<P: Printable, W: Width, Q: Query<P>>(
     bytes: &[u8],
     key: &Q,
@@ -87,7 +82,6 @@ fn push_found<P: Printable, W: Width, Q: Query<P>>(
     push_text(map_of::<P, W>(bytes).get(key), out)
 }
 
-/// Appends the line of a pair: its key, a space and its value.
 fn push_pair<P: Printable>(
     key: View<'_, P>,
     value: View<'_, P>,
@@ -104,14 +98,12 @@ fn push_pair<P: Printable>(
     push_line(out, "")
 }
 
-/// Appends the line of the number of pairs.
 fn push_count(count: usize, out: &mut String) -> Result<(), AllocError>
     ensures { AppendsText result out.old out.new (line (codes "entries " ++ decimal count)) }
 {
     writeln!(out, "entries {count}")
 }
 
-/// Appends a line for each pair, in bucket order.
 fn push_lines<P: Printable, W: Width>(
     map: ArchivedHashMap<'_, P, P, FxHasher64, W>,
     out: &mut String,
@@ -125,7 +117,6 @@ fn push_lines<P: Printable, W: Width>(
     Ok(())
 }
 
-/// Appends the line of the number of pairs, then a line for each pair.
 fn push_map<P: Printable, W: Width>(bytes: &[u8], out: &mut String) -> Result<(), AllocError>
     requires { let m = parts_by W.word W.LIMIT P.spec P.text P.same P.key_calls in
         IsMapArchive m bytes.now }
@@ -137,7 +128,6 @@ fn push_map<P: Printable, W: Width>(bytes: &[u8], out: &mut String) -> Result<()
     push_lines(map, out)
 }
 
-/// Returns the number of keys that a lookup doesn't find in their own bucket.
 fn count_misplaced<P: Printable, W: Width>(bytes: &[u8]) -> usize
     requires { let m = parts_by W.word W.LIMIT P.spec P.text P.same P.key_calls in
         IsMapArchive m bytes.now }
@@ -147,7 +137,6 @@ fn count_misplaced<P: Printable, W: Width>(bytes: &[u8]) -> usize
     map_of::<P, W>(bytes).misplaced()
 }
 
-/// Writes the archive of the pairs.
 fn build_map<A: NativeKey<A::Archived> + Serialize<VecWriter, W>, W: Width>(
     alloc: Global,
     pairs: &[(A, A)],
@@ -185,15 +174,7 @@ pub fn check(form: Form, bytes: &[u8]) -> Result<usize, VerifyError>
 
 /// Appends the line of the value that a lookup of the key finds, or the line `none`.
 ///
-/// A key of the other kind is never found.
-///
-/// # Requires
-///
-/// - The bytes are a valid archive of the form.
-///
-/// # Errors
-///
-/// - `AllocError`: `out` fails to allocate. Its bytes are unspecified then.
+/// A key of the other kind is never found. After `AllocError`, the bytes of `out` are unspecified.
 pub fn push_value(
     form: Form,
     bytes: &[u8],
@@ -222,15 +203,7 @@ pub fn push_value(
 
 /// Appends the line of the number of pairs, then the line of each pair in bucket order.
 ///
-/// The line of a pair is its key, a space and its value.
-///
-/// # Requires
-///
-/// - The bytes are a valid archive of the form.
-///
-/// # Errors
-///
-/// - `AllocError`: `out` fails to allocate. Its bytes are unspecified then.
+/// A pair's line is its key, a space and its value. After `AllocError`, `out` is unspecified.
 pub fn push_pairs(form: Form, bytes: &[u8], out: &mut String) -> Result<(), AllocError>
     requires { IsArchive form bytes.now }
     ensures { AppendsText result out.old out.new (listing form bytes.now) }
@@ -243,11 +216,7 @@ pub fn push_pairs(form: Form, bytes: &[u8], out: &mut String) -> Result<(), Allo
     }
 }
 
-/// Returns the number of keys that a lookup doesn't find in their own bucket.
-///
-/// # Requires
-///
-/// - The bytes are a valid archive of the form.
+/// Counts the keys that their own lookup doesn't find.
 pub fn misplaced(form: Form, bytes: &[u8]) -> usize
     requires { IsArchive form bytes.now }
     ensures { result ≡ misplaced_count form bytes.now }
@@ -266,7 +235,7 @@ pub fn misplaced(form: Form, bytes: &[u8]) -> usize
 ///
 /// - `Memory`: the scratch space of the root fails to allocate.
 /// - The errors of a map's `serialize_from_iter`, in its order.
-/// - `TextTooLong`: a text is too long for the width.
+/// - `TextTooLong`: a string is too long for the width.
 /// - `PositionTooLarge`: the archive would be longer than the limit of the width.
 /// - `Writer`: the vector of the archive fails to allocate.
 /// - `DistanceTooLarge`: a distance doesn't fit the width.

@@ -23,41 +23,34 @@ use crate::script::{Command, read_command};
 use rkyv_base::{NoMemory, VerifyError, WriteError};
 use std::alloc::{AllocError, Global};
 
-/// The output of a command that needs an archive, if there is none.
 const NO_ARCHIVE: &str = "error 11 NoArchive";
 
-/// The output of a line that is no command.
 const BAD_LINE: &str = "error 10 BadLine";
 
-/// The bytes of an archive.
-///
-/// `built_len` is the length of the list when it was built, or `None` after `check`. No code reads
-/// it: the contracts relate the archive to the list by it.
+/// The bytes of an archive. Only contracts read `built_len`: the length of the list when it
+/// was built, or `None` after `check`.
 #[derive(Drop)]
 struct Stored {
     bytes: Vec<u8>,
     built_len: Option<usize>,
 }
 
-/// The state of a script. Texts are borrowed from the script.
+/// The state of a script. Its strings are borrowed from the script.
 #[derive(Drop)]
 pub struct Dict<'a> {
     bits: ArchiveWidth,
     load_factor: (usize, usize),
     list: PairList<'a>,
     archive: Option<Stored>,
-    // A built archive was built from at most as many pairs as the list has.
     ghost built_in_list: { ForSome archive (λ a. ForSome a.built_len (λ n. n ≤ list_len list)) },
 }
 
-/// Appends the line of a validation error.
 fn push_verify_error(out: &mut String, error: &VerifyError) -> Result<(), AllocError>
     ensures { AppendsText result out.old out.new (verify_error_line error.now) }
 {
     writeln!(out, "refused {}", verify_error_text(error))
 }
 
-/// Appends the line of a write error.
 fn push_cause(out: &mut String, cause: &WriteError<NoMemory>) -> Result<(), AllocError>
     ensures { AppendsText result out.old out.new (error_line cause.now) }
 {
@@ -81,7 +74,6 @@ impl<'a> Dict<'a> {
         }
     }
 
-    /// Returns the form of the archive.
     fn form(&self) -> Form
         ensures { result ≡ form_of (state_of self.now) }
     {
@@ -91,7 +83,6 @@ impl<'a> Dict<'a> {
         }
     }
 
-    /// Appends the output of `hex`.
     fn push_hex(&self, out: &mut String) -> Result<(), AllocError>
         ensures { AppendsText result out.old out.new (archive_output hex_line
             (state_of self.now).archive) }
@@ -103,7 +94,6 @@ impl<'a> Dict<'a> {
         push_line(out, "")
     }
 
-    /// Appends the output of `get`.
     fn push_get(&self, key: Key<'_>, out: &mut String) -> Result<(), AllocError>
         requires { IsSound (state_of self.now) }
         ensures { let s = state_of self.now in let key = lookup_key key.entry in
@@ -116,7 +106,6 @@ impl<'a> Dict<'a> {
         archives::push_value(self.form(), archive.bytes.as_slice(), key, out)
     }
 
-    /// Appends the output of `list`.
     fn push_list(&self, out: &mut String) -> Result<(), AllocError>
         requires { IsSound (state_of self.now) }
         ensures { let s = state_of self.now in
@@ -141,7 +130,6 @@ impl<'a> Dict<'a> {
         writeln!(out, "misplaced {count}")
     }
 
-    /// Archives the list, and appends the output of `build`.
     fn build(&mut self, alloc: Global, out: &mut String) -> Result<(), AllocError>
         ensures { OnOk result (AppendsSome (string_bytes out.old) (string_bytes out.new) (λ printed.
             StepsTo (state_of self.old) build_archive printed (state_of self.new))) }
@@ -161,7 +149,6 @@ impl<'a> Dict<'a> {
         }
     }
 
-    /// Keeps the bytes as the archive if they are valid, and appends the output of `check`.
     fn check(&mut self, bytes: Vec<u8>, out: &mut String) -> Result<(), AllocError>
         ensures { OnOk result (AppendsSome (string_bytes out.old) (string_bytes out.new) (λ printed.
             StepsTo (state_of self.old) (check_archive bytes.items) printed
@@ -179,7 +166,6 @@ impl<'a> Dict<'a> {
         }
     }
 
-    /// Sets the form, and empties the list and the archive.
     fn empty(&mut self, alloc: Global, kind: Kind, bits: ArchiveWidth)
         ensures { state_of self.new ≡ emptied kind bits (state_of self.old) }
     {
@@ -188,7 +174,6 @@ impl<'a> Dict<'a> {
         self.list = PairList::new(alloc, kind);
     }
 
-    /// Executes a command, and appends its output.
     fn apply(
         &mut self,
         alloc: Global,
@@ -228,15 +213,8 @@ impl<'a> Dict<'a> {
 
     /// Executes a line, and appends its output.
     ///
-    /// # Requires
-    ///
-    /// - The archive of the state, if any, is valid (`IsSound`). That is so after `new`, and after
-    ///   each line that succeeds.
-    ///
-    /// # Errors
-    ///
-    /// - `AllocError`: an allocation fails, and the line isn't empty. The state and the bytes of
-    ///   `out` are unspecified then.
+    /// Requires that the archive, if any, is valid, as after `new` and each line that succeeds.
+    /// After `AllocError`, the state and the bytes of `out` are unspecified.
     pub fn execute(
         &mut self,
         alloc: Global,

@@ -1,13 +1,13 @@
 //! The form of a dictionary's archive, and its keys.
 //!
-//! A form is a kind, numbers or texts, and a width.
+//! A form is a kind, integers or strings, and a width.
 
 /// The type of keys and values.
 #[derive(Clone, Copy, Debug, PartialEq, Eq)]
 pub enum Kind {
-    /// Numbers of 32 bits.
+    /// Integers of 32 bits.
     Num,
-    /// Texts.
+    /// Strings.
     Text,
 }
 
@@ -32,8 +32,8 @@ pub struct Form {
 /// The key of a lookup.
 #[derive(Clone, Copy, Debug, PartialEq, Eq)]
 pub enum Key<'a> {
-    /// A key of a map of numbers.
+    /// A key of a map of integers.
     Number(u32),
-    /// A key of a map of texts.
+    /// A key of a map of strings.
     Text(&'a str),
 }

@@ -7,7 +7,6 @@ ghost use Rattle.std.specs.Prelude.{if◌then◌else◌, length, string_bytes};
 
 use std::alloc::{AllocError, Global};
 
-/// Appends the byte as two lower case digits.
 #[tactic(auto, using(std::proofs::lemmas::Fmt::hex_byte))]
 fn push_byte(text: &mut String, byte: u8) -> Result<(), AllocError>
     ensures { OnOk result (string_bytes text.new ≡ string_bytes text.old ++ hex_of_byte byte) }
@@ -15,11 +14,7 @@ fn push_byte(text: &mut String, byte: u8) -> Result<(), AllocError>
     write!(text, "{byte:02x}")
 }
 
-/// Appends each byte as two lower case digits.
-///
-/// # Errors
-///
-/// - `AllocError`: `text` fails to allocate. Its bytes are unspecified then.
+/// Appends each byte as two lower case digits. After `AllocError`, `text` is unspecified.
 pub fn push_hex(text: &mut String, bytes: &[u8]) -> Result<(), AllocError>
     ensures { OnOk result (string_bytes text.new ≡ string_bytes text.old ++ hex_of bytes.now) }
 {
@@ -29,7 +24,6 @@ pub fn push_hex(text: &mut String, bytes: &[u8]) -> Result<(), AllocError>
     Ok(())
 }
 
-/// Returns the value of a hexadecimal digit of either case.
 fn digit(glyph: u8) -> Option<u8>
     ensures value { result
         ≡ (if is_ascii_hexdigit glyph then Some (digit_value glyph) else None) }
@@ -43,7 +37,6 @@ fn digit(glyph: u8) -> Option<u8>
     }
 }
 
-/// Returns the byte of two hexadecimal digits.
 #[tactic(auto, unfolding(crate::specs::Hex::byte_of_digits))]
 fn byte_of(high: u8, low: u8) -> Option<u8>
     ensures { result ≡ byte_of_digits high low }
@@ -55,9 +48,7 @@ fn byte_of(high: u8, low: u8) -> Option<u8>
 
 /// Returns the bytes of pairs of digits of either case, or `None` if the input isn't such pairs.
 ///
-/// # Errors
-///
-/// - `AllocError`: the vector of the bytes fails to allocate. There are at least two digits then.
+/// Fails with `AllocError` only if there are at least two digits.
 pub fn read_hex(alloc: Global, digits: &[u8]) -> Result<Option<Vec<u8>>, AllocError>
     ensures bytes { IfOk result (λ bytes.
         option_map (λ v. v.items) bytes ≡ bytes_of_digits digits.now) }

@@ -44,14 +44,12 @@ pub fn errors_are_converted()
     ensures { (a : _) (e : _) → ⟦<RunError as From<AllocError>>⟧.from_gives a e ↔ (e ≡ Memory) }
 {}
 
-/// States the texts that `Display` writes for the errors of a run.
+/// States the strings that `Display` writes for the errors of a run.
 pub fn errors_are_displayed()
     ensures { (e : RunError) → ⟦<RunError as fmt::Display>⟧.output e ≡ Some (message_of e) }
 {}
 
 /// States that two values are equal by `==` if and only if they are the same.
-///
-/// Two keys are equal if and only if they are the same number or the same text.
 pub fn equal_are_the_same<'a>()
     ensures kind { (a b : Kind) → (⟦<Kind as PartialEq>⟧.eq a b ≡ true) ↔ (a ≡ b) }
     ensures width { (a b : ArchiveWidth) → (⟦<ArchiveWidth as PartialEq>⟧.eq a b ≡ true) ↔ (a ≡ b) }

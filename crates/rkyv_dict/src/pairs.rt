@@ -9,9 +9,9 @@ use std::alloc::{AllocError, Global};
 /// Pairs of keys and values of one kind, in insertion order.
 #[derive(Drop)]
 pub enum PairList<'a> {
-    /// The pairs of a map of numbers.
+    /// The pairs of a map of integers.
     Numbers(Vec<(u32, u32)>),
-    /// The pairs of a map of texts.
+    /// The pairs of a map of strings.
     Texts(Vec<(&'a str, &'a str)>),
 }
 
@@ -46,11 +46,9 @@ impl<'a> PairList<'a> {
         }
     }
 
-    /// Appends a pair of numbers to a list of numbers, and leaves a list of texts unchanged.
+    /// Appends a pair to a list of integers, and leaves a list of strings unchanged.
     ///
-    /// # Errors
-    ///
-    /// - `AllocError`: a list of numbers fails to allocate; its pairs are unchanged then.
+    /// After `AllocError`, the pairs are unchanged.
     pub fn put_numbers(&mut self, key: u32, value: u32) -> Result<(), AllocError>
         ensures added { OnOk result
             (pairs_of self.new ≡ with_numbers (pairs_of self.old) key value) }
@@ -66,11 +64,9 @@ impl<'a> PairList<'a> {
         }
     }
 
-    /// Appends a pair of texts to a list of texts, and leaves a list of numbers unchanged.
+    /// Appends a pair to a list of strings, and leaves a list of integers unchanged.
     ///
-    /// # Errors
-    ///
-    /// - `AllocError`: a list of texts fails to allocate; its pairs are unchanged then.
+    /// After `AllocError`, the pairs are unchanged.
     pub fn put_texts(&mut self, key: &'a str, value: &'a str) -> Result<(), AllocError>
         ensures added { OnOk result
             (pairs_of self.new ≡ with_texts (pairs_of self.old) key.now value.now) }

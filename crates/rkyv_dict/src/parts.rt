@@ -1,4 +1,4 @@
-//! The keys and values of a dictionary's archives, and their text.
+//! The keys and values of a dictionary's archives, and how they are printed.
 
 ghost use Rattle.std.specs.Prelude.{ℕ, List};
 ghost use Rattle.rkyv_base.specs.{IsValidView, text_at, text_spec};
@@ -11,18 +11,10 @@ use std::alloc::AllocError;
 
 /// A key or a value in an archive.
 pub trait Printable: KeyElement {
-    // The text of the key or value at a position of the bytes.
+    // The bytes of the printed key or value at a position of an archive.
     ghost text: { List ℕ → ℕ → List ℕ };
 
-    /// Appends the text of the key or value.
-    ///
-    /// # Requires
-    ///
-    /// - A valid key or value is at the position of the view.
-    ///
-    /// # Errors
-    ///
-    /// - `AllocError`: `out` fails to allocate. Its bytes are unspecified then.
+    /// Appends the printed key or value. After `AllocError`, the bytes of `out` are unspecified.
     fn push(view: View<'_, Self>, out: &mut String) -> Result<(), AllocError>
         requires { IsValidView Self.spec view }
         ensures { AppendsText result out.old out.new (at_view text view.entry) };

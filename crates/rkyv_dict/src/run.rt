@@ -68,7 +68,6 @@ impl From<AllocError> for RunError {
 /// The most bytes that one read asks for, and the number of buffered bytes that causes a write.
 const PIECE: usize = 65_536;
 
-/// The greatest number of reads.
 const MOST_READS: u64 = 9_223_372_036_854_775_807;
 
 /// Appends the bytes of one read to the input, and returns `true` only at the reader's end.
@@ -81,7 +80,6 @@ fn read_piece<R: Read>(
     ensures gathers { OnOk result (Gathers (R.remaining reader.old) (R.remaining reader.new)
         input.old.items input.new.items) }
     ensures end { IfOk result (λ ended. IsTrue ended → IsAtEnd (R.remaining reader.new)) }
-    // A read that isn't at the end appends at least one byte.
     ensures more { IfOk result (λ ended. ended ≡ false → vec_len input.old < vec_len input.new) }
     ensures causes { IfErr result (λ e. e ≢ RunError.Write) }
 {
@@ -95,14 +93,12 @@ fn read_piece<R: Read>(
     }
 }
 
-/// Returns a vector of `len` bytes.
 fn room(alloc: Global, len: usize) -> Result<Vec<u8>, AllocError>
     ensures { IfOk result (λ v. vec_len v ≡ len) }
 {
     vec![in alloc; 0u8; len]
 }
 
-/// Reads to the end of the reader.
 #[tactic(auto, using(crate::proofs::Writing::gathers_more))]
 fn read_input<R: Read>(alloc: Global, reader: &mut R) -> Result<Vec<u8>, RunError>
     ensures whole { IfOk result (λ input.
@@ -120,7 +116,6 @@ fn read_input<R: Read>(alloc: Global, reader: &mut R) -> Result<Vec<u8>, RunErro
     Err(RunError::Read)
 }
 
-/// Writes the whole piece.
 fn write_piece<W: Write>(writer: &mut W, piece: &[u8]) -> Result<(), RunError>
     ensures ok { OnOk result (Appends (W.contents writer.old) (W.contents writer.new) piece.now) }
     ensures front { OnErr result
@@ -153,7 +148,6 @@ fn write_much<W: Write>(writer: &mut W, buffered: &mut String) -> Result<(), Run
     Ok(())
 }
 
-/// Executes the script, and writes its output.
 fn write_output<W: Write>(alloc: Global, script: &[u8], writer: &mut W) -> Result<(), RunError>
     ensures ok { OnOk result
         (AppendsOutput (W.contents writer.old) (W.contents writer.new) script.now) }
@@ -181,25 +175,28 @@ fn write_output<W: Write>(alloc: Global, script: &[u8], writer: &mut W) -> Resul
 ///
 /// # Errors
 ///
-/// - `Read`: a read fails, or 9,223,372,036,854,775,807 reads meet no end. Nothing is written then.
+/// - `Read`: a read fails, or 9,223,372,036,854,775,807 reads meet no end.
 /// - `Memory`: an allocation fails.
 /// - `Write`: a write fails or writes no byte.
 ///
-/// A read or a write fails if it is interrupted, too: it isn't made again.
+/// An interrupted read or write isn't made again: it fails too.
 ///
-/// After `Memory` and `Write`, a prefix of the output of the first lines is written. After `Write`,
-/// at least one byte of that output isn't written.
+/// # Examples
+///
+/// ```rust
+/// let outcome = run(rt.alloc(), &mut rt.stdin(), &mut rt.stdout());
+/// if let Err(error) = &outcome {
+///     let _ = rt.eprintln(error);
+/// }
+/// ExitCode::from(exit_status(&outcome))
+/// ```
 pub fn run<R: Read, W: Write>(alloc: Global, reader: &mut R, writer: &mut W) -> Result<(), RunError>
-    // On success the bytes written are the output of the whole input, which is read to its end.
     ensures ok { OnOk result (IfSome (R.remaining reader.old) (λ script.
         AppendsOutput (W.contents writer.old) (W.contents writer.new) script)) }
     ensures end { OnOk result (IsAtEnd (R.remaining reader.new)) }
-    // After `Read` the writer is unchanged.
     ensures read { IsErrOf result RunError.Read → writer.new ≡ writer.old }
-    // After an error, a prefix of the output of the first lines is written.
     ensures front { OnErr result (IfSome (R.remaining reader.old) (λ script.
         AppendsBeginning (W.contents writer.old) (W.contents writer.new) script)) }
-    // After `Write`, it is a proper prefix, and the input is read to its end.
     ensures write { IsErrOf result RunError.Write → IfSome (R.remaining reader.old) (λ script.
         AppendsProperBeginning (W.contents writer.old) (W.contents writer.new) script) }
     ensures write_end { IsErrOf result RunError.Write → IsAtEnd (R.remaining reader.new) }

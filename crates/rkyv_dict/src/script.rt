@@ -14,7 +14,7 @@ use crate::words::{
 use std::alloc::{AllocError, Global};
 use std::str;
 
-/// The command of a line. Texts are borrowed from the line.
+/// The command of a line. Its strings are borrowed from the line.
 #[derive(Debug, Drop)]
 pub enum Command<'a> {
     /// Sets the kind, and empties the list and the archive.
@@ -23,9 +23,9 @@ pub enum Command<'a> {
     SetWidth(ArchiveWidth),
     /// Sets the load factor: its numerator and its denominator.
     SetLoadFactor(u64, u64),
-    /// Appends a pair of numbers to the list: its key and its value.
+    /// Appends a pair of integers to the list: its key and its value.
     PutNumbers(u32, u32),
-    /// Appends a pair of texts to the list: its key and its value.
+    /// Appends a pair of strings to the list: its key and its value.
     PutTexts(&'a str, &'a str),
     /// Archives the list.
     Build,
@@ -37,11 +37,10 @@ pub enum Command<'a> {
     Get(Key<'a>),
     /// Shows the pairs of the archive.
     ListPairs,
-    /// Counts the keys of the archive that a lookup doesn't find in their own bucket.
+    /// Counts the keys of the archive that their own lookup doesn't find.
     Audit,
 }
 
-/// Returns the command if there are no arguments.
 #[tactic(auto, using(crate::proofs::Cuts::without_arguments_of_more))]
 fn without_arguments<'a>(command: Command<'a>, arguments: Option<&str>) -> Option<Command<'a>>
     ensures { option_map command_request result
@@ -53,21 +52,18 @@ fn without_arguments<'a>(command: Command<'a>, arguments: Option<&str>) -> Optio
     }
 }
 
-/// Parses the arguments of `kind`.
 fn set_kind(arguments: Option<&str>) -> Option<Command<'_>>
     ensures { option_map command_request result ≡ kind_request (words_left arguments.entry) }
 {
     Some(Command::SetKind(kind_by_name(one_word(arguments)?)?))
 }
 
-/// Parses the arguments of `width`.
 fn set_width(arguments: Option<&str>) -> Option<Command<'_>>
     ensures { option_map command_request result ≡ width_request (words_left arguments.entry) }
 {
     Some(Command::SetWidth(bits_by_name(one_word(arguments)?)?))
 }
 
-/// Parses the arguments of `lf`: two numbers of 64 bits.
 fn set_load_factor(arguments: Option<&str>) -> Option<Command<'_>>
     ensures { option_map command_request result ≡ load_factor_request (words_left arguments.entry) }
 {
@@ -75,10 +71,9 @@ fn set_load_factor(arguments: Option<&str>) -> Option<Command<'_>>
     Some(Command::SetLoadFactor(numerator, denominator))
 }
 
-/// The greatest key and the greatest value of a map of numbers.
+/// The greatest key and the greatest value of a map of integers.
 const MOST_NUMBER: u64 = 4_294_967_295;
 
-/// Parses the arguments of `put`: a key and a value of the kind.
 fn put(kind: Kind, arguments: Option<&str>) -> Option<Command<'_>>
     ensures { option_map command_request result ≡ put_request kind (words_left arguments.entry) }
 {
@@ -94,7 +89,6 @@ fn put(kind: Kind, arguments: Option<&str>) -> Option<Command<'_>>
     }
 }
 
-/// Parses the argument of `get`: a key of the kind.
 fn get(kind: Kind, arguments: Option<&str>) -> Option<Command<'_>>
     ensures { option_map command_request result ≡ get_request kind (words_left arguments.entry) }
 {
@@ -107,7 +101,6 @@ fn get(kind: Kind, arguments: Option<&str>) -> Option<Command<'_>>
     }
 }
 
-/// Parses the argument of `check`: pairs of hexadecimal digits.
 #[tactic(auto, using(crate::proofs::Cuts::needs_memory))]
 fn check(alloc: Global, arguments: Option<&str>) -> Result<Option<Command<'_>>, AllocError>
     ensures request { IfOk result (λ command.
@@ -123,7 +116,6 @@ fn check(alloc: Global, arguments: Option<&str>) -> Result<Option<Command<'_>>, 
     }
 }
 
-/// Returns the command of the verb and its arguments.
 #[tactic(auto, unfolding(crate::specs::Script::request_by), using(crate::proofs::Cuts::needs_memory_as))]
 fn by_verb<'a>(
     alloc: Global,
@@ -153,13 +145,11 @@ fn by_verb<'a>(
 /// Parses a line that isn't empty; returns `None` for a bad line.
 ///
 /// - One space separates two words.
-/// - A number is `0`, or decimal digits without a leading zero.
-/// - A text is a word of at least one byte.
+/// - An integer is `0`, or decimal digits without a leading zero.
+/// - A string is a word of at least one byte.
 /// - Bytes are pairs of hexadecimal digits of either case.
 ///
-/// # Errors
-///
-/// - `AllocError`: the bytes of `check` fail to allocate. The line is `check` and one word then.
+/// Fails with `AllocError` only at `check` and one word.
 #[tactic(auto, unfolding(crate::specs::Script::request_of), using(crate::proofs::Texts::utf8_yes, crate::proofs::Texts::utf8_no))]
 pub fn read_command(
     alloc: Global,

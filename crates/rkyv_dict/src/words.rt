@@ -9,7 +9,6 @@ ghost use Rattle.std.specs.Prelude.{◌≡◌, ◌<◌, ◌≤◌, ◌==◌, ◌
 
 use crate::form::{ArchiveWidth, Kind};
 
-/// Returns the index of the first byte `separator`.
 fn pos_of(bytes: &[u8], separator: u8) -> Option<usize>
     ensures { result ≡ position (λ b. b == separator) bytes.now }
 {
@@ -28,7 +27,7 @@ pub fn cut(bytes: &[u8], separator: u8) -> (&[u8], Option<&[u8]>)
     }
 }
 
-/// Returns the text before the first space, and the text after it.
+/// Returns the string before the first space, and the string after it.
 pub fn cut_word(text: &str) -> (&str, Option<&str>)
     ensures { words_of text.now ≡ result.0.now ∷ words_left result.1 }
 {
@@ -63,21 +62,18 @@ pub fn two_words(arguments: Option<&str>) -> Option<(&str, &str)>
     }
 }
 
-/// Returns whether each byte is a decimal digit.
 fn all_digits(word: &[u8]) -> bool
     ensures { result ≡ list_all is_ascii_digit word.now }
 {
     word.iter().all(|b| b.is_ascii_digit())
 }
 
-/// Returns whether the word is a number in decimal digits without a leading zero.
 fn is_numeral(word: &[u8]) -> bool
     ensures { result ≡ is_numeral word.now }
 {
     all_digits(word) && !matches!(word, [] | [b'0', _, ..])
 }
 
-/// Returns the value of a decimal digit.
 fn digit(glyph: u8) -> u8
     requires { is_ascii_digit glyph ≡ true }
     ensures value { result ≡ digit_value glyph }
@@ -86,7 +82,7 @@ fn digit(glyph: u8) -> u8
     glyph - b'0'
 }
 
-/// Returns the number that the word represents, if it is at most `most`.
+/// Returns the integer that the word represents, if it is at most `most`.
 pub fn number(word: &[u8], most: u64) -> Option<u64>
     ensures value { result ≡ number_of most word.now }
     ensures small { IfSome result (λ n. n ≤ most) }
@@ -105,7 +101,7 @@ pub fn number(word: &[u8], most: u64) -> Option<u64>
     Some(value)
 }
 
-/// Returns the only argument as a number, if it is one of at most `most`.
+/// Returns the only argument as an integer, if it is one of at most `most`.
 pub fn one_number(arguments: Option<&str>, most: u64) -> Option<u64>
     ensures value { result ≡ parsed_by (number_of most) (one_of (words_left arguments.entry)) }
     ensures small { IfSome result (λ n. n ≤ most) }
@@ -113,7 +109,7 @@ pub fn one_number(arguments: Option<&str>, most: u64) -> Option<u64>
     number(one_word(arguments)?.as_bytes(), most)
 }
 
-/// Returns the two arguments as numbers, if they are two of at most `most`.
+/// Returns the two arguments as integers, if they are two of at most `most`.
 pub fn two_numbers(arguments: Option<&str>, most: u64) -> Option<(u64, u64)>
     ensures value { result ≡ parsed_by_both (number_of most) (two_of (words_left arguments.entry)) }
     ensures small { IfSome result (λ p. (p.0 ≤ most) × (p.1 ≤ most)) }
@@ -124,21 +120,20 @@ pub fn two_numbers(arguments: Option<&str>, most: u64) -> Option<(u64, u64)>
     Some((a, b))
 }
 
-/// Returns the word if it is a text: at least one byte.
 fn text(word: &str) -> Option<&str>
     ensures { option_copied result ≡ text_of word.now }
 {
     if word.is_empty() { None } else { Some(word) }
 }
 
-/// Returns the only argument as a text of at least one byte.
+/// Returns the only argument as a string of at least one byte.
 pub fn one_text(arguments: Option<&str>) -> Option<&str>
     ensures { option_copied result ≡ parsed_by text_of (one_of (words_left arguments.entry)) }
 {
     text(one_word(arguments)?)
 }
 
-/// Returns the two arguments as texts of at least one byte each.
+/// Returns the two arguments as strings of at least one byte each.
 pub fn two_texts(arguments: Option<&str>) -> Option<(&str, &str)>
     ensures { option_map (λ p. (p.0.now, p.1.now)) result
         ≡ parsed_by_both text_of (two_of (words_left arguments.entry)) }
