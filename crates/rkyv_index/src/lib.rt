@@ -1,26 +1,18 @@
 //! Archived index maps and index sets: hash maps and hash sets in insertion order.
 //!
-//! An index map is a row of entries in insertion order, and a table of their indices under
-//! the hashes of their keys. An index set is the index map of its keys to the unit value.
-//! `IndexMapOf` and `IndexSetOf` are the element types of the headers. `ArchivedIndexMap`
-//! and `ArchivedIndexSet` are a map and a set that are read.
+//! The pairs of a map are contiguous entries, in insertion order. Their indices are in a
+//! SwissTable, a hash table with a control byte for each bucket: seven bits of a hash, or empty. A
+//! lookup reads sixteen control bytes at a time. It begins at the hash modulo the capacity, which
+//! need not be a power of two, and continues by triangular probing. A set maps its keys to `()`.
 //!
-//! - To archive a list, wrap it in `OrderedPairs` or `OrderedItems`.
-//! - To archive from an iterator, `serialize_from_iter` writes a map or set and returns
-//!   its resolver.
-//! - To read, `ArchivedIndexMap::of` and `ArchivedIndexSet::of` decode the header at a view,
-//!   once for all lookups.
-//! - To look up, `get`, `get_full` and `get_index_of` take a query. In a map, `get_with`,
-//!   `get_full_with` and `get_index_of_with` also take a comparison.
-//! - To read by an index, `get_index` returns the pair or the key.
-//! - To walk over a map, `iter`, `keys` and `values` return iterators.
-//! - To write values in place, the module `map::in_place` has a table of the calls.
-//! - To compare, `==` and `eq_index` take an archived map or set.
-//! - To deserialize, `deserialize_pairs` and `deserialize_items` return lists.
-//! - To validate hashes, `misplaced` counts the keys that a lookup of their own doesn't find.
+//! To write, begin with `OrderedPairs` or `OrderedItems`, or for iterators `serialize_from_iter`.
+//! To read, begin with `ArchivedIndexMap::of` or `ArchivedIndexSet::of`, then `get`, `get_full`,
+//! `get_index`, `iter` or `deserialize_pairs`. The module `map::in_place` lists the calls that
+//! write values in place.
 //!
-//! `FxHasher64` takes no secret key, so it doesn't protect from chosen input.
-//! In an untrusted archive, a lookup may read all control bytes.
+//! The bytes are rkyv's. Unlike rkyv, validation checks that each index is below the length, and
+//! equal keys may be written. In an untrusted archive, a lookup may read all control bytes;
+//! `misplaced` counts the keys that lookups miss. `FxHasher64` doesn't protect from chosen keys.
 #![tactic(auto)]
 
 pub mod lists;

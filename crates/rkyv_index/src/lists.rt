@@ -27,8 +27,7 @@ use std::alloc::Global;
 
 /// A list of pairs that is archived as an index map under `FxHasher64` and the load factor 7 / 8.
 ///
-/// The pairs are inserted in order, and pairs with equal keys are kept. A lookup finds
-/// the first of them.
+/// Pairs with equal keys are all kept, and a lookup finds the first of them.
 ///
 /// # Examples
 ///
@@ -110,17 +109,7 @@ where
 
 /// A list of keys that is archived as an index set under `FxHasher64` and the load factor 7 / 8.
 ///
-/// The keys are inserted in order, and equal keys are kept. A lookup finds the first of them.
-///
-/// # Examples
-///
-/// ```rust
-/// // Archives words, in this order.
-/// fn write_words(alloc: Global) -> Result<Vec<u8>, Fail> {
-///     let list = OrderedItems(vec![in alloc; "red", "green", "blue"]?);
-///     Ok(to_bytes(alloc, &list)?)
-/// }
-/// ```
+/// Equal keys are all kept, and a lookup finds the first of them.
 #[derive(Debug, Drop, Eq, PartialEq)]
 pub struct OrderedItems<A>(pub Vec<A>);
 

@@ -31,14 +31,10 @@ pub struct IndexMapOf<K, V, H = FxHasher64, W = Narrow> {
     kinds: PhantomData<(K, V, H, W)>,
 }
 
-/// An index map of `K` to `V` under the hasher `H` that is read in an archive of the width `W`.
-///
-/// Its bytes are valid. It holds its decoded header, and the position of its first entry.
+/// An index map of `K` to `V` under the hasher `H`, read in an archive of the width `W`.
 pub struct ArchivedIndexMap<'a, K: HasSpec, V: HasSpec, H = FxHasher64, W: Word = Narrow> {
     pub(crate) view: View<'a, IndexMapOf<K, V, H, W>>,
-    // The decoded header of the table of indices.
     pub(crate) header: Decoded,
-    // The position of the first entry.
     pub(crate) begin: u64,
     ghost valid: { IsValidView (index_spec W.word
         (entry_spec K.spec V.spec)) view } by { viewable_prop

@@ -18,13 +18,7 @@ use std::alloc::Global;
 
 /// Writes a list of pairs, opens the archive, deserializes the index map and compares the lists.
 ///
-/// Returns `Ok(true)` if the archive is valid and the lists are `==`.
-/// The result is never `Ok(false)`.
-///
-/// # Errors
-///
-/// - `RoundTripError::Write`: the error of `to_bytes_in`.
-/// - `RoundTripError::Read`: the error of `deserialize_pairs`.
+/// Fails with the error of `to_bytes_in` or `deserialize_pairs`. The result is never `Ok(false)`.
 pub fn pairs_round_trip<
     W: IndexWidth,
     A: Serialize<VecWriter, W> + Drop,
@@ -54,13 +48,7 @@ where
 
 /// Writes a list of keys, opens the archive, deserializes the index set and compares the lists.
 ///
-/// Returns `Ok(true)` if the archive is valid and the lists are `==`.
-/// The result is never `Ok(false)`.
-///
-/// # Errors
-///
-/// - `RoundTripError::Write`: the error of `to_bytes_in`.
-/// - `RoundTripError::Read`: the error of `deserialize_items`.
+/// Fails with the error of `to_bytes_in` or `deserialize_items`. The result is never `Ok(false)`.
 pub fn items_round_trip<W: IndexWidth, A: Serialize<VecWriter, W> + Drop>(
     alloc: Global,
     items: &OrderedItems<A>,

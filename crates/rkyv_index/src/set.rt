@@ -25,10 +25,7 @@ pub struct IndexSetOf<K, H = FxHasher64, W = Narrow> {
     kinds: PhantomData<(K, H, W)>,
 }
 
-/// An index set of `K` under the hasher `H` that is read in an archive of the width `W`.
-///
-/// Its bytes are valid. It is the index map of its keys to the unit value, and holds its decoded
-/// header.
+/// An index set of `K` under the hasher `H`, read in an archive of the width `W`.
 pub struct ArchivedIndexSet<'a, K: HasSpec, H = FxHasher64, W: Word = Narrow> {
     pub(crate) map: ArchivedIndexMap<'a, K, (), H, W>,
 }

@@ -1,6 +1,6 @@
-//! Indices of entries as numbers of a width.
+//! Indices of entries as integers of a width.
 //!
-//! The items of an index map's table are such numbers.
+//! The items of an index map's table are such integers.
 
 ghost use Rattle.std.specs.Prelude.{◌≡◌, ◌<◌, ◌^◌};
 ghost use Rattle.std.proofs.Common.{refl};
@@ -10,18 +10,12 @@ ghost use Rattle.rkyv_index.specs.{CodesReadBack};
 
 use rkyv_base::{Narrow, Scalar, Wide, Width};
 
-/// A width whose numbers can be indices of entries.
-///
-/// The code of an encoded number is that number.
+/// A width whose integers can be indices of entries. Each integer is its own code.
 pub trait IndexWidth: Width<Place = Self::Index> {
-    /// The element of an index in an index map: a number of one word.
+    /// The element of an index in an index map: an integer of one word.
     type Index: Scalar;
 
-    /// Returns the number of the width that encodes `number`.
-    ///
-    /// # Requires
-    ///
-    /// - `number` fits in a word of the width.
+    /// Returns the integer of the width that encodes `number`.
     fn to_index(number: u64) -> Self::Index
         requires { number < 2 ^ bits Self.word }
         ensures { result ≡ Self.Index.encoding.value number };

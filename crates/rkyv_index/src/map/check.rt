@@ -33,7 +33,6 @@ fn buckets_begin<W: Width>(header: Decoded) -> usize
     header.controls_pos() - header.capacity() * W::ALIGN
 }
 
-/// Returns `true` only if `below` is and the index is below `len`.
 #[inline]
 fn and_below(below: bool, index: u64, len: usize) -> bool
     ensures { result ≡ true → (below ≡ true) × (index < len) }
@@ -41,9 +40,7 @@ fn and_below(below: bool, index: u64, len: usize) -> bool
     below & (index < len as u64)
 }
 
-/// Returns `true` only if each of the `count` indices from `begin` on is below `len`.
-///
-/// All of them are read, without a branch for each.
+/// Returns `true` only if the `count` indices from `begin` on are below `len`, without branches.
 fn all_below<W: Width>(bytes: &[u8], begin: usize, count: usize, len: usize) -> bool
     requires { begin + count * byte_len W.word ≤ length bytes.now }
     ensures { result ≡ true → AreBelow W.word bytes.now begin count len }
@@ -57,16 +54,8 @@ fn all_below<W: Width>(bytes: &[u8], begin: usize, count: usize, len: usize) -> 
 
 /// Checks that each index in the table at `pos` is below the length, and returns the length.
 ///
-/// First the indices of all buckets are read in a row, empty ones too. Those of full buckets are
-/// checked in bucket order if one is not below the length.
-///
-/// # Requires
-///
-/// - The bytes have a valid table of indices at `pos`.
-///
-/// # Errors
-///
-/// - `PlaceOutOfRange`: the first index that isn't below the length.
+/// The indices of all buckets are checked in bulk. If one fails, which may be in an empty bucket,
+/// the full buckets are checked in order. The first invalid index is a `PlaceOutOfRange`.
 pub(crate) fn check_indices<W: IndexWidth>(bytes: &[u8], pos: u64) -> Result<usize, VerifyError>
     requires { Viewable (table_spec W.word (stored_index_spec W.word)) bytes.now pos }
     ensures below { IfOk result (λ _. IndicesBelow W.word bytes.now (len_at W.word bytes.now pos)
@@ -91,15 +80,6 @@ pub(crate) fn check_indices<W: IndexWidth>(bytes: &[u8], pos: u64) -> Result<usi
 }
 
 /// Validates `len` entries from `begin` on, in order, with their parts from `lo` to `begin`.
-///
-/// # Requires
-///
-/// - The entries end inside the bytes, and `begin` is aligned for them.
-/// - `lo` is at most `begin`.
-///
-/// # Errors
-///
-/// - The first fault of the first entry that isn't valid.
 fn check_entries<T: Element>(
     bytes: &[u8],
     begin: u64,
@@ -133,7 +113,6 @@ pub(crate) fn decode_entries<W: Width>(bytes: &[u8], pos: u64) -> i128
     distance_target(at, W::read_distance(bytes, at as usize))
 }
 
-/// Returns the size of `len` entries in bytes.
 #[inline]
 fn entries_size(len: usize, size: usize) -> u128
     requires { size ≤ 1073741824 }
@@ -142,21 +121,9 @@ fn entries_size(len: usize, size: usize) -> u128
     len as u128 * size as u128
 }
 
-/// Validates the part of `len` entries of the index map at `pos`, and returns its end.
+/// Validates the contiguous entries of the index map at `pos`, in order, and returns their end.
 ///
-/// The part is inside the range, and begins at the position that the header has.
-/// Its entries are validated in order.
-///
-/// # Requires
-///
-/// - The header at `pos` ends inside the bytes.
-/// - The range ends at or before `pos`.
-///
-/// # Errors
-///
-/// - `OutOfRange`: the part isn't inside the range.
-/// - `Unaligned`: the part isn't aligned for its entries.
-/// - The first fault of the first entry that isn't valid.
+/// Fails with `OutOfRange`, `Unaligned`, or the first error of the first invalid entry.
 pub(crate) fn check_part<W: Width, T: Element>(
     bytes: &[u8],
     pos: u64,

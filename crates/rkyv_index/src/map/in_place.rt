@@ -42,7 +42,6 @@ use rkyv_base::{Element, Represents, Scalar, View, found_pos, set_at};
 use rkyv_keys::{KeyElement, KeyHash, NativeKey, Query};
 use rkyv_scan::KeyHasher;
 
-/// Returns the position of the value at `index`, in the map at `root` of an archive.
 #[inline]
 fn value_pos_at<K: Element, V: Element, H, W: IndexWidth>(
     archive: &[u8],
@@ -60,7 +59,6 @@ fn value_pos_at<K: Element, V: Element, H, W: IndexWidth>(
 }
 
 impl<'a, K: KeyElement, V: Element, H: KeyHasher, W: IndexWidth> ArchivedIndexMap<'a, K, V, H, W> {
-    /// Returns the position of the value that a lookup finds, in the map at `root` of an archive.
     #[inline]
     fn value_pos_in<Q: Query<K>>(archive: &[u8], root: u64, key: &Q) -> Option<u64>
         requires map { Viewable (index_spec W.word (entry_spec K.spec V.spec)) archive.now root }
@@ -74,8 +72,6 @@ impl<'a, K: KeyElement, V: Element, H: KeyHasher, W: IndexWidth> ArchivedIndexMa
         found_pos(map.get(key))
     }
 
-    /// Returns the position of the value of a key that the comparison accepts, in the map at `root`
-    /// of an archive.
     #[inline]
     fn value_pos_by<Q: KeyHash, F: Fn(&Q, View<'_, K>) -> bool>(
         archive: &[u8],
@@ -96,7 +92,6 @@ impl<'a, K: KeyElement, V: Element, H: KeyHasher, W: IndexWidth> ArchivedIndexMa
         found_pos(map.get_with(key, cmp))
     }
 
-    /// Returns the index that a lookup finds, in the map at `root` of an archive.
     #[inline]
     fn index_in<Q: Query<K>>(archive: &[u8], root: u64, key: &Q) -> Option<usize>
         requires map { Viewable (index_spec W.word (entry_spec K.spec V.spec)) archive.now root }
@@ -110,27 +105,9 @@ impl<'a, K: KeyElement, V: Element, H: KeyHasher, W: IndexWidth> ArchivedIndexMa
 
     /// Calls `write` with the archive and the position of the value that a lookup finds.
     ///
-    /// The map is at `root` of the archive. The result is that of `write`. If no key is found,
-    /// the result is `None`, and nothing is written.
-    ///
+    /// `write` must be callable with the archive and the position of any valid value.
+    /// Returns the result of `write`, or `None` if no key is found.
     /// In an untrusted archive, the lookup may read all control bytes.
-    ///
-    /// # Requires
-    ///
-    /// - The archive has a valid index map at `root`.
-    /// - `write` can be called with the archive and each position of a valid value.
-    ///
-    /// # Examples
-    ///
-    /// ```rust
-    /// let root = access_in::<W, IndexMapOf<K, N, H, W>>(&*bytes)?.pos();
-    /// Ok(ArchivedIndexMap::<K, N, H, W>::found_with(
-    ///     bytes,
-    ///     root,
-    ///     key,
-    ///     |archive: &mut [u8], pos: u64| change(archive, pos, byte),
-    /// ))
-    /// ```
     #[inline]
     pub fn found_with<Q: Query<K>, R, F: FnOnce(&mut [u8], u64) -> R>(
         archive: &mut [u8],
@@ -148,18 +125,7 @@ impl<'a, K: KeyElement, V: Element, H: KeyHasher, W: IndexWidth> ArchivedIndexMa
         Some(write(archive, pos))
     }
 
-    /// Calls `write` with the archive and the position of the value of a key that the comparison
-    /// accepts.
-    ///
-    /// It looks up as `get_with` does, and writes as `found_with` does.
-    ///
-    /// In an untrusted archive, the lookup may read all control bytes.
-    ///
-    /// # Requires
-    ///
-    /// - The archive has a valid index map at `root`.
-    /// - The comparison can be called with `key` and each key of the map.
-    /// - `write` can be called with the archive and each position of a valid value.
+    /// Looks up as `get_with` does, and writes as `found_with` does.
     #[inline]
     pub fn found_by<Q: KeyHash, R, F: Fn(&Q, View<'_, K>) -> bool, G: FnOnce(&mut [u8], u64) -> R>(
         archive: &mut [u8],
@@ -181,29 +147,9 @@ impl<'a, K: KeyElement, V: Element, H: KeyHasher, W: IndexWidth> ArchivedIndexMa
     }
 }
 
-/// Writes the value at `index` of the map at `root` of an archive.
+/// Writes the value at `index`, which `get_index_of` returns, of the map at `root` of an archive.
 ///
-/// All other bytes are unchanged. `get_index_of` returns the index of a key.
-///
-/// If the map represents a list of pairs with keys of type `A`, it then represents the list
-/// with the new value at the index.
-///
-/// # Requires
-///
-/// - The archive has a valid index map at `root`.
-/// - `index` is below the length of the map.
-///
-/// # Examples
-///
-/// ```rust
-/// match index_of::<K, N, H, W, Q>(&*bytes, root, key) {
-///     Some(index) => {
-///         set_value_at::<A, K, N, H, W>(bytes, root, index, value);
-///         Ok(Some(index))
-///     }
-///     None => Ok(None),
-/// }
-/// ```
+/// `A` is the type of the keys in lists that the map represents.
 pub fn set_value_at<A, K: KeyElement + Represents<A>, N: Scalar, H: KeyHasher, W: IndexWidth>(
     archive: &mut [u8],
     root: u64,
@@ -229,17 +175,10 @@ pub fn set_value_at<A, K: KeyElement + Represents<A>, N: Scalar, H: KeyHasher, W
     set_at(archive, pos as usize, value);
 }
 
-/// Writes the value of a key in the map at `root` of an archive, and returns `true`.
+/// Writes the value of a key in the map at `root` of an archive.
 ///
-/// In a map that represents a list of pairs with keys of type `A`, it is the value of the first
-/// pair with an equal key. All other bytes are unchanged. If no key is found, the result is
-/// `false`, and nothing is written.
-///
-/// In an untrusted archive, the lookup may read all control bytes.
-///
-/// # Requires
-///
-/// - The archive has a valid index map at `root`.
+/// Returns `false` if no key is found. In an untrusted archive, the lookup may read all control
+/// bytes.
 ///
 /// # Examples
 ///

@@ -1,4 +1,4 @@
-//! Laws of index maps, over their definitions alone.
+//! Laws of index maps, which follow from their definitions.
 //!
 //! They are about the layout, lookups, pairs at an index, iterations, comparisons, clones,
 //! deserialized lists and writes of one value in place.
@@ -34,9 +34,7 @@ use rkyv_scan::{FxHasher64, KeyHasher};
 
 /// States that a write of one value in place that keeps it valid keeps the index map.
 ///
-/// - The length, the positions of the pairs, all keys and all other values are unchanged.
-/// - Each lookup whose comparison depends only on the key finds the same index.
-/// - A written index map is still one.
+/// A lookup keeps its index if its comparison depends only on the key.
 pub fn value_writes_keep_index_maps<K: KeyElement, V: Element, H: KeyHasher, W: IndexWidth>()
     ensures { ValueWritesKeepIndexMaps W.word K.spec V.spec
         (archived_hash H.KeyHasher K.KeyElement) }
@@ -70,8 +68,6 @@ where
 {}
 
 /// States that a list deserialized from an index map is `==` to the list that it represents.
-///
-/// The bytes that are written from a list represent that list. `deserialize_pairs` deserializes.
 pub fn pairs_read_back_are_listed<
     A: PartialEq,
     B: PartialEq,
@@ -86,13 +82,8 @@ pub fn pairs_read_back_are_listed<
 
 /// States that both hashers look up alike in an index map whose keys hash no `usize` or `isize`.
 ///
-/// `FxHasher64` and `FxHasher64Wide` differ in the calls for `usize` and `isize` alone.
-/// A `FixedKey` makes none of them, and all keys of `rkyv_keys` but byte strings implement it.
-///
-/// - `written`: an index map that was written under one hasher was written under the other.
-/// - `compared`: in any index map, a comparison finds the same index under both, if the query
-///   makes none of these calls.
-/// - `queried`: in a written index map, a query finds the same index under both.
+/// The hashers differ only in the calls for these types. All keys of `rkyv_keys` except byte
+/// strings implement `FixedKey`, and so make none of these calls.
 pub fn both_hashers_look_up_alike<Q: Query<K>, K: FixedKey, V: Element, W: IndexWidth>()
     ensures written { WrittenAlike W.word K.spec V.spec K.key_calls }
     ensures compared { ComparedAlike W.word }
@@ -100,9 +91,6 @@ pub fn both_hashers_look_up_alike<Q: Query<K>, K: FixedKey, V: Element, W: Index
 {}
 
 /// States the layout of an index map, and that it represents the pairs of a list in order.
-///
-/// The layout is the same under every hasher. Lists are under `FxHasher64` alone. Without a hasher
-/// and a width, an index map is that of `FxHasher64` and of a narrow archive.
 pub fn index_maps_are_laid_out<W, H, A, B, K: KeyElement + Represents<A>, V: Represents<B>>()
 where
     W: IndexWidth,
@@ -117,8 +105,6 @@ where
 {}
 
 /// States that index maps that are values are compared by their pairs in order.
-///
-/// `same` is `true` if and only if both have the same length and the same pairs in order.
 pub fn index_maps_are_compared<K: ElementEq, V: ElementEq, H, W: IndexWidth>()
     ensures { SameComparison ⟦<IndexMapOf<K, V, H, W> as ElementEq>⟧.same
         (index_map_equal W.word K.spec V.spec K.same V.same) }
@@ -146,11 +132,8 @@ pub fn clones_are_the_same<'a, K: HasSpec, V: HasSpec, H, W: Word>()
 
 /// States that a lookup finds the index of the first pair of the list with an accepted key.
 ///
-/// The index map must represent the list. The lookup returns `None` if the list has no such pair.
-/// The clause `first` of a lookup is about this index.
-///
-/// The comparison must decide by the values that the keys represent. That of a native key accepts
-/// the keys that equal it. An index set is the index map of its keys to the unit value.
+/// The index map must represent the list, and the comparison must depend only on the values that
+/// the keys represent. The law applies to index sets too, as index maps to the unit value.
 pub fn lookups_find_listed<
     A,
     B,
@@ -164,17 +147,12 @@ pub fn lookups_find_listed<
 {}
 
 /// States that a query that matches a key of a written index map finds it, or the same key earlier.
-///
-/// The found key is not after it. If no two keys of the index map are the same, it is that key.
 pub fn matched_keys_are_found<Q: Query<K>, K: KeyElement, V: Element, H: KeyHasher, W: IndexWidth>()
     ensures { FindsMatchedKeys H W.Word K.HasSpec V.HasSpec
         (lookup_of H.KeyHasher K.KeyElement Q.Query) }
 {}
 
 /// States that `get_index` returns the pair of the represented list at its index.
-///
-/// It returns `None` if and only if the list has no pair there. The header of the index map may be
-/// anywhere in the archive.
 pub fn pairs_at_are_listed<
     A,
     B,
@@ -188,8 +166,6 @@ pub fn pairs_at_are_listed<
 {}
 
 /// States that `iter`, `keys` and `values` return the pairs of the represented list, in order.
-///
-/// The n-th position of a walk has the n-th pair of the list, and there are no others.
 pub fn walks_visit_in_order<
     A,
     B,
@@ -203,8 +179,6 @@ pub fn walks_visit_in_order<
 {}
 
 /// States that the iterators yield the pairs, keys and values at their positions in turn.
-///
-/// At most as many items remain as positions are left, and `next` has no condition.
 pub fn items_are_yielded<'a, K: Element, V: Element>()
     ensures pairs { SameSteps ⟦<Iter<'a, K, V> as Iterator>⟧.next_gives (YieldsPair K.spec V.spec) }
     ensures keys { SameSteps ⟦<Keys<'a, K, V> as Iterator>⟧.next_gives (YieldsKey K.spec) }
@@ -219,8 +193,6 @@ pub fn items_are_yielded<'a, K: Element, V: Element>()
 {}
 
 /// States that a `for` over an index map, or over a reference to it, visits the pairs of `iter`.
-///
-/// They are all pairs of the index map, in order.
 pub fn walks_by_for_are_iterations<'a, 'b, K: Element, V: Element, H, W: IndexWidth>()
 where
     'a: 'b,

@@ -3,7 +3,7 @@
 //! 1. The table of indices is written, each under the hash of its entry.
 //! 2. The parts of the entries are written, in order.
 //! 3. Zeros are written up to the alignment of the entries.
-//! 4. The entries are written in a row.
+//! 4. The entries are written, contiguous.
 
 ghost use Rattle.std.specs.Prelude.{◌≡◌, ◌<◌, ◌≤◌, [], length, vec_capacity};
 ghost use Rattle.rkyv_table.specs.{HasCapacity};
@@ -24,7 +24,6 @@ use rkyv_scan::simd::lanes;
 use rkyv_table::{ArchivedHashTable, HashTableResolver};
 use std::alloc::Global;
 
-// Writes the table of the indices of `entries`, each under the hash of its entry.
 #[inline]
 fn write_indices<W: IndexWidth, H, S: Writer, U: HashedEntry<H>>(
     alloc: Global,
@@ -48,8 +47,6 @@ fn write_indices<W: IndexWidth, H, S: Writer, U: HashedEntry<H>>(
 }
 
 // Writes the table of indices, the parts of the entries, zeros and the entries.
-//
-// Returns the resolver of the index map.
 pub(crate) fn write_index<W: IndexWidth, H, S: Writer, U: HashedEntry<H> + Serialize<S, W>>(
     alloc: Global,
     entries: &[U],

@@ -1,4 +1,4 @@
-//! Opening, walking over and looking up in an index set.
+//! Opening, iterating over and looking up in an index set.
 //!
 //! - `get` returns a view of the key that a query finds, and `get_full` also its index.
 //! - `get_index_of` returns the index, and `contains` returns `true` if a key is found.
@@ -24,11 +24,7 @@ use rkyv_keys::{KeyElement, Query};
 use rkyv_scan::KeyHasher;
 
 impl<'a, K: Element, H, W: IndexWidth> ArchivedIndexSet<'a, K, H, W> {
-    /// Returns the set at a view of its header, which is decoded here, once.
-    ///
-    /// # Requires
-    ///
-    /// - The view is of a valid index set.
+    /// Returns the set at a valid view of its header, and decodes it once.
     ///
     /// # Examples
     ///
@@ -50,7 +46,7 @@ impl<'a, K: Element, H, W: IndexWidth> ArchivedIndexSet<'a, K, H, W> {
         }
     }
 
-    /// Returns `true` if and only if the set has no keys.
+    /// Returns `true` if the set has no keys.
     #[inline]
     pub fn is_empty(self) -> bool
         ensures { IsTrue result ↔ (index_len (keys_of self.entry) ≡ 0) }
@@ -86,19 +82,6 @@ impl<'a, K: Element, H, W: IndexWidth> ArchivedIndexSet<'a, K, H, W> {
     }
 
     /// Returns the key at an index, or `None` if the index isn't below the length.
-    ///
-    /// # Examples
-    ///
-    /// ```rust
-    /// // Returns whether the text with this number is `text`.
-    /// fn has_number(table: &[u8], number: usize, text: &str) -> Result<bool, VerifyError> {
-    ///     let set = ArchivedIndexSet::of(access::<IndexSetOf<Text>>(table)?);
-    ///     match set.get_index(number) {
-    ///         Some(stored) => Ok(stored.as_str() == text),
-    ///         None => Ok(false),
-    ///     }
-    /// }
-    /// ```
     #[inline]
     pub fn get_index(self, index: usize) -> Option<View<'a, K>>
         ensures { MatchOption result
@@ -109,17 +92,7 @@ impl<'a, K: Element, H, W: IndexWidth> ArchivedIndexSet<'a, K, H, W> {
         Some(key)
     }
 
-    /// Returns the first key, in insertion order, or `None` if the set has no keys.
-    ///
-    /// # Examples
-    ///
-    /// ```rust
-    /// // Returns the first word, borrowed from the archive.
-    /// fn first_word(archive: &[u8]) -> Result<Option<&str>, VerifyError> {
-    ///     let words = ArchivedIndexSet::of(access::<IndexSetOf<Text>>(archive)?);
-    ///     Ok(words.first().map(|word| word.as_str()))
-    /// }
-    /// ```
+    /// Returns the first key in insertion order.
     #[inline]
     pub fn first(self) -> Option<View<'a, K>>
         ensures { MatchOption result
@@ -130,17 +103,7 @@ impl<'a, K: Element, H, W: IndexWidth> ArchivedIndexSet<'a, K, H, W> {
         Some(key)
     }
 
-    /// Returns the last key, in insertion order, or `None` if the set has no keys.
-    ///
-    /// # Examples
-    ///
-    /// ```rust
-    /// // Returns the last word, borrowed from the archive.
-    /// fn last_word(archive: &[u8]) -> Result<Option<&str>, VerifyError> {
-    ///     let words = ArchivedIndexSet::of(access::<IndexSetOf<Text>>(archive)?);
-    ///     Ok(words.last().map(|word| word.as_str()))
-    /// }
-    /// ```
+    /// Returns the last key in insertion order.
     #[inline]
     pub fn last(self) -> Option<View<'a, K>>
         ensures { MatchOption result
@@ -185,16 +148,12 @@ impl<'a, K: Element, H, W: IndexWidth> IntoIterator for &ArchivedIndexSet<'a, K,
 }
 
 impl<'a, K: KeyElement, H: KeyHasher, W: IndexWidth> ArchivedIndexSet<'a, K, H, W> {
-    /// Returns the key that the query finds, with its index, or `None`.
+    /// Returns the key that the query finds, with its index.
     ///
     /// In a written set, it is the first key in insertion order that the query matches.
     ///
-    /// In an untrusted set, a lookup may miss a key that the query matches.
-    /// No key is missed if `misplaced` is 0. The lookup then finds the one key that the query
-    /// matches, and `None` if and only if it matches none.
-    ///
-    /// A lookup in an untrusted set may read all of its control bytes.
-    /// `FxHasher64` takes no secret key, so it doesn't protect from chosen input.
+    /// A lookup in an untrusted set may read all control bytes, and may miss a key that the query
+    /// matches, unless `misplaced` is 0. `FxHasher64` doesn't protect from chosen keys.
     #[inline]
     pub fn get_full<Q: Query<K>>(self, key: &Q) -> Option<(usize, View<'a, K>)>
         ensures { GetsKey full_key_part (keys_of self.entry)
@@ -204,21 +163,7 @@ impl<'a, K: KeyElement, H: KeyHasher, W: IndexWidth> ArchivedIndexSet<'a, K, H, 
         Some((index, stored))
     }
 
-    /// Returns the key that the query finds, or `None`.
-    ///
-    /// It looks up as `get_full` does.
-    ///
-    /// A lookup in an untrusted set may read all of its control bytes.
-    ///
-    /// # Examples
-    ///
-    /// ```rust
-    /// let set = ArchivedIndexSet::of(access::<Keys>(bytes.as_slice())?);
-    /// let stored = match set.get(&3) {
-    ///     Some(key) => key.to_native(),
-    ///     None => 0,
-    /// };
-    /// ```
+    /// Looks up as `get_full` does, and returns the key.
     #[inline]
     pub fn get<Q: Query<K>>(self, key: &Q) -> Option<View<'a, K>>
         ensures { GetsKey key_part (keys_of self.entry)
@@ -227,7 +172,6 @@ impl<'a, K: KeyElement, H: KeyHasher, W: IndexWidth> ArchivedIndexSet<'a, K, H, 
         self.key_of(self.map.find_key(key))
     }
 
-    /// Returns the key at a found index.
     #[inline]
     fn key_of(self, index: Option<usize>) -> Option<View<'a, K>>
         requires stored { IfSome index (IsStoredIndex (keys_of self)) }
@@ -236,21 +180,7 @@ impl<'a, K: KeyElement, H: KeyHasher, W: IndexWidth> ArchivedIndexSet<'a, K, H, 
         Some(self.map.entry(index?).key())
     }
 
-    /// Returns the index of the key that the query finds, or `None`.
-    ///
-    /// It looks up as `get_full` does.
-    ///
-    /// A lookup in an untrusted set may read all of its control bytes.
-    ///
-    /// # Examples
-    ///
-    /// ```rust
-    /// // Returns the index of a word.
-    /// fn index_of(archive: &[u8], word: &str) -> Result<Option<usize>, VerifyError> {
-    ///     let words = ArchivedIndexSet::of(access::<IndexSetOf<Text>>(archive)?);
-    ///     Ok(words.get_index_of(&word))
-    /// }
-    /// ```
+    /// Looks up as `get_full` does, and returns the index.
     #[inline]
     pub fn get_index_of<Q: Query<K>>(self, key: &Q) -> Option<usize>
         ensures { GetsKey index_part (keys_of self.entry)
@@ -259,9 +189,7 @@ impl<'a, K: KeyElement, H: KeyHasher, W: IndexWidth> ArchivedIndexSet<'a, K, H, 
         self.map.get_index_of(key)
     }
 
-    /// Returns `true` if and only if the query finds a key.
-    ///
-    /// A lookup in an untrusted set may read all of its control bytes.
+    /// Returns `true` if `get_full` finds a key.
     #[inline]
     pub fn contains<Q: Query<K>>(self, key: &Q) -> bool
         ensures { FoundKeyHas (index_of_set self.entry)

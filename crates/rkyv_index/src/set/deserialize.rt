@@ -10,7 +10,6 @@ use rkyv_keys::Deserialize;
 use std::alloc::Global;
 
 impl<'a, K: Element, H, W: IndexWidth> ArchivedIndexSet<'a, K, H, W> {
-    // Deserializes the key at `index`.
     #[inline]
     fn read_item<A>(self, alloc: Global, index: usize) -> Result<A, ReadError>
     where
@@ -25,22 +24,8 @@ impl<'a, K: Element, H, W: IndexWidth> ArchivedIndexSet<'a, K, H, W> {
 
     /// Deserializes the keys into a list, in order.
     ///
-    /// By its code alone, memory for the list is allocated first.
-    ///
-    /// # Errors
-    ///
-    /// - `Memory`: memory for the list could not be allocated. An empty list needs none.
-    /// - The first error of deserializing a key.
-    ///
-    /// # Examples
-    ///
-    /// ```rust
-    /// // Reads the list of words back.
-    /// fn read_words(alloc: Global, archive: &[u8]) -> Result<Vec<String>, Fail> {
-    ///     let words = ArchivedIndexSet::of(access::<IndexSetOf<Text>>(archive)?);
-    ///     Ok(words.deserialize_items(alloc)?)
-    /// }
-    /// ```
+    /// Fails with `Memory`, or with the first error of deserializing a key. Not proved: memory for
+    /// the list is allocated before a key is deserialized.
     pub fn deserialize_items<A: Drop>(self, alloc: Global) -> Result<Vec<A>, ReadError>
     where
         K: Deserialize<A>,

@@ -1,4 +1,4 @@
-//! Equality of index sets, and counting the keys that a lookup of their own doesn't find.
+//! Equality of index sets, and counting the keys that aren't found at their own index.
 ghost use Rattle.std.specs.Cmp.{partial_equiv_from_equiv};
 ghost use Rattle.std.specs.Prelude.{◌≡◌};
 ghost use Rattle.rkyv_base.specs.{IsValidView, entry_spec, unit_spec};
@@ -19,7 +19,7 @@ use rkyv_keys::{ElementEq, ElementEquiv, KeyElement};
 use rkyv_scan::KeyHasher;
 
 impl<'a, K: ElementEq, H, W: IndexWidth> ArchivedIndexSet<'a, K, H, W> {
-    /// Returns `true` if and only if both sets have the same length and the same keys in order.
+    /// Returns `true` if both sets have the same keys in the same order.
     pub fn eq_index(self, other: ArchivedIndexSet<'_, K, H, W>) -> bool
         ensures { result ≡ index_sets_equal K.same self.entry other.entry }
     {
@@ -28,17 +28,10 @@ impl<'a, K: ElementEq, H, W: IndexWidth> ArchivedIndexSet<'a, K, H, W> {
 }
 
 impl<'a, K: KeyElement, H: KeyHasher, W: IndexWidth> ArchivedIndexSet<'a, K, H, W> {
-    /// Returns the number of keys that a lookup of their own doesn't find.
+    /// Counts the keys whose index `get_index_of` of the same key doesn't return.
     ///
-    /// A key is found if the lookup returns its own index. Otherwise the lookup finds another key
-    /// that is the same, or returns `None`.
-    ///
-    /// In a written set, it is the number of keys that are the same as an earlier key
-    /// in insertion order. An untrusted set may have other misplaced keys.
-    ///
-    /// By its code alone, each key is looked up once. Each lookup may read all control bytes.
-    /// Keys that share a hash cost a number of comparisons that is quadratic in their number.
-    /// `FxHasher64` takes no secret key, so chosen keys can share one.
+    /// In a written set, these are the keys that equal an earlier key. The cost is as for
+    /// `ArchivedIndexMap::misplaced`.
     pub fn misplaced(self) -> usize
         ensures exact { result ≡ index_misplaced (index_of_set self.entry)
             (archived_keys H.KeyHasher K.KeyElement) }
@@ -48,16 +41,9 @@ impl<'a, K: KeyElement, H: KeyHasher, W: IndexWidth> ArchivedIndexSet<'a, K, H, 
         self.map.misplaced()
     }
 
-    /// Returns the number of misplaced keys, or `None` at a limit on the strides that it reads.
+    /// Counts as `misplaced` does, or returns `None` if the lookups read more than `limit` strides.
     ///
-    /// The number is the result of `misplaced`.
-    ///
-    /// The result is `None` if and only if the lookups of all keys read more than `limit` strides
-    /// of sixteen control bytes.
-    ///
-    /// By its code alone, it reads at most `limit` strides and those of one more lookup, so its
-    /// cost on an untrusted set is bounded. The contract of `misplaced_up_to_counted` of index maps
-    /// also says so.
+    /// The cost is as for `ArchivedIndexMap::misplaced_up_to`.
     pub fn misplaced_up_to(self, limit: u64) -> Option<usize>
         ensures { CountsUpTo (index_of_set self.entry) (archived_keys H.KeyHasher K.KeyElement)
             limit result }
@@ -66,7 +52,7 @@ impl<'a, K: KeyElement, H: KeyHasher, W: IndexWidth> ArchivedIndexSet<'a, K, H, 
     }
 }
 
-/// Returns `true` if and only if both sets have the same length and the same keys in order.
+/// Compares as `eq_index` does.
 impl<'a, K: ElementEquiv, H, W: IndexWidth> PartialEq for ArchivedIndexSet<'a, K, H, W> {
     ghost eq = { index_sets_equal K.same };
 

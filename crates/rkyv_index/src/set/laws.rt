@@ -1,4 +1,4 @@
-//! Laws of index sets, over their definitions alone.
+//! Laws of index sets, which follow from their definitions.
 //!
 //! They are about the layout, the formats of lists, lookups, keys at an index, iterations,
 //! comparisons, clones and deserialized lists.
@@ -32,8 +32,6 @@ use rkyv_keys::{
 use rkyv_scan::{FxHasher64, KeyHasher};
 
 /// States that a list deserialized from an index set is `==` to the list that it represents.
-///
-/// The bytes that are written from a list represent that list. `deserialize_items` deserializes.
 pub fn items_read_back_are_listed<
     A: PartialEq,
     K: KeyElement + RepresentsUniquely<A>,
@@ -45,11 +43,6 @@ pub fn items_read_back_are_listed<
 {}
 
 /// States that lookups in a root index set find the first key of the list that equals a native key.
-///
-/// The set must be the root of an archive, and represent the list.
-///
-/// - `index`: `get_index_of` finds its index, and `None` if the list has no such key.
-/// - `member`: `contains` is `true` if and only if the list has such a key.
 pub fn members_found_are_listed<
     A,
     Q: NativeQuery<A, K>,
@@ -62,25 +55,18 @@ pub fn members_found_are_listed<
 {}
 
 /// States that `get_index` returns the key of the represented list at its index.
-///
-/// It returns `None` if and only if the list has no key there. The header of the index set may be
-/// anywhere in the archive.
 pub fn items_at_are_listed<A, K: KeyElement + Represents<A>, H: KeyHasher, W: IndexWidth>()
     ensures { ItemsAtAreListed H W.Word K.HasSpec K.represents
         (archived_hash H.KeyHasher K.KeyElement) }
 {}
 
 /// States that `iter` returns the keys of the list that an index set represents, in order.
-///
-/// The n-th position of a walk has the n-th key of the list, and there are no others.
 pub fn walks_visit_in_order<A, K: KeyElement + Represents<A>, H: KeyHasher, W: IndexWidth>()
     ensures { SetWalksVisitInOrder W.word K.spec K.represents
         (archived_hash H.KeyHasher K.KeyElement) }
 {}
 
-/// States that both hashers look up alike in an index set whose keys hash no `usize` or `isize`.
-///
-/// It is the law of index maps for the index map of the keys to the unit value.
+/// States the law of index maps, for the index map of the keys to the unit value.
 pub fn both_hashers_look_up_alike<Q: Query<K>, K: FixedKey, W: IndexWidth>()
     ensures written { WrittenAlike W.word K.spec unit_spec K.key_calls }
     ensures compared { ComparedAlike W.word }
@@ -90,9 +76,6 @@ pub fn both_hashers_look_up_alike<Q: Query<K>, K: FixedKey, W: IndexWidth>()
 }
 
 /// States the layout of an index set, and that it represents the keys of a list in order.
-///
-/// The layout is the same under every hasher. Lists are under `FxHasher64` alone. Without a hasher
-/// and a width, an index set is that of `FxHasher64` and of a narrow archive.
 pub fn index_sets_are_laid_out<W: IndexWidth, H, A, K: KeyElement + Represents<A>>()
     ensures spec { SameSpec ⟦<IndexSetOf<K, H, W> as HasSpec>⟧.spec
         (index_set_spec W.word K.spec) }
@@ -105,8 +88,6 @@ pub fn index_sets_are_laid_out<W: IndexWidth, H, A, K: KeyElement + Represents<A
 {}
 
 /// States that index sets that are values are compared by their keys in order.
-///
-/// `same` is `true` if and only if both have the same length and the same keys in order.
 pub fn index_sets_are_compared<K: ElementEq, H, W: IndexWidth>()
     ensures { SameComparison ⟦<IndexSetOf<K, H, W> as ElementEq>⟧.same
         (index_set_equal W.word K.spec K.same) }
@@ -133,8 +114,6 @@ pub fn clones_are_the_same<'a, K: HasSpec, H, W: Word>()
 {}
 
 /// States that a `for` over an index set, or over a reference to it, visits the keys of `iter`.
-///
-/// They are all keys of the index set, in order.
 pub fn walks_by_for_are_iterations<'a, 'b, K: Element, H, W: IndexWidth>()
 where
     'a: 'b,

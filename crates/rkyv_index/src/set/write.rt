@@ -21,7 +21,7 @@ use rkyv_scan::KeyHasher;
 use rkyv_table::table::list_inputs::WithUnits;
 use std::alloc::Global;
 
-/// The resolver of a written index set: that of the index map of its keys.
+/// The resolver of a written index set: the resolver of the index map of its keys.
 pub type IndexSetResolver<W = Narrow> = IndexMapResolver<W>;
 
 impl<K: Element, H: KeyHasher, W: IndexWidth, A: KeyHash + Archive<W>> ListFormat<A>
@@ -31,43 +31,10 @@ impl<K: Element, H: KeyHasher, W: IndexWidth, A: KeyHash + Archive<W>> ListForma
 }
 
 impl<'a, K: KeyElement, H: KeyHasher, W: IndexWidth> ArchivedIndexSet<'a, K, H, W> {
-    /// Writes an index set of `len` keys and returns its resolver.
+    /// Writes an index set of `len` keys or references, and returns its resolver.
     ///
-    /// The keys are themselves or references. The bytes are those of the index map of the keys
-    /// to the unit value. Equal keys are kept, and a lookup finds the first.
-    ///
-    /// By tests alone: the iterator is called at most `len + 1` times,
-    /// and not after it returned `None`. Memory for the keys is allocated before one is taken,
-    /// and memory for the table afterwards.
-    ///
-    /// # Requires
-    ///
-    /// - The iterator can be called.
-    ///
-    /// # Errors
-    ///
-    /// - `InvalidLoadFactor`: the load factor isn't above 0 and at most 1.
-    /// - `CapacityTooLarge`: the capacity is above `W::MAX_CAPACITY`.
-    /// - `Memory`: `len` isn't 0, and memory for the keys or for the table could not be allocated.
-    /// - `IteratorLengthMismatch`: the number of keys isn't `len`. The number is counted up
-    ///   to `len + 1`.
-    /// - The error of the first key or piece that fails.
-    ///
-    /// If the call itself fails with one of the first four errors, nothing is written. A key
-    /// that fails with the same error may follow bytes that were written. The bytes written
-    /// before the call are unchanged.
-    ///
-    /// # Examples
-    ///
-    /// ```rust
-    /// let mut writer = VecWriter::new(alloc);
-    /// let resolver = ArchivedIndexSet::<i8, FxHasher64, Narrow>::serialize_from_iter::<
-    ///     VecWriter,
-    ///     i8,
-    ///     i8,
-    ///     _,
-    /// >(alloc, keys.into_iter(), 1, (7, 8), &mut writer)?;
-    /// ```
+    /// The bytes are an index map's, of the keys to the unit value. The errors, and the order of
+    /// allocations and of calls of the iterator, are as in `serialize_from_iter` of index maps.
     pub fn serialize_from_iter<
         S: Writer,
         A: NativeKey<K> + Serialize<S, W, Archived = K>,
@@ -96,19 +63,9 @@ impl<'a, K: KeyElement, H: KeyHasher, W: IndexWidth> ArchivedIndexSet<'a, K, H, 
         )
     }
 
-    /// Writes the header of a written set over the whole of `out`, for a header at `pos`.
+    /// Writes the header as `IndexMapResolver::resolve` does, with rkyv's signature.
     ///
-    /// # Requires
-    ///
-    /// - `len` and `load_factor` are those of the resolver.
-    /// - `out` has the size of a header.
-    /// - The header ends below 2^64.
-    ///
-    /// # Errors
-    ///
-    /// - `DistanceTooLarge`: the set isn't empty, and the distance to the table doesn't fit
-    ///   in the width. Or the distance to the entries doesn't fit, also of an empty set.
-    ///   `out` is unchanged.
+    /// `len` and `load_factor` must be the resolver's.
     pub fn resolve_from_len(
         len: usize,
         load_factor: (usize, usize),

@@ -31,7 +31,6 @@ use rkyv_table::Strides;
 
 // Every sealed lookup finds an index, and then returns a seal of the pair or value at it.
 impl<'a, K: KeyElement, V: Element, H: KeyHasher, W: IndexWidth> ArchivedIndexMap<'a, K, V, H, W> {
-    /// Returns the index map at the seal, to be read.
     #[inline]
     fn read<'s>(
         this: &'s ArchiveSeal<'_, IndexMapOf<K, V, H, W>>,
@@ -43,7 +42,6 @@ impl<'a, K: KeyElement, V: Element, H: KeyHasher, W: IndexWidth> ArchivedIndexMa
         ArchivedIndexMap::of(this.as_view())
     }
 
-    /// Returns the index that `find` finds, or `None`.
     #[inline]
     fn find_in<Q: KeyHash, F: Fn(&Q, View<'_, K>) -> bool>(
         this: &ArchiveSeal<'_, IndexMapOf<K, V, H, W>>,
@@ -61,7 +59,6 @@ impl<'a, K: KeyElement, V: Element, H: KeyHasher, W: IndexWidth> ArchivedIndexMa
         Self::read(this).find(key, cmp, &mut Strides::new())
     }
 
-    /// Returns the index of the key that the query finds, or `None`.
     #[inline]
     fn find_key_in<Q: Query<K>>(
         this: &ArchiveSeal<'_, IndexMapOf<K, V, H, W>>,
@@ -76,7 +73,6 @@ impl<'a, K: KeyElement, V: Element, H: KeyHasher, W: IndexWidth> ArchivedIndexMa
         Self::read(this).find_key(key)
     }
 
-    /// Returns the position of the pair at `index`.
     #[inline]
     fn pair_pos_in(this: &ArchiveSeal<'_, IndexMapOf<K, V, H, W>>, index: usize) -> u64
         requires map { IsIndexSeal W.word K.spec V.spec this.now }
@@ -104,7 +100,6 @@ impl<'a, K: KeyElement, V: Element, H: KeyHasher, W: IndexWidth> ArchivedIndexMa
         this.split_value(pos)
     }
 
-    /// Returns a seal of the value at `index`.
     #[inline]
     fn lend_value(this: ArchiveSeal<'a, IndexMapOf<K, V, H, W>>, index: usize) -> Seal<'a, V>
         requires map { IsIndexSeal W.word K.spec V.spec this }
@@ -117,7 +112,6 @@ impl<'a, K: KeyElement, V: Element, H: KeyHasher, W: IndexWidth> ArchivedIndexMa
         this.value_seal::<K, V>(pos)
     }
 
-    /// Returns a found index, a view of its key and a seal of its value.
     #[inline]
     fn full_seal_of(
         this: ArchiveSeal<'a, IndexMapOf<K, V, H, W>>,
@@ -135,7 +129,6 @@ impl<'a, K: KeyElement, V: Element, H: KeyHasher, W: IndexWidth> ArchivedIndexMa
         Some((index, key, value))
     }
 
-    /// Returns a view of the key at a found index and a seal of its value.
     #[inline]
     fn pair_seal_of(
         this: ArchiveSeal<'a, IndexMapOf<K, V, H, W>>,
@@ -151,7 +144,6 @@ impl<'a, K: KeyElement, V: Element, H: KeyHasher, W: IndexWidth> ArchivedIndexMa
         Some(Self::lend_pair(this, index?))
     }
 
-    /// Returns a seal of the value at a found index.
     #[inline]
     fn value_seal_of(
         this: ArchiveSeal<'a, IndexMapOf<K, V, H, W>>,
@@ -170,21 +162,7 @@ impl<'a, K: KeyElement, V: Element, H: KeyHasher, W: IndexWidth> ArchivedIndexMa
 }
 
 impl<'a, K: KeyElement, V: Element, H: KeyHasher, W: IndexWidth> ArchivedIndexMap<'a, K, V, H, W> {
-    /// Returns an index, its key, which the comparison accepts, and a seal of its value, or `None`.
-    ///
-    /// It looks up as `get_full_with` does.
-    ///
-    /// The archive is cut in two at the start of the value. The view is of the front,
-    /// and the seal is at the start of the back.
-    ///
-    /// The contract of `found_by` also covers the bytes of the archive afterwards.
-    ///
-    /// A lookup in an untrusted map may read all of its control bytes.
-    ///
-    /// # Requires
-    ///
-    /// - The archive has a valid index map at the position of the seal.
-    /// - The comparison can be called with `key` and each key of the map.
+    /// Looks up as `get_full_with` does, and returns a seal as `get_full_seal` does.
     #[inline]
     pub fn get_full_seal_with<Q: KeyHash, F: Fn(&Q, View<'_, K>) -> bool>(
         this: ArchiveSeal<'a, IndexMapOf<K, V, H, W>>,
@@ -205,36 +183,9 @@ impl<'a, K: KeyElement, V: Element, H: KeyHasher, W: IndexWidth> ArchivedIndexMa
         Self::full_seal_of(this, index)
     }
 
-    /// Returns the index, the key and a seal of the value that the query finds, or `None`.
+    /// Looks up as `get_full` does, and returns a seal of the value.
     ///
-    /// It looks up as `get_full` does.
-    ///
-    /// The archive is cut in two at the start of the value. The view is of the front,
-    /// and the seal is at the start of the back.
-    ///
-    /// A lookup in an untrusted map may read all of its control bytes.
-    ///
-    /// The contract of `found_with` also covers the bytes of the archive afterwards.
-    ///
-    /// # Requires
-    ///
-    /// - The archive has a valid index map at the position of the seal.
-    ///
-    /// # Examples
-    ///
-    /// ```rust
-    /// type SmallOf<W> = IndexMapOf<i8, i8, FxHasher64, W>;
-    ///
-    /// let whole = access_mut_in::<W, SmallOf<W>>(bytes)?;
-    /// match ArchivedIndexMap::get_full_seal(whole, &key) {
-    ///     Some((index, stored, mut seal)) => {
-    ///         let before = (index, stored.to_native(), seal.to_native());
-    ///         seal.set(value);
-    ///         Ok(Some(before))
-    ///     }
-    ///     None => Ok(None),
-    /// }
-    /// ```
+    /// The view borrows the bytes before the value, the seal the rest.
     #[inline]
     pub fn get_full_seal<Q: Query<K>>(
         this: ArchiveSeal<'a, IndexMapOf<K, V, H, W>>,
@@ -252,21 +203,7 @@ impl<'a, K: KeyElement, V: Element, H: KeyHasher, W: IndexWidth> ArchivedIndexMa
         Self::full_seal_of(this, index)
     }
 
-    /// Returns a key that the comparison accepts and a seal of its value, or `None`.
-    ///
-    /// It looks up as `get_key_value_with` does.
-    ///
-    /// The archive is cut in two at the start of the value. The view is of the front,
-    /// and the seal is at the start of the back.
-    ///
-    /// The contract of `found_by` also covers the bytes of the archive afterwards.
-    ///
-    /// A lookup in an untrusted map may read all of its control bytes.
-    ///
-    /// # Requires
-    ///
-    /// - The archive has a valid index map at the position of the seal.
-    /// - The comparison can be called with `key` and each key of the map.
+    /// Looks up as `get_key_value_with` does, and returns a seal as `get_full_seal` does.
     #[inline]
     pub fn get_key_value_seal_with<Q: KeyHash, F: Fn(&Q, View<'_, K>) -> bool>(
         this: ArchiveSeal<'a, IndexMapOf<K, V, H, W>>,
@@ -287,20 +224,9 @@ impl<'a, K: KeyElement, V: Element, H: KeyHasher, W: IndexWidth> ArchivedIndexMa
         Self::pair_seal_of(this, index)
     }
 
-    /// Returns the key that the query finds and a seal of its value, or `None`.
+    /// Looks up as `get_key_value` does, and returns a seal of the value.
     ///
-    /// It looks up as `get_key_value` does.
-    ///
-    /// The archive is cut in two at the start of the value. The view is of the front,
-    /// and the seal is at the start of the back.
-    ///
-    /// A lookup in an untrusted map may read all of its control bytes.
-    ///
-    /// The contract of `found_with` also covers the bytes of the archive afterwards.
-    ///
-    /// # Requires
-    ///
-    /// - The archive has a valid index map at the position of the seal.
+    /// The view borrows the bytes before the value, the seal the rest.
     #[inline]
     pub fn get_key_value_seal<Q: Query<K>>(
         this: ArchiveSeal<'a, IndexMapOf<K, V, H, W>>,
@@ -318,18 +244,7 @@ impl<'a, K: KeyElement, V: Element, H: KeyHasher, W: IndexWidth> ArchivedIndexMa
         Self::pair_seal_of(this, index)
     }
 
-    /// Returns a seal of the value of a key that the comparison accepts, or `None`.
-    ///
-    /// It looks up as `get_with` does. The seal is over the whole archive.
-    ///
-    /// The contract of `found_by` also covers the bytes of the archive afterwards.
-    ///
-    /// A lookup in an untrusted map may read all of its control bytes.
-    ///
-    /// # Requires
-    ///
-    /// - The archive has a valid index map at the position of the seal.
-    /// - The comparison can be called with `key` and each key of the map.
+    /// Looks up as `get_with` does, and returns a seal as `get_seal` does.
     #[inline]
     pub fn get_seal_with<Q: KeyHash, F: Fn(&Q, View<'_, K>) -> bool>(
         this: ArchiveSeal<'a, IndexMapOf<K, V, H, W>>,
@@ -351,17 +266,9 @@ impl<'a, K: KeyElement, V: Element, H: KeyHasher, W: IndexWidth> ArchivedIndexMa
         Self::value_seal_of(this, index)
     }
 
-    /// Returns a seal of the value of the key that the query finds, or `None`.
-    ///
-    /// It looks up as `get` does. The seal is over the whole archive.
-    ///
-    /// A lookup in an untrusted map may read all of its control bytes.
+    /// Looks up as `get` does, and returns a seal of the value over the whole archive.
     ///
     /// The contract of `found_with` also covers the bytes of the archive afterwards.
-    ///
-    /// # Requires
-    ///
-    /// - The archive has a valid index map at the position of the seal.
     ///
     /// # Examples
     ///

@@ -17,25 +17,9 @@ use rkyv_base::{Represents, Text};
 use rkyv_keys::{KeyElement, NativeKey};
 use rkyv_scan::KeyHasher;
 
-/// Writes each letter from a to z of the text at `index` in upper case, if the text is inline.
+/// Writes the letters a to z of the text at `index` in upper case, if the text is inline.
 ///
-/// The map is at `root` of the archive. Returns `true` if the text is inline. Otherwise nothing
-/// is written. All other bytes are unchanged. `get_index_of` returns the index of a key.
-///
-/// If the map represents a list of pairs with keys of type `A`, it then represents the list
-/// with the text at the index in upper case if the result is `true`.
-///
-/// # Requires
-///
-/// - The archive has a valid index map to texts at `root`.
-/// - `index` is below the length of the map.
-///
-/// # Examples
-///
-/// ```rust
-/// let is_inline = make_ascii_uppercase_at::<A, K, H, W>(bytes, root, index);
-/// Ok(Some(is_inline))
-/// ```
+/// The result is `false` for an out-of-line text, which is unchanged. `A` is as in `set_value_at`.
 pub fn make_ascii_uppercase_at<A, K: KeyElement + Represents<A>, H: KeyHasher, W: IndexWidth>(
     archive: &mut [u8],
     root: u64,
@@ -59,30 +43,10 @@ pub fn make_ascii_uppercase_at<A, K: KeyElement + Represents<A>, H: KeyHasher, W
     uppercase_at::<W>(archive, pos as usize)
 }
 
-/// Writes each letter from a to z of the text of a key in upper case, if the text is inline.
+/// Writes the letters a to z of the text of a key in upper case, if the text is inline.
 ///
-/// The map is at `root` of the archive. If it represents a list of pairs of an `A` and a `&str`,
-/// the text is that of the first pair with an equal key.
-///
-/// - `Some(true)`: the text is inline, and is written. All other bytes are unchanged.
-/// - `Some(false)`: the text is out of line. Nothing is written.
-/// - `None`: no key is found. Nothing is written.
-///
-/// In an untrusted archive, the lookup may read all control bytes.
-///
-/// # Requires
-///
-/// - The archive has a valid index map to texts at `root`.
-///
-/// # Examples
-///
-/// ```rust
-/// // Writes the text of a key in upper case. Returns the result of the call.
-/// fn uppercase_of<W: IndexWidth>(bytes: &mut [u8], key: i8) -> Result<Option<bool>, VerifyError> {
-///     let root = access_in::<W, IndexMapOf<i8, Text<W>, FxHasher64, W>>(&*bytes)?.pos();
-///     Ok(make_ascii_uppercase_of::<i8, i8, FxHasher64, W>(bytes, root, &key))
-/// }
-/// ```
+/// The result is `None` if no key is found, and `Some(false)` for an out-of-line text, which is
+/// unchanged. In an untrusted archive, the lookup may read all control bytes.
 pub fn make_ascii_uppercase_of<
     A: NativeKey<K>,
     K: KeyElement + Represents<A>,

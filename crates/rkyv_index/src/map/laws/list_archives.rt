@@ -14,9 +14,7 @@ use rkyv_base::{HasSpec, Represents, Scalar, Text};
 use rkyv_keys::{KeyElement, NativeQuery};
 use rkyv_scan::KeyHasher;
 
-/// States that a lookup in a root index map finds the index of the first equal key and its value.
-///
-/// The value is a view that represents that of the list.
+/// States that a lookup in a root index map finds the index and the value of the first equal key.
 pub fn values_found_are_listed<
     A,
     Q: NativeQuery<A, K>,
@@ -31,9 +29,7 @@ pub fn values_found_are_listed<
         (found_views V.represents) }
 {}
 
-/// States that a lookup in a root index map of scalars finds the first equal key's index and value.
-///
-/// The value is that of the list.
+/// States the law `values_found_are_listed` for values that are scalars.
 pub fn scalars_found_are_listed<
     A,
     Q: NativeQuery<A, K>,
@@ -47,9 +43,7 @@ pub fn scalars_found_are_listed<
         (found_scalars N.encoding) }
 {}
 
-/// States that a lookup in a root index map of texts finds the first equal key's index and text.
-///
-/// The text has the bytes of that of the list.
+/// States the law `values_found_are_listed` for values that are strings.
 pub fn texts_found_are_listed<
     A,
     Q: NativeQuery<A, K>,

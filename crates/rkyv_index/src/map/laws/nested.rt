@@ -10,19 +10,16 @@ use rkyv_base::{Element, Represents};
 use rkyv_keys::{KeyElement, Query};
 use rkyv_scan::KeyHasher;
 
-/// States that a write of one value that keeps it valid is a write among its index map's parts.
+/// States that a valid write of one value is a write among the parts of its index map.
 ///
-/// So the index map may itself be the value of another map or index map.
+/// So the index map may itself be a value of another map or index map.
 pub fn value_writes_are_nested<K: KeyElement, V: Element, W: IndexWidth>()
     ensures { ValueWritesAreNested W.word K.spec V.spec }
 {}
 
-/// States that a write among the parts of a value that keeps it valid keeps the index map.
+/// States that a valid write among the parts of a value keeps the index map and its lookups.
 ///
-/// - The index map is valid. All keys and all other values are unchanged.
-/// - Each lookup whose comparison depends only on the key and its parts finds the same index.
-/// - A written index map is still one.
-/// - The write is one among the parts of the index map.
+/// A lookup keeps its index if its comparison depends only on the key and its parts.
 pub fn nested_writes_keep_index_maps<K: KeyElement, V: Element, H: KeyHasher, W: IndexWidth>()
     ensures { NestedWritesKeepIndexMaps W.word K.spec V.spec
         (archived_hash H.KeyHasher K.KeyElement) }
@@ -42,8 +39,6 @@ pub fn nested_writes_keep_lookups<
 {}
 
 /// States that a write among the parts of the value at an index replaces it in the list.
-///
-/// The index map represents the list with the new value in the pair at the index.
 pub fn nested_writes_represent<A, B, K: KeyElement, V: Represents<B>, H: KeyHasher, W: IndexWidth>()
 where
     K: Represents<A>,

@@ -15,9 +15,7 @@ use rkyv_scan::KeyHasher;
 
 /// States that a written index map with its header is valid in any archive with its bytes.
 ///
-/// The header must be aligned and after the written bytes. It then has the length and the capacity
-/// of the map. The table has the indices in order, each under the hash of its key.
-/// The pairs are in a row, in insertion order.
+/// The header must be aligned and after the written bytes.
 pub fn written_index_maps_represent<
     W: IndexWidth,
     H: KeyHasher,

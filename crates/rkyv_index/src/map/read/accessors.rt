@@ -16,7 +16,6 @@ use rkyv_base::{Element, View};
 use rkyv_table::table::decoded::Decoded;
 use rkyv_table::{ArchivedHashTable, TableOf};
 
-// Converts a position that is at least 0 and below 2^64.
 #[inline]
 fn decode_pos(decoded: i128) -> u64
     requires { (at : ℕ) × (int at ≡ decoded) × (at < 2 ^ 64) }
@@ -25,7 +24,6 @@ fn decode_pos(decoded: i128) -> u64
     decoded as u64
 }
 
-// Decodes the header of the table of indices of a map.
 #[inline]
 fn decode<K: Element, V: Element, H, W: IndexWidth>(
     view: View<'_, IndexMapOf<K, V, H, W>>,
@@ -36,7 +34,6 @@ fn decode<K: Element, V: Element, H, W: IndexWidth>(
     ArchivedHashTable::of(view.at::<TableOf<W::Index, W>>(view.pos())).header()
 }
 
-// Returns the position of the first entry of a map.
 #[inline]
 pub(crate) fn begin<K: Element, V: Element, H, W: IndexWidth>(
     view: View<'_, IndexMapOf<K, V, H, W>>,
@@ -48,30 +45,7 @@ pub(crate) fn begin<K: Element, V: Element, H, W: IndexWidth>(
 }
 
 impl<'a, K: Element, V: Element, H, W: IndexWidth> ArchivedIndexMap<'a, K, V, H, W> {
-    /// Returns the map at a view of its header, which is decoded here, once.
-    ///
-    /// # Requires
-    ///
-    /// - The view is of a valid index map.
-    ///
-    /// # Examples
-    ///
-    /// ```rust
-    /// use rkyv_base::VerifyError;
-    /// use rkyv_base::access::access;
-    /// use rkyv_index::{ArchivedIndexMap, IndexMapOf};
-    ///
-    /// // Returns the number of pairs of an index map, and the value of a key.
-    /// fn look_up(archive: &[u8], key: i8) -> Result<(usize, Option<i8>), VerifyError> {
-    ///     let map = ArchivedIndexMap::of(access::<IndexMapOf<i8, i8>>(archive)?);
-    ///     match map.get(&key) {
-    ///         Some(value) => Ok((map.len(), Some(value.to_native()))),
-    ///         None => Ok((map.len(), None)),
-    ///     }
-    /// }
-    ///
-    /// assert_eq!(rt; look_up(&four_entries(), 3).ok(), Some((4, Some(4))));
-    /// ```
+    /// Returns the map at a valid view of its header, and decodes it once. `get` has an example.
     #[inline]
     pub fn of(view: View<'a, IndexMapOf<K, V, H, W>>) -> ArchivedIndexMap<'a, K, V, H, W>
         requires { IsValidView (index_spec W.word (entry_spec K.spec V.spec)) view }
@@ -80,12 +54,7 @@ impl<'a, K: Element, V: Element, H, W: IndexWidth> ArchivedIndexMap<'a, K, V, H,
         ArchivedIndexMap::with_header(view, decode(view))
     }
 
-    /// Returns the map at a view of its header, which was decoded before.
-    ///
-    /// # Requires
-    ///
-    /// - The view is of a valid index map.
-    /// - `header` is the decoded header of the table of indices at the view.
+    /// Returns the map at a view, with the result of `header` of the map at this view.
     #[inline]
     pub fn with_header(
         view: View<'a, IndexMapOf<K, V, H, W>>,
@@ -103,7 +72,7 @@ impl<'a, K: Element, V: Element, H, W: IndexWidth> ArchivedIndexMap<'a, K, V, H,
         }
     }
 
-    /// Returns its decoded header, for `with_header`.
+    /// Returns the decoded header, for `with_header`.
     #[inline]
     pub fn header(self) -> Decoded
         ensures { IsDecoded W.word (index_bytes self.entry) (index_pos self.entry) result }
@@ -111,7 +80,7 @@ impl<'a, K: Element, V: Element, H, W: IndexWidth> ArchivedIndexMap<'a, K, V, H,
         self.header
     }
 
-    /// Returns `true` if and only if the map has no pairs.
+    /// Returns `true` if the map has no pairs.
     #[inline]
     pub fn is_empty(self) -> bool
         ensures { IsTrue result ↔ (index_len self.entry ≡ 0) }
@@ -135,7 +104,7 @@ impl<'a, K: Element, V: Element, H, W: IndexWidth> ArchivedIndexMap<'a, K, V, H,
         self.header.capacity()
     }
 
-    /// Returns the key and the value at an index, or `None` if the index isn't below the length.
+    /// Returns the pair at an index, or `None` if the index isn't below the length.
     ///
     /// # Examples
     ///
@@ -160,19 +129,7 @@ impl<'a, K: Element, V: Element, H, W: IndexWidth> ArchivedIndexMap<'a, K, V, H,
         Some(self.pair(index))
     }
 
-    /// Returns the first key and its value, in insertion order, or `None` if the map has no pairs.
-    ///
-    /// # Examples
-    ///
-    /// ```rust
-    /// type Prices = IndexMapOf<Text, u32>;
-    ///
-    /// // Returns the first name, borrowed from the archive.
-    /// fn first_name(archive: &[u8]) -> Result<Option<&str>, VerifyError> {
-    ///     let prices = ArchivedIndexMap::of(access::<Prices>(archive)?);
-    ///     Ok(prices.first().map(|(name, _)| name.as_str()))
-    /// }
-    /// ```
+    /// Returns the first pair in insertion order.
     #[inline]
     pub fn first(self) -> Option<PairView<'a, K, V>>
         ensures { MatchOption result
@@ -182,19 +139,7 @@ impl<'a, K: Element, V: Element, H, W: IndexWidth> ArchivedIndexMap<'a, K, V, H,
         self.get_index(0)
     }
 
-    /// Returns the last key and its value, in insertion order, or `None` if the map has no pairs.
-    ///
-    /// # Examples
-    ///
-    /// ```rust
-    /// type Prices = IndexMapOf<Text, u32>;
-    ///
-    /// // Returns the last price.
-    /// fn last_price(archive: &[u8]) -> Result<Option<u32>, VerifyError> {
-    ///     let prices = ArchivedIndexMap::of(access::<Prices>(archive)?);
-    ///     Ok(prices.last().map(|(_, price)| price.to_native()))
-    /// }
-    /// ```
+    /// Returns the last pair in insertion order.
     #[inline]
     pub fn last(self) -> Option<PairView<'a, K, V>>
         ensures { MatchOption result

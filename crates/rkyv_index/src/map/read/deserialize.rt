@@ -10,7 +10,6 @@ use rkyv_keys::Deserialize;
 use std::alloc::Global;
 
 impl<'a, K: Element, V: Element, H, W: IndexWidth> ArchivedIndexMap<'a, K, V, H, W> {
-    // Deserializes the pair at `index`.
     #[inline]
     fn read_pair<A: Drop, B>(self, alloc: Global, index: usize) -> Result<(A, B), ReadError>
     where
@@ -26,24 +25,12 @@ impl<'a, K: Element, V: Element, H, W: IndexWidth> ArchivedIndexMap<'a, K, V, H,
 
     /// Deserializes the pairs into a list, in order.
     ///
-    /// By its code alone, memory for the list is allocated first.
+    /// Not proved: memory for the list is allocated before a pair is deserialized.
     ///
     /// # Errors
     ///
     /// - `Memory`: memory for the list could not be allocated. An empty list needs none.
     /// - The first error of deserializing a key or a value.
-    ///
-    /// # Examples
-    ///
-    /// ```rust
-    /// // Returns the pairs in the archive of an index map, if it is valid and no allocation fails.
-    /// fn read<W: IndexWidth>(alloc: Global, bytes: &[u8]) -> Option<Vec<(i8, i8)>> {
-    ///     match access_in::<W, IndexMapOf<i8, i8, FxHasher64, W>>(bytes) {
-    ///         Ok(root) => ArchivedIndexMap::of(root).deserialize_pairs(alloc).ok(),
-    ///         Err(_) => None,
-    ///     }
-    /// }
-    /// ```
     pub fn deserialize_pairs<A: Drop, B: Drop>(
         self,
         alloc: Global,

@@ -15,7 +15,7 @@ use rkyv_base::view::PairView;
 use rkyv_base::{Element, Entry, View};
 use rkyv_table::{ArchivedHashTable, Strides, TableOf};
 
-/// Returns the position of entry `i` of a row of entries from `begin` on.
+/// Returns the position of entry `i` of contiguous entries from `begin` on.
 #[inline]
 fn entry_pos(begin: u64, i: usize, size: usize) -> u64
     requires { begin + i * size < 2 ^ 64 }
@@ -24,7 +24,6 @@ fn entry_pos(begin: u64, i: usize, size: usize) -> u64
     begin + (i * size) as u64
 }
 
-/// Returns a view of the entry at `index` of the map at `view`, with the entries from `begin` on.
 #[inline]
 pub(crate) fn entry_in<'a, K: Element, V: Element, H, W: IndexWidth>(
     view: View<'a, IndexMapOf<K, V, H, W>>,
@@ -43,7 +42,6 @@ pub(crate) fn entry_in<'a, K: Element, V: Element, H, W: IndexWidth>(
 }
 
 impl<'a, K: Element, V: Element, H, W: IndexWidth> ArchivedIndexMap<'a, K, V, H, W> {
-    /// Returns the table of the indices.
     #[inline]
     pub(crate) fn table(self) -> ArchivedHashTable<'a, W::Index, W>
         ensures at { IsAt (table_view result) (index_archive self.entry) (index_pos self.entry) }
@@ -52,7 +50,6 @@ impl<'a, K: Element, V: Element, H, W: IndexWidth> ArchivedIndexMap<'a, K, V, H,
         ArchivedHashTable::with_header(view, self.header)
     }
 
-    /// Returns a view of the entry at `index`.
     #[inline]
     pub(crate) fn entry(self, index: usize) -> View<'a, Entry<K, V>>
         requires below { index < index_len self }
@@ -61,7 +58,6 @@ impl<'a, K: Element, V: Element, H, W: IndexWidth> ArchivedIndexMap<'a, K, V, H,
         entry_in(self.view, self.begin, index)
     }
 
-    /// Returns views of the key and the value at `index`.
     #[inline]
     pub(crate) fn pair(self, index: usize) -> PairView<'a, K, V>
         requires below { index < index_len self }
@@ -72,7 +68,6 @@ impl<'a, K: Element, V: Element, H, W: IndexWidth> ArchivedIndexMap<'a, K, V, H,
     }
 }
 
-/// Returns a view of the key at `index` of the map at `view`, with the entries from `begin` on.
 #[inline]
 pub(crate) fn key_in<'a, K: Element, V: Element, H, W: IndexWidth>(
     view: View<'a, IndexMapOf<K, V, H, W>>,
@@ -87,7 +82,6 @@ pub(crate) fn key_in<'a, K: Element, V: Element, H, W: IndexWidth>(
     entry_in(view, begin, index).key()
 }
 
-/// Returns the index at an item of a table of indices.
 #[inline]
 fn read_index<W: IndexWidth>(item: View<'_, W::Index>) -> usize
     requires { pos_of item + byte_len W.word ≤ length (bytes_of item) }
@@ -96,9 +90,7 @@ fn read_index<W: IndexWidth>(item: View<'_, W::Index>) -> usize
     W::read_count(item.bytes(), item.pos() as usize) as usize
 }
 
-/// Returns an index in a table under `hash` that the comparison accepts, or `None`.
-///
-/// The count is increased by the strides of sixteen control bytes that are read.
+/// Returns an accepted index in a table under `hash`, and counts the strides that are read.
 #[inline]
 pub(crate) fn find_index<W: IndexWidth, F: Fn(usize) -> bool>(
     table: ArchivedHashTable<'_, W::Index, W>,

@@ -18,19 +18,7 @@ use rkyv_base::{Entry, View};
 use rkyv_keys::{ElementEq, ElementEquiv};
 
 impl<'a, K: ElementEq, V: ElementEq, H, W: IndexWidth> ArchivedIndexMap<'a, K, V, H, W> {
-    /// Returns `true` if and only if both maps have the same length and the same pairs in order.
-    ///
-    /// # Examples
-    ///
-    /// ```rust
-    /// let bytes = four_entries();
-    /// let map = ArchivedIndexMap::of(access::<Small>(&bytes)?);
-    /// let backwards = narrow(rt.alloc(), &[(7, 8), (5, 6), (3, 4), (1, 2)])?;
-    /// let other = ArchivedIndexMap::of(access::<Small>(backwards.as_slice())?);
-    /// let own = map.eq_index(map);
-    /// let turned = map.eq_index(other);
-    /// assert_eq!(rt; (own, turned, map.misplaced()), (true, false, 0));
-    /// ```
+    /// Returns `true` if both maps have the same pairs in the same order.
     pub fn eq_index(self, other: ArchivedIndexMap<'_, K, V, H, W>) -> bool
         ensures { result ≡ index_maps_equal K.same V.same self.entry other.entry }
     {
@@ -47,7 +35,7 @@ impl<'a, K: ElementEq, V: ElementEq, H, W: IndexWidth> ArchivedIndexMap<'a, K, V
     }
 }
 
-/// Returns `true` if and only if both maps have the same length and the same pairs in order.
+/// Compares as `eq_index` does.
 impl<'a, K: ElementEquiv, V: ElementEquiv, H, W: IndexWidth> PartialEq
     for ArchivedIndexMap<'a, K, V, H, W> {
     ghost eq = { index_maps_equal K.same V.same };

@@ -13,13 +13,12 @@ use rkyv_base::view::PairView;
 use rkyv_base::{Element, Entry, HasSpec, View};
 use std::marker::{Model, PhantomData};
 
-/// The pairs of an index map that remain, in insertion order.
+/// An iterator over the pairs of an index map, in insertion order.
 #[derive(Drop)]
 pub struct Iter<'a, K: HasSpec, V: HasSpec> {
     archive: &'a [u8],
     // The position of the next entry, if one remains.
     at: usize,
-    // The size of an entry in bytes.
     size: usize,
     left: usize,
     key: PhantomData<K>,
@@ -75,7 +74,7 @@ impl<'a, K: Element, V: Element> ExactSizeIterator for Iter<'a, K, V> {
     }
 }
 
-/// The keys of an index map that remain, in insertion order.
+/// An iterator over the keys of an index map, in insertion order.
 #[derive(Drop)]
 pub struct Keys<'a, K: HasSpec, V: HasSpec> {
     pairs: Iter<'a, K, V>,
@@ -119,7 +118,7 @@ impl<'a, K: Element, V: Element> ExactSizeIterator for Keys<'a, K, V> {
     }
 }
 
-/// The values of an index map that remain, in insertion order.
+/// An iterator over the values of an index map, in insertion order.
 #[derive(Drop)]
 pub struct Values<'a, K: HasSpec, V: HasSpec> {
     pairs: Iter<'a, K, V>,

@@ -33,9 +33,7 @@ use rkyv_table::Strides;
 
 // Every lookup is one call of `find`.
 impl<'a, K: KeyElement, V: Element, H: KeyHasher, W: IndexWidth> ArchivedIndexMap<'a, K, V, H, W> {
-    /// Returns the index of a key under the hash of `key` that the comparison accepts, or `None`.
-    ///
-    /// The count is increased by the strides of sixteen control bytes that are read.
+    /// Returns the index of an accepted key under the hash of `key`, and counts the strides read.
     #[inline]
     pub(crate) fn find<Q: KeyHash, F>(self, key: &Q, cmp: F, strides: &mut Strides) -> Option<usize>
     where
@@ -69,19 +67,10 @@ impl<'a, K: KeyElement, V: Element, H: KeyHasher, W: IndexWidth> ArchivedIndexMa
 
     /// Returns a pair whose key the comparison accepts, with its index, under the hash of `key`.
     ///
-    /// The result is `None` or a pair of the map, whatever the comparison returns.
-    /// The comparison is called with keys of the map alone, and may be called twice with one.
-    /// In an untrusted map, it may be called twice with one for each bucket with its index.
-    ///
-    /// If the comparison depends only on the index of a key, the control bytes decide which pair
-    /// it is. In a written map, it is the first accepted pair in insertion order
-    /// if each accepted key is under the hash of `key`.
-    ///
-    /// A lookup in an untrusted map may read all of its control bytes.
-    ///
-    /// # Requires
-    ///
-    /// - The comparison can be called with `key` and each key of the map.
+    /// `cmp` must be callable with `key` and each key of the map. It may be called twice with a
+    /// key, and in an untrusted map twice for each bucket with its index. If it depends only on
+    /// the index of a key, the control bytes decide which pair is returned. In a written map, it
+    /// is the first accepted pair if all accepted keys are under that hash.
     #[inline]
     pub fn get_full_with<Q: KeyHash, F>(
         self,
@@ -100,7 +89,6 @@ impl<'a, K: KeyElement, V: Element, H: KeyHasher, W: IndexWidth> ArchivedIndexMa
         Some((index, entry.key(), entry.value()))
     }
 
-    /// Returns the index of the key that the query finds, and counts the strides it reads.
     #[inline]
     pub(crate) fn find_counted<Q: Query<K>>(self, key: &Q, strides: &mut Strides) -> Option<usize>
         ensures found { GetsKey index_part self.entry
@@ -129,29 +117,12 @@ impl<'a, K: KeyElement, V: Element, H: KeyHasher, W: IndexWidth> ArchivedIndexMa
         self.find_counted(key, &mut Strides::new())
     }
 
-    /// Returns the pair of the key that the query finds, with its index, or `None`.
+    /// Returns the pair of the key that the query finds, with its index.
     ///
     /// In a written map, it is the first pair in insertion order whose key the query matches.
     ///
-    /// In an untrusted map, a lookup may miss a key that the query matches.
-    /// No key is missed if `misplaced` is 0. The lookup then finds the one key that the query
-    /// matches, and `None` if and only if it matches none.
-    ///
-    /// A lookup in an untrusted map may read all of its control bytes.
-    /// `FxHasher64` takes no secret key, so it doesn't protect from chosen input.
-    ///
-    /// # Examples
-    ///
-    /// ```rust
-    /// type Prices = IndexMapOf<Text, u32>;
-    ///
-    /// // Returns the index of a name, and its price.
-    /// fn find(archive: &[u8], name: &str) -> Result<Option<(usize, u32)>, VerifyError> {
-    ///     let prices = ArchivedIndexMap::of(access::<Prices>(archive)?);
-    ///     let found = prices.get_full(&name);
-    ///     Ok(found.map(|(index, _, price)| (index, price.to_native())))
-    /// }
-    /// ```
+    /// A lookup in an untrusted map may read all control bytes, and may miss a key that the query
+    /// matches, unless `misplaced` is 0. `FxHasher64` doesn't protect from chosen keys.
     #[inline]
     pub fn get_full<Q: Query<K>>(self, key: &Q) -> Option<(usize, View<'a, K>, View<'a, V>)>
         ensures { GetsKey full_part self.entry
@@ -162,7 +133,6 @@ impl<'a, K: KeyElement, V: Element, H: KeyHasher, W: IndexWidth> ArchivedIndexMa
         Some((index, entry.key(), entry.value()))
     }
 
-    /// Returns the pair at a found index.
     #[inline]
     fn pair_of(self, index: Option<usize>) -> Option<PairView<'a, K, V>>
         requires stored { IfSome index (IsStoredIndex self) }
@@ -171,7 +141,6 @@ impl<'a, K: KeyElement, V: Element, H: KeyHasher, W: IndexWidth> ArchivedIndexMa
         Some(self.pair(index?))
     }
 
-    /// Returns the value at a found index.
     #[inline]
     fn value_of(self, index: Option<usize>) -> Option<View<'a, V>>
         requires stored { IfSome index (IsStoredIndex self) }
@@ -180,15 +149,7 @@ impl<'a, K: KeyElement, V: Element, H: KeyHasher, W: IndexWidth> ArchivedIndexMa
         Some(self.entry(index?).value())
     }
 
-    /// Returns a pair whose key the comparison accepts, or `None`.
-    ///
-    /// It looks up as `get_full_with` does.
-    ///
-    /// A lookup in an untrusted map may read all of its control bytes.
-    ///
-    /// # Requires
-    ///
-    /// - The comparison can be called with `key` and each key of the map.
+    /// Looks up as `get_full_with` does, and returns the key and the value.
     #[inline]
     pub fn get_key_value_with<Q: KeyHash, F>(self, key: &Q, cmp: F) -> Option<PairView<'a, K, V>>
     where
@@ -201,11 +162,7 @@ impl<'a, K: KeyElement, V: Element, H: KeyHasher, W: IndexWidth> ArchivedIndexMa
         self.pair_of(self.find(key, cmp, &mut Strides::new()))
     }
 
-    /// Returns the pair of the key that the query finds, or `None`.
-    ///
-    /// It looks up as `get_full` does.
-    ///
-    /// A lookup in an untrusted map may read all of its control bytes.
+    /// Looks up as `get_full` does, and returns the key and the value.
     #[inline]
     pub fn get_key_value<Q: Query<K>>(self, key: &Q) -> Option<PairView<'a, K, V>>
         ensures { GetsKey pair_part self.entry
@@ -214,15 +171,7 @@ impl<'a, K: KeyElement, V: Element, H: KeyHasher, W: IndexWidth> ArchivedIndexMa
         self.pair_of(self.find_key(key))
     }
 
-    /// Returns the value of a pair whose key the comparison accepts, or `None`.
-    ///
-    /// It looks up as `get_full_with` does.
-    ///
-    /// A lookup in an untrusted map may read all of its control bytes.
-    ///
-    /// # Requires
-    ///
-    /// - The comparison can be called with `key` and each key of the map.
+    /// Looks up as `get_full_with` does, and returns the value.
     #[inline]
     pub fn get_with<Q: KeyHash, F>(self, key: &Q, cmp: F) -> Option<View<'a, V>>
     where
@@ -235,11 +184,7 @@ impl<'a, K: KeyElement, V: Element, H: KeyHasher, W: IndexWidth> ArchivedIndexMa
         self.value_of(self.find(key, cmp, &mut Strides::new()))
     }
 
-    /// Returns the value of the key that the query finds, or `None`.
-    ///
-    /// It looks up as `get_full` does.
-    ///
-    /// A lookup in an untrusted map may read all of its control bytes.
+    /// Looks up as `get_full` does, and returns the value.
     ///
     /// # Examples
     ///
@@ -260,15 +205,7 @@ impl<'a, K: KeyElement, V: Element, H: KeyHasher, W: IndexWidth> ArchivedIndexMa
         self.value_of(self.find_key(key))
     }
 
-    /// Returns the index of a pair whose key the comparison accepts, or `None`.
-    ///
-    /// It looks up as `get_full_with` does.
-    ///
-    /// A lookup in an untrusted map may read all of its control bytes.
-    ///
-    /// # Requires
-    ///
-    /// - The comparison can be called with `key` and each key of the map.
+    /// Looks up as `get_full_with` does, and returns the index.
     #[inline]
     pub fn get_index_of_with<Q: KeyHash, F>(self, key: &Q, cmp: F) -> Option<usize>
     where
@@ -281,25 +218,11 @@ impl<'a, K: KeyElement, V: Element, H: KeyHasher, W: IndexWidth> ArchivedIndexMa
         self.find(key, cmp, &mut Strides::new())
     }
 
-    /// Returns the index of an accepted key, or `None`, and counts the strides it reads.
+    /// Looks up as `get_full_with` does, returns the index, and counts the strides it reads.
     ///
-    /// It looks up as `get_index_of_with` does. A stride has sixteen control bytes.
-    ///
-    /// It reads no stride in an empty map, else at least one and at most ceil(n / 16),
-    /// where n is the number of buckets. The number is exact if the comparison depends only
-    /// on the index of a key. The count ends at 2^64 - 1.
-    ///
-    /// # Requires
-    ///
-    /// - The comparison can be called with `key` and each key of the map.
-    ///
-    /// # Examples
-    ///
-    /// ```rust
-    /// let mut strides = Strides::new();
-    /// let found = map.get_index_of_counted(&5i8, |_: &i8, _: View<'_, i8>| true, &mut strides);
-    /// let one = strides.count();
-    /// ```
+    /// A stride has sixteen control bytes. The count ends at 2^64 - 1. It is exact if the
+    /// comparison depends only on the index of a key, and grows by at most ceil(n / 16), for n
+    /// buckets.
     #[inline]
     pub fn get_index_of_counted<Q: KeyHash, F>(
         self,
@@ -320,11 +243,7 @@ impl<'a, K: KeyElement, V: Element, H: KeyHasher, W: IndexWidth> ArchivedIndexMa
         self.find(key, cmp, strides)
     }
 
-    /// Returns the index of the pair whose key the query finds, or `None`.
-    ///
-    /// It looks up as `get_full` does.
-    ///
-    /// A lookup in an untrusted map may read all of its control bytes.
+    /// Looks up as `get_full` does, and returns the index.
     #[inline]
     pub fn get_index_of<Q: Query<K>>(self, key: &Q) -> Option<usize>
         ensures { GetsKey index_part self.entry
@@ -333,9 +252,7 @@ impl<'a, K: KeyElement, V: Element, H: KeyHasher, W: IndexWidth> ArchivedIndexMa
         self.find_key(key)
     }
 
-    /// Returns `true` if and only if the query finds a key.
-    ///
-    /// A lookup in an untrusted map may read all of its control bytes.
+    /// Returns `true` if `get_full` finds a key.
     #[inline]
     pub fn contains_key<Q: Query<K>>(self, key: &Q) -> bool
         ensures { FoundKeyHas (index_of self.entry)
@@ -345,27 +262,7 @@ impl<'a, K: KeyElement, V: Element, H: KeyHasher, W: IndexWidth> ArchivedIndexMa
         self.find_key(key).is_some()
     }
 
-    /// Returns the value of the key that the query finds.
-    ///
-    /// A lookup in an untrusted map may read all of its control bytes.
-    ///
-    /// # Requires
-    ///
-    /// - The query finds a key. `contains_key` then returns `true`.
-    ///
-    /// # Examples
-    ///
-    /// ```rust
-    /// // Returns the value of a key by `index`, if the map has the key.
-    /// fn indexed<W: IndexWidth>(bytes: &[u8], key: i8) -> Result<Option<i8>, VerifyError> {
-    ///     let root = access_in::<W, IndexMapOf<i8, i8, FxHasher64, W>>(bytes)?;
-    ///     let map = ArchivedIndexMap::of(root);
-    ///     if map.contains_key(&key) {
-    ///         return Ok(Some(map.index(&key).to_native()));
-    ///     }
-    ///     Ok(None)
-    /// }
-    /// ```
+    /// Returns the value of a key for which `contains_key` must return `true`.
     #[inline]
     pub fn index<Q: Query<K>>(self, key: &Q) -> View<'a, V>
         requires found { FindsKey (index_of self) (native_hash H.KeyHasher Q.KeyHash key.now)

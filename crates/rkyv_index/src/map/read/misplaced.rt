@@ -1,4 +1,4 @@
-//! Counting the keys of an index map that a lookup of their own doesn't find.
+//! Counting the keys of an index map that `get_index_of` doesn't find at their own index.
 //!
 //! - `misplaced` looks up each key. Its cost on an untrusted map may be quadratic.
 //! - `misplaced_up_to` ends at a limit on the strides that are read.
@@ -18,8 +18,7 @@ use rkyv_table::Strides;
 use rkyv_table::table::misplaced::finds_another_or_none;
 
 impl<'a, K: KeyElement, V: Element, H: KeyHasher, W: IndexWidth> ArchivedIndexMap<'a, K, V, H, W> {
-    // Returns `true` if and only if a lookup of the key at `index` doesn't find `index`.
-    // The count is increased by the strides that the lookup reads.
+    // Returns `true` if a lookup of the key at `index` doesn't find `index`; counts its strides.
     #[inline]
     fn is_misplaced(self, index: usize, strides: &mut Strides) -> bool
         requires below { index < index_len self }
@@ -35,28 +34,13 @@ impl<'a, K: KeyElement, V: Element, H: KeyHasher, W: IndexWidth> ArchivedIndexMa
         finds_another_or_none(index, self.find_counted(&key, strides))
     }
 
-    /// Returns the number of keys that a lookup of their own doesn't find.
+    /// Counts the keys whose index `get_index_of` of the same key doesn't return.
     ///
-    /// A key is found if the lookup returns its own index. Otherwise the lookup finds another key
-    /// that is the same, or returns `None`.
+    /// In a written map, these are the keys that equal an earlier key.
     ///
-    /// In a written map, it is the number of keys that are the same as an earlier key
-    /// in insertion order. An untrusted map may have other misplaced keys.
-    ///
-    /// By its code alone, each key is looked up once. Each lookup may read all control bytes.
-    /// Keys that share a hash cost a number of comparisons that is quadratic in their number.
-    /// `FxHasher64` takes no secret key, so chosen keys can share one.
-    ///
-    /// # Examples
-    ///
-    /// ```rust
-    /// // Returns the number of keys of an index map that a lookup of their own doesn't find.
-    /// fn misplaced(archive: &[u8]) -> Result<usize, VerifyError> {
-    ///     Ok(ArchivedIndexMap::of(access::<IndexMapOf<i8, i8>>(archive)?).misplaced())
-    /// }
-    ///
-    /// assert_eq!(rt; misplaced(&one_key_twice()).ok(), Some(1));
-    /// ```
+    /// Not proved: each key is looked up once. The cost is quadratic in the number of keys that
+    /// share a hash, and in the length of an untrusted map. `FxHasher64` has no secret key, so
+    /// chosen keys can share a hash.
     pub fn misplaced(self) -> usize
         ensures exact { result ≡ index_misplaced (index_of self.entry)
             (archived_keys H.KeyHasher K.KeyElement) }
@@ -72,25 +56,11 @@ impl<'a, K: KeyElement, V: Element, H: KeyHasher, W: IndexWidth> ArchivedIndexMa
         count
     }
 
-    /// Returns the number of misplaced keys, or `None` at a limit on the strides that it reads.
+    /// Counts as `misplaced` does, or returns `None` if the lookups read more than `limit` strides.
     ///
-    /// The number is the result of `misplaced`.
-    ///
-    /// The result is `None` if and only if the lookups of all keys read more than `limit` strides
-    /// of sixteen control bytes.
-    ///
-    /// By its code alone, it reads at most `limit` strides and those of one more lookup, so its
-    /// cost on an untrusted map is bounded. The contract of `misplaced_up_to_counted` also says so.
-    /// A written map takes about one stride for each key if the hashes of its keys are spread
-    /// evenly.
-    ///
-    /// # Examples
-    ///
-    /// ```rust
-    /// fn misplaced_within(archive: &[u8], limit: u64) -> Result<Option<usize>, VerifyError> {
-    ///     Ok(ArchivedIndexMap::of(access::<IndexMapOf<i8, i8>>(archive)?).misplaced_up_to(limit))
-    /// }
-    /// ```
+    /// The cost on an untrusted map is bounded: by the contract of `misplaced_up_to_counted`, it
+    /// reads at most `limit` strides and one more lookup's. A written map takes about one stride
+    /// for each key if its hashes are spread evenly.
     pub fn misplaced_up_to(self, limit: u64) -> Option<usize>
         ensures { CountsUpTo (index_of self.entry) (archived_keys H.KeyHasher K.KeyElement) limit
             result }
@@ -98,21 +68,9 @@ impl<'a, K: KeyElement, V: Element, H: KeyHasher, W: IndexWidth> ArchivedIndexMa
         self.misplaced_up_to_counted(limit, &mut Strides::new())
     }
 
-    /// Returns the number of misplaced keys, or `None` at a limit, and counts the strides it reads.
+    /// Counts as `misplaced_up_to` does, and adds the strides it reads to `strides`.
     ///
-    /// It counts as `misplaced_up_to` does. The strides are added to `strides`, whose count ends at
-    /// 2^64 - 1.
-    ///
-    /// It counts at most `limit` strides and those of one more lookup, which are at most
-    /// ceil(n / 16), where n is the number of buckets.
-    ///
-    /// # Examples
-    ///
-    /// ```rust
-    /// let map = ArchivedIndexMap::of(access::<IndexMapOf<i8, i8>>(archive)?);
-    /// let mut strides = Strides::new();
-    /// let misplaced = map.misplaced_up_to_counted(limit, &mut strides);
-    /// ```
+    /// It reads at most `limit` strides and one more lookup's: at most ceil(n / 16), for n buckets.
     pub fn misplaced_up_to_counted(self, limit: u64, strides: &mut Strides) -> Option<usize>
         ensures counts { CountsUpTo (index_of self.entry) (archived_keys H.KeyHasher K.KeyElement)
             limit result }

@@ -14,15 +14,13 @@ use std::marker::PhantomData;
 
 /// A value that has a hash under the hasher `H`.
 pub(crate) trait HashedEntry<H> {
-    // The hash of the value.
     ghost hash: { Self → ℕ };
 
-    /// Returns the hash of the value.
     fn hash(&self) -> u64
         ensures { result ≡ hash self.now };
 }
 
-// The hash of an entry is that of its key.
+// The hash of an entry is its key's.
 impl<BK: Lend<A>, BV, A: KeyHash, B, H: KeyHasher> HashedEntry<H> for EntryAdapter<BK, BV, A, B> {
     ghost hash = { λ entry. native_hash H.KeyHasher A.KeyHash (BK.lent entry.key) };
 

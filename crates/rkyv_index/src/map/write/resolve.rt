@@ -9,7 +9,7 @@ use rkyv_base::{DistanceTooLarge, HasSpec, Narrow, ResolveResult};
 use rkyv_table::{ArchivedHashTable, HashTableResolver};
 use std::marker::Model;
 
-/// The resolver of a written index map: that of its table, and the position of its entries.
+/// The resolver of a written index map: its table's resolver, and the position of its entries.
 #[derive(Drop)]
 #[must_use]
 pub struct IndexMapResolver<W: IndexWidth = Narrow> {
@@ -42,18 +42,8 @@ impl<W: IndexWidth> IndexMapResolver<W> {
 
     /// Writes the header of the written map over the whole of `out`, for a header at `pos`.
     ///
-    /// It is the header that `resolve_from_len` writes.
-    ///
-    /// # Requires
-    ///
-    /// - `out` has the size of a header.
-    /// - The header ends below 2^64.
-    ///
-    /// # Errors
-    ///
-    /// - `DistanceTooLarge`: the map isn't empty, and the distance to the table doesn't fit
-    ///   in the width. Or the distance to the entries doesn't fit, also of an empty map.
-    ///   `out` is unchanged.
+    /// Fails with `DistanceTooLarge`, and leaves `out` unchanged, if the distance to the entries,
+    /// or to a table that isn't empty, doesn't fit in the width.
     pub fn resolve(self, pos: u64, out: &mut [u8]) -> ResolveResult
         requires room { length out.old ≡ W.INDEX_SIZE }
         requires fits { pos + W.INDEX_SIZE < 2 ^ 64 }
@@ -65,21 +55,9 @@ impl<W: IndexWidth> IndexMapResolver<W> {
 }
 
 impl<'a, K: HasSpec, V: HasSpec, H, W: IndexWidth> ArchivedIndexMap<'a, K, V, H, W> {
-    /// Writes the header of a written map over the whole of `out`, for a header at `pos`.
+    /// Writes as `IndexMapResolver::resolve` does, with rkyv's signature.
     ///
-    /// It is the header of the table of indices, and then the distance to the entries.
-    ///
-    /// # Requires
-    ///
-    /// - `len` and `load_factor` are those of the resolver.
-    /// - `out` has the size of a header.
-    /// - The header ends below 2^64.
-    ///
-    /// # Errors
-    ///
-    /// - `DistanceTooLarge`: the map isn't empty, and the distance to the table doesn't fit
-    ///   in the width. Or the distance to the entries doesn't fit, also of an empty map.
-    ///   `out` is unchanged.
+    /// `len` and `load_factor` must be the resolver's.
     pub fn resolve_from_len(
         len: usize,
         load_factor: (usize, usize),

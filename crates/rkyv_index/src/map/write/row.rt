@@ -1,4 +1,4 @@
-//! Writing values in a row: first their parts, and then their own bytes.
+//! Writing contiguous values: first their parts, and then their own bytes.
 
 ghost use Rattle.std.specs.Prelude.{◌≡◌, ◌<◌, ◌≤◌, [], vec_capacity, length};
 ghost use Rattle.rkyv_base.specs.{end_of};

@@ -41,41 +41,23 @@ impl<
 }
 
 impl<'a, K: KeyElement, V: Element, H: KeyHasher, W: IndexWidth> ArchivedIndexMap<'a, K, V, H, W> {
-    /// Writes an index map of `len` pairs and returns its resolver.
+    /// Writes an index map of `len` pairs of keys and values or references. Returns its resolver.
     ///
-    /// The pairs have their keys and values as themselves or by reference.
-    /// Pairs with equal keys are kept, and a lookup finds the first.
+    /// The table of indices is written first, then the parts of the entries, zeros up to the
+    /// alignment of an entry, and the entries. Pairs with equal keys are kept.
     ///
-    /// The layout is:
-    ///
-    /// 1. the table of the indices, each under the hash of its key, as `serialize_by` of the table
-    ///    writes it,
-    /// 2. the parts of the entries, in insertion order,
-    /// 3. zeros up to the alignment of an entry,
-    /// 4. the entries, in insertion order.
-    ///
-    /// The table of no pairs has no bytes.
-    ///
-    /// By tests alone: the iterator is called at most `len + 1` times,
-    /// and not after it returned `None`. Memory for the pairs is allocated before one is taken,
-    /// and memory for the table afterwards.
-    ///
-    /// # Requires
-    ///
-    /// - The iterator can be called.
+    /// Tested only: `next` is called at most `len + 1` times, and not after it returned `None`.
+    /// Memory for the pairs is allocated before the first call, memory for the table afterwards.
     ///
     /// # Errors
     ///
     /// - `InvalidLoadFactor`: the load factor isn't above 0 and at most 1.
     /// - `CapacityTooLarge`: the capacity is above `W::MAX_CAPACITY`.
     /// - `Memory`: `len` isn't 0, and memory for the pairs or for the table could not be allocated.
-    /// - `IteratorLengthMismatch`: the number of pairs isn't `len`. The number is counted up
-    ///   to `len + 1`.
+    /// - `IteratorLengthMismatch`: there aren't `len` pairs. They are counted up to `len + 1`.
     /// - The error of the first key, value or piece that fails.
     ///
-    /// If the call itself fails with one of the first four errors, nothing is written. A key
-    /// or value that fails with the same error may follow bytes that were written. The bytes
-    /// written before the call are unchanged.
+    /// Nothing is written before one of the first four, unless it is a key's or value's own error.
     ///
     /// # Examples
     ///

@@ -10,8 +10,6 @@ use rkyv_base::{EntryAdapter, Lend};
 use rkyv_table::table::take::next_item;
 use std::alloc::{AllocError, Global};
 
-// The memory for writing entries: vectors with room for each entry and each resolver,
-// and the bytes of one entry. For no entries, nothing is allocated.
 #[derive(Drop)]
 pub(crate) struct Room<X, R> {
     pub(crate) entries: Vec<X>,
