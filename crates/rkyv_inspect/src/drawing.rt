@@ -8,8 +8,7 @@ use std::fmt::{self, Display, Formatter, Write};
 
 /// A drawing of the regions of an archive: a standalone SVG.
 ///
-/// Each region is one rectangle. Its width is the number of its bytes, and its title is its
-/// position and its text.
+/// Each region is a rectangle as wide as its bytes, with its position and its text as the title.
 ///
 /// # Examples
 ///
@@ -60,7 +59,6 @@ impl Display for Drawing<'_> {
     }
 }
 
-/// The rectangle of a region.
 #[derive(Clone, Copy)]
 struct Rect<'a>(&'a Region);
 
@@ -83,7 +81,7 @@ impl Display for Rect<'_> {
     }
 }
 
-/// A text in which the characters of markup are escaped.
+/// A string with the characters of markup escaped.
 #[derive(Clone, Copy)]
 struct Escaped<'a>(&'a str);
 
@@ -102,7 +100,6 @@ impl Display for Escaped<'_> {
     }
 }
 
-/// Returns the colour of a region.
 fn fill_of(kind: RegionKind) -> &'static str {
     match kind {
         RegionKind::Unknown => "#999999",

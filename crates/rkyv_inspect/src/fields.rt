@@ -21,26 +21,20 @@ pub struct Part {
 
 /// A type of keys and values that is shown.
 pub trait Field: ElementDebug {
-    // Whether the values have a text.
     ghost is_shown: { Bool };
 
-    // The out-of-line bytes of the value at a position of some bytes.
+    // The out-of-line bytes of the value at a position.
     ghost part_at: { Parts };
 
-    /// Returns `false` if the values have no text: those of the unit type.
+    /// Returns `false` if the values have no text, as for the unit type.
     fn has_text() -> bool
         ensures { result ≡ is_shown };
 
-    /// Returns the position of the out-of-line bytes of a value, or `None` if it has none.
-    ///
-    /// # Requires
-    ///
-    /// - The view is of a valid value.
+    /// Returns the out-of-line bytes of a valid value, or `None` if it has none.
     fn part(view: View<'_, Self>) -> Option<Part>
         requires { IsValidView Self.spec view }
         ensures { result ≡ part_at (bytes_of view.entry) (pos_of view.entry) };
 
-    // The out-of-line bytes of each valid value are in its range.
     ghost in_range: { AreInRange Self.spec part_at };
 }
 
@@ -138,11 +132,7 @@ fn part_before(end: usize, len: usize) -> Option<Part>
     })
 }
 
-/// Returns the text of the pair at a position: a name with a number, the key and the value.
-///
-/// # Errors
-///
-/// - The text fails to allocate.
+/// Returns the text of the pair at a position: a name with an integer, the key and the value.
 pub(crate) fn pair_text<K: Field, V: Field>(
     alloc: Global,
     name: &str,

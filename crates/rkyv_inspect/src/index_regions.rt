@@ -15,14 +15,6 @@ use rkyv_index::{ArchivedIndexMap, IndexMapOf, IndexWidth};
 use std::alloc::{AllocError, Global};
 
 /// Appends the regions of the out-of-line bytes of all pairs, in order.
-///
-/// # Requires
-///
-/// - The out-of-line bytes are after the end of the list.
-///
-/// # Errors
-///
-/// - A text or the list fails to allocate.
 fn add_parts<K: Field, V: Field, H, W: IndexWidth>(
     alloc: Global,
     root: View<'_, IndexMapOf<K, V, H, W>>,
@@ -48,7 +40,6 @@ fn add_parts<K: Field, V: Field, H, W: IndexWidth>(
     Ok(())
 }
 
-/// Returns the position of the entry at an index of the map.
 fn entry_pos<K: Field, V: Field, H, W: IndexWidth>(
     map: ArchivedIndexMap<'_, K, V, H, W>,
     index: usize,
@@ -61,14 +52,6 @@ fn entry_pos<K: Field, V: Field, H, W: IndexWidth>(
 }
 
 /// Appends the regions of the entries, in order, and of the bytes before the first.
-///
-/// # Requires
-///
-/// - The list ends where the entries begin, or before.
-///
-/// # Errors
-///
-/// - A text or the list fails to allocate.
 fn add_entries<K: Field, V: Field, H, W: IndexWidth>(
     alloc: Global,
     root: View<'_, IndexMapOf<K, V, H, W>>,
@@ -96,17 +79,7 @@ fn add_entries<K: Field, V: Field, H, W: IndexWidth>(
     Ok(())
 }
 
-/// Returns the regions of the archive of an index map, from its first byte to its last.
-///
-/// The fields are those of the map by the format. Padding and unknown bytes are between them.
-///
-/// # Requires
-///
-/// - The view is of a valid index map.
-///
-/// # Errors
-///
-/// - A text or the list fails to allocate.
+/// Returns the regions of the archive of a valid index map, or fails to allocate them.
 pub fn index_regions<K: Field, V: Field, H, W: IndexWidth>(
     alloc: Global,
     root: View<'_, IndexMapOf<K, V, H, W>>,

@@ -17,7 +17,6 @@ use rkyv_scan::KeyHasher;
 use rkyv_table::Strides;
 use std::alloc::{AllocError, Global};
 
-/// Returns the key at an index of the map.
 fn key_at<'a, K: KeyElement, V: Element, H: KeyHasher, W: IndexWidth>(
     map: ArchivedIndexMap<'a, K, V, H, W>,
     index: usize,
@@ -89,17 +88,9 @@ fn index_lookups<K: KeyElement, V: Element, H: KeyHasher, W: IndexWidth>(
     Ok(Some(Lookups { misplaced, strides }))
 }
 
-/// Returns the numbers of the index map at a view of its header.
+/// Returns the summary of the valid index map at a view of its header, or fails to allocate it.
 ///
 /// Each key is looked up, unless the lookups read more than `limit` strides.
-///
-/// # Requires
-///
-/// - The view is of a valid index map.
-///
-/// # Errors
-///
-/// - The histogram fails to allocate.
 pub fn index_summary<K: KeyElement, V: Element, H: KeyHasher, W: IndexWidth>(
     alloc: Global,
     root: View<'_, IndexMapOf<K, V, H, W>>,

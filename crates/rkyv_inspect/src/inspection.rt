@@ -21,15 +21,14 @@ use std::alloc::Global;
 /// The inspection of a valid archive.
 #[derive(Debug, Drop)]
 pub struct Inspection {
-    /// The kind of the collection, its types and its width.
+    /// The kind of the collection, the types of its keys and values, and its width.
     pub contents: Contents,
-    /// The numbers of its header, and the lookups of all keys.
+    /// The values of its header, and the lookups of all keys.
     pub summary: Summary,
     /// Its bytes, field by field.
     pub regions: Vec<Region>,
 }
 
-/// Inspects the archive of a hash map.
 fn inspect_hash_map<K: KeyElement + Field, V: Field, W: IndexWidth>(
     alloc: Global,
     archive: &[u8],
@@ -50,7 +49,6 @@ fn inspect_hash_map<K: KeyElement + Field, V: Field, W: IndexWidth>(
     })
 }
 
-/// Inspects the archive of an index map.
 fn inspect_index_map<K: KeyElement + Field, V: Field, W: IndexWidth>(
     alloc: Global,
     archive: &[u8],
@@ -90,7 +88,6 @@ fn inspect_kind<K: KeyElement + Field, V: Field, W: IndexWidth>(
     }
 }
 
-/// Inspects the archive of a collection with keys of this type.
 fn inspect_keys<K: KeyElement + Field, W: IndexWidth>(
     alloc: Global,
     archive: &[u8],
@@ -110,7 +107,6 @@ fn inspect_keys<K: KeyElement + Field, W: IndexWidth>(
     }
 }
 
-/// Inspects the archive of a collection in this width.
 fn inspect_width<W: IndexWidth>(
     alloc: Global,
     archive: &[u8],
@@ -127,11 +123,10 @@ fn inspect_width<W: IndexWidth>(
     }
 }
 
-/// Validates an archive, and returns its numbers, the lookups of all keys, and its regions.
+/// Validates an archive, and returns its summary and its regions.
 ///
-/// `limit` is a number of strides of sixteen control bytes. `lookups` is `None` if the lookups of
-/// all keys read more. They stop then, so the time is bounded in an untrusted archive too. That
-/// they stop is no part of the contract.
+/// `lookups` is `None` if the lookups of all keys read more than `limit` strides of sixteen control
+/// bytes. Not proved: they stop then, so the time is bounded in an untrusted archive too.
 ///
 /// # Errors
 ///

@@ -1,7 +1,7 @@
 //! Laws of the types that are shown, of errors that `?` converts, of `==` and of clones.
 //!
-//! An implementation names these in its own ghost members. The laws say them of each type,
-//! by the definitions in `specs/`.
+//! An implementation has these in its ghost members. The laws state them for each type, by the
+//! definitions in `specs/`.
 
 ghost use Rattle.std.specs.Prelude.{false, true, ◌≡◌, ◌↔◌};
 ghost use Rattle.rkyv_inspect.specs.{SameParts, no_part, part_of_text};
@@ -23,7 +23,7 @@ pub fn errors_are_converted()
         ↔ (e ≡ Memory) }
 {}
 
-/// States which types have a text: numbers and texts, but not the unit type.
+/// States which types are printed: integers and text, but not the unit type.
 pub fn numbers_and_texts_are_shown<W: Width>()
     ensures u32 { ⟦<u32 as Field>⟧.is_shown ≡ true }
     ensures u64 { ⟦<u64 as Field>⟧.is_shown ≡ true }
@@ -31,7 +31,7 @@ pub fn numbers_and_texts_are_shown<W: Width>()
     ensures unit { ⟦<() as Field>⟧.is_shown ≡ false }
 {}
 
-/// States which out-of-line bytes the types have: those of texts that are out of line, else none.
+/// States which types have out-of-line bytes: only text, if it is out of line.
 pub fn only_texts_have_parts<W: Width>()
     ensures u32 { SameParts ⟦<u32 as Field>⟧.part_at no_part }
     ensures u64 { SameParts ⟦<u64 as Field>⟧.part_at no_part }
@@ -39,7 +39,7 @@ pub fn only_texts_have_parts<W: Width>()
     ensures unit { SameParts ⟦<() as Field>⟧.part_at no_part }
 {}
 
-/// States that two values are equal by `==` if and only if they are the same.
+/// States that values are equal by `==` if and only if they are the same.
 pub fn equal_are_the_same()
     ensures part { (a b : Part) → (⟦<Part as PartialEq>⟧.eq a b ≡ true) ↔ (a ≡ b) }
     ensures kind { (a b : RegionKind) → (⟦<RegionKind as PartialEq>⟧.eq a b ≡ true) ↔ (a ≡ b) }

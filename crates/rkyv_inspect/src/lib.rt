@@ -1,7 +1,15 @@
-//! Inspection of archives: their numbers, the lookups of all keys, and their bytes by fields.
+//! Inspections of archives of maps and sets, for debugging. rkyv has no counterpart.
 //!
-//! `inspect` validates an archive, and returns an `Inspection`. `Printed` is its text, and
+//! Begin with `inspect`. It validates an archive, and returns an `Inspection`: the values of the
+//! header, the lookups of all keys, and all bytes field by field. `Printed` is its text, and
 //! `Drawing` a drawing of its regions.
+//!
+//! The maps have a SwissTable, a hash table with a control byte for each bucket: seven bits of a
+//! hash, or empty. A lookup reads strides of sixteen control bytes, from the hash modulo the
+//! capacity on, which need not be a power of two, and then by triangular probing. The histogram of
+//! strides shows how well the hashes spread. A key is misplaced if its lookup doesn't find it.
+//!
+//! Keys are `u32`, `u64` or text, and values are these or unit. The values of a set are unit.
 #![tactic(auto)]
 
 pub mod drawing;

@@ -17,14 +17,6 @@ use rkyv_table::table::decoded::Decoded;
 use std::alloc::{AllocError, Global};
 
 /// Appends the region of the out-of-line bytes of a value, and of the bytes before it.
-///
-/// # Requires
-///
-/// - The out-of-line bytes aren't before the end of the list, and are inside the archive.
-///
-/// # Errors
-///
-/// - A text or the list fails to allocate.
 fn add_part(
     alloc: Global,
     bytes: &[u8],
@@ -47,15 +39,6 @@ fn add_part(
 }
 
 /// Appends the regions of the out-of-line bytes of a pair, and of the bytes before each.
-///
-/// # Requires
-///
-/// - The value is after the key.
-/// - The out-of-line bytes aren't before the end of the list, and are inside the archive.
-///
-/// # Errors
-///
-/// - A text or the list fails to allocate.
 pub(crate) fn add_pair_parts<K: Field, V: Field>(
     alloc: Global,
     key: View<'_, K>,
@@ -77,14 +60,6 @@ pub(crate) fn add_pair_parts<K: Field, V: Field>(
 }
 
 /// Appends the regions of the out-of-line bytes of all pairs, in bucket order.
-///
-/// # Requires
-///
-/// - The out-of-line bytes are after the end of the list.
-///
-/// # Errors
-///
-/// - A text or the list fails to allocate.
 fn add_parts<K: Field, V: Field, H, W: Width>(
     alloc: Global,
     root: View<'_, HashMapOf<K, V, H, W>>,
@@ -112,14 +87,6 @@ fn add_parts<K: Field, V: Field, H, W: Width>(
 }
 
 /// Appends the regions of the three words of a table's header, and of the bytes before it.
-///
-/// # Requires
-///
-/// - The header is inside `bytes`, and isn't before the end of the list.
-///
-/// # Errors
-///
-/// - A text or the list fails to allocate.
 pub(crate) fn add_header<W: Width>(
     alloc: Global,
     bytes: &[u8],
@@ -145,17 +112,7 @@ pub(crate) fn add_header<W: Width>(
     list.add(pos + 3 * W::ALIGN, RegionKind::Header, text)
 }
 
-/// Returns the regions of the archive of a hash map, from its first byte to its last.
-///
-/// The fields are those of the map by the format. Padding and unknown bytes are between them.
-///
-/// # Requires
-///
-/// - The view is of a valid map.
-///
-/// # Errors
-///
-/// - A text or the list fails to allocate.
+/// Returns the regions of the archive of a valid hash map, or fails to allocate them.
 pub fn map_regions<K: Field, V: Field, H, W: Width>(
     alloc: Global,
     root: View<'_, HashMapOf<K, V, H, W>>,

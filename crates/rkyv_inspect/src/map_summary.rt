@@ -43,7 +43,7 @@ fn strides_of<'a, K: KeyElement, V: Element, H: KeyHasher, W: Width>(
     strides.count() as usize
 }
 
-/// Returns the greatest number of strides that a lookup reads among `cap` buckets.
+/// Returns the number of strides that a lookup reads at most, among `cap` buckets.
 pub(crate) fn most_strides(cap: usize) -> usize
     ensures { result ≡ probe_capacity cap / 16 }
 {
@@ -94,17 +94,9 @@ pub(crate) fn controls_of(capacity: usize, pos: usize) -> Option<usize>
     if capacity == 0 { None } else { Some(pos) }
 }
 
-/// Returns the numbers of the hash map at a view of its header.
+/// Returns the summary of the valid hash map at a view of its header, or fails to allocate it.
 ///
 /// Each key is looked up, unless the lookups read more than `limit` strides.
-///
-/// # Requires
-///
-/// - The view is of a valid map.
-///
-/// # Errors
-///
-/// - The histogram fails to allocate.
 pub fn map_summary<K: KeyElement, V: Element, H: KeyHasher, W: Width>(
     alloc: Global,
     root: View<'_, HashMapOf<K, V, H, W>>,

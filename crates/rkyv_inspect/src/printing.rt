@@ -1,4 +1,4 @@
-//! The text of an inspection: its numbers, and a line for each region.
+//! The text of an inspection: its summary, and a line for each region.
 ghost use Rattle.std.specs.Prelude.{◌≡◌};
 ghost use Rattle.rkyv_inspect.specs.{is_printed_in_color, printed_archive, printed_inspection};
 
@@ -8,7 +8,6 @@ use crate::summary::{Lookups, Summary};
 use rkyv_container::{Header, ItemType};
 use std::fmt::{self, Display, Formatter, Write};
 
-/// The number of bytes of a region that are printed.
 const SHOWN: usize = 8;
 
 /// The header of a container, as a line of text.
@@ -30,7 +29,7 @@ impl Display for ContainerLine {
     }
 }
 
-/// The numbers of a summary, as lines of text.
+/// The lines of a summary, without its lookups.
 #[derive(Clone, Copy)]
 struct Numbers<'a>(&'a Summary);
 
@@ -54,7 +53,7 @@ impl Display for Numbers<'_> {
     }
 }
 
-/// Returns the hundredths that `part` is of `whole`, or 0 if there is no whole.
+/// Returns `part` in hundredths of `whole`, or 0 if `whole` is 0.
 fn percent(part: usize, whole: usize) -> u128 {
     if whole == 0 {
         return 0;
@@ -62,7 +61,6 @@ fn percent(part: usize, whole: usize) -> u128 {
     part as u128 * 100 / whole as u128
 }
 
-/// The lookups of all keys, as lines of text.
 #[derive(Clone, Copy)]
 struct LookupLines<'a>(&'a Lookups);
 
@@ -97,7 +95,6 @@ impl Display for Hex<'_> {
     }
 }
 
-/// The line of a region.
 #[derive(Clone, Copy)]
 struct Line<'a> {
     archive: &'a [u8],
@@ -122,7 +119,7 @@ impl Display for Line<'_> {
     }
 }
 
-/// Returns the number of a terminal's colour for the bytes of a region.
+/// Returns the code of a terminal's colour for the bytes of a region.
 fn color_of(kind: RegionKind) -> u8 {
     match kind {
         RegionKind::Unknown | RegionKind::Padding => 90,
@@ -135,7 +132,7 @@ fn color_of(kind: RegionKind) -> u8 {
     }
 }
 
-/// The text of an inspection, in colour or not.
+/// The text of an inspection, in the colours of a terminal or not.
 ///
 /// # Examples
 ///
@@ -154,7 +151,7 @@ pub struct Printed<'a> {
 }
 
 impl<'a> Printed<'a> {
-    /// Returns the text of an inspection of an archive, in the colours of a terminal or not.
+    /// Returns the text of the inspection of `archive`.
     pub fn new(archive: &'a [u8], inspection: &'a Inspection, color: bool) -> Printed<'a>
         ensures archive { printed_archive result ≡ archive.entry }
         ensures inspection { printed_inspection result ≡ inspection.entry }

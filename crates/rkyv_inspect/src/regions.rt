@@ -17,7 +17,7 @@ pub enum RegionKind {
     EmptyBucket,
     /// The control bytes of the buckets.
     Controls,
-    /// The control bytes after those of the buckets.
+    /// The control bytes that mirror the first ones, and the padding after them.
     MirroredControls,
     /// An entry of an index map.
     Entry,
@@ -44,14 +44,11 @@ pub struct Region {
 #[derive(Drop)]
 pub(crate) struct RegionList {
     pub(crate) regions: Vec<Region>,
-    /// The position at which the last region ends.
     pub(crate) end: usize,
-    /// The length of the archive.
     pub(crate) len: usize,
 }
 
 impl RegionList {
-    /// Returns a list without regions, of an archive of `len` bytes.
     pub(crate) fn new(alloc: Global, len: usize) -> RegionList
         ensures list { IsRegionList result }
         ensures fields { fields_of result.regions.items ≡ [] }
@@ -65,13 +62,7 @@ impl RegionList {
         }
     }
 
-    /// Appends the region up to the position `end`, if it has bytes.
-    ///
-    /// It ends at the end of the archive if `end` is after that.
-    ///
-    /// # Errors
-    ///
-    /// - The list fails to allocate.
+    /// Appends the region up to `end` or the end of the archive, if it has bytes.
     pub(crate) fn add(
         &mut self,
         end: usize,
@@ -99,11 +90,6 @@ impl RegionList {
         Ok(())
     }
 
-    /// Appends a region up to the position `end`, if it has bytes, with a constant text.
-    ///
-    /// # Errors
-    ///
-    /// - The text or the list fails to allocate.
     pub(crate) fn add_named(
         &mut self,
         alloc: Global,
@@ -121,11 +107,7 @@ impl RegionList {
         self.add(end, kind, text)
     }
 
-    /// Appends the bytes up to the position `end`: padding, or unknown bytes.
-    ///
-    /// # Errors
-    ///
-    /// - The text or the list fails to allocate.
+    /// Appends the bytes up to `end` as padding or unknown bytes.
     pub(crate) fn add_gap(
         &mut self,
         alloc: Global,
@@ -145,10 +127,6 @@ impl RegionList {
     }
 
     /// Returns the regions, after a last one for the other bytes of the archive.
-    ///
-    /// # Errors
-    ///
-    /// - The text or the list fails to allocate.
     pub(crate) fn finish(mut self, alloc: Global) -> Result<Vec<Region>, AllocError>
         requires { IsRegionList self }
         ensures covers { IfOk result (λ regions. Covers 0 regions.items self.len) }
@@ -161,14 +139,13 @@ impl RegionList {
     }
 }
 
-/// Returns the bytes from `begin` on and before `end`, or none if they aren't all there.
+/// Returns the bytes from `begin` on and before `end`, or no bytes if they aren't all there.
 pub(crate) fn bytes_in(bytes: &[u8], begin: usize, end: usize) -> &[u8]
     ensures { length result.now ≤ length bytes.now }
 {
     bytes.get(begin..end).unwrap_or(&[])
 }
 
-/// Returns `true` if and only if the bytes are fewer than eight, and zeros.
 fn is_padding(bytes: &[u8]) -> bool {
     bytes.len() < 8 && bytes.iter().all(|&byte| byte == 0)
 }

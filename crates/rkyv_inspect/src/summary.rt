@@ -1,9 +1,9 @@
-//! Summaries of archived maps: the numbers of the header, and the lookups of all keys.
+//! Summaries of archived maps: the values of the header, and the lookups of all keys.
 
-/// The lookups of all keys of a map, each by its own key.
+/// The lookups of all keys of a map.
 #[derive(Debug, Drop)]
 pub struct Lookups {
-    /// The number of keys that a lookup of their own doesn't find.
+    /// The number of keys whose lookup finds another key or none.
     pub misplaced: usize,
     /// The histogram of strides: entry n is the number of keys whose lookup reads n strides.
     ///
@@ -11,7 +11,7 @@ pub struct Lookups {
     pub strides: Vec<usize>,
 }
 
-/// The numbers of an archived map.
+/// The values of an archived map's header, and the lookups of its keys.
 #[derive(Debug, Drop)]
 pub struct Summary {
     /// The number of items.

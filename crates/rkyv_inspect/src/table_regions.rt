@@ -16,11 +16,8 @@ use std::marker::PhantomData;
 /// The buckets and control bytes of a table.
 #[derive(Clone, Copy)]
 pub(crate) struct Buckets<'a> {
-    /// The bytes of the archive.
     pub(crate) bytes: &'a [u8],
-    /// The position of the first control byte.
     pub(crate) controls_pos: usize,
-    /// The number of buckets.
     pub(crate) capacity: usize,
     /// The number of bytes of a bucket.
     pub(crate) size: usize,
@@ -29,10 +26,6 @@ pub(crate) struct Buckets<'a> {
 /// The type of the items in buckets.
 pub(crate) trait BucketItem {
     /// Returns the text of the item in a bucket at a position.
-    ///
-    /// # Errors
-    ///
-    /// - The text fails to allocate.
     fn text(alloc: Global, bytes: &[u8], bucket: usize, pos: usize) -> Result<String, AllocError>;
 }
 
@@ -59,11 +52,6 @@ impl<W: Width> BucketItem for IndexItem<W> {
 }
 
 impl<'a> Buckets<'a> {
-    /// Returns `true` if and only if the control byte of a bucket is that of an item.
-    ///
-    /// # Requires
-    ///
-    /// - The control byte is inside the bytes.
     fn is_full(self, bucket: usize) -> bool
         requires { self.controls_pos + bucket < length self.bytes.now }
         ensures { result ≡ nat_lt (at_table control_at self.entry bucket) 128 }
@@ -71,16 +59,6 @@ impl<'a> Buckets<'a> {
         self.bytes[self.controls_pos + bucket] < 128
     }
 
-    /// Appends the region of a bucket.
-    ///
-    /// # Requires
-    ///
-    /// - The list ends at the bucket, which is before the control bytes.
-    /// - Its control byte is inside the bytes.
-    ///
-    /// # Errors
-    ///
-    /// - A text or the list fails to allocate.
     fn add_bucket<T: BucketItem>(
         self,
         alloc: Global,
@@ -106,15 +84,6 @@ impl<'a> Buckets<'a> {
     }
 
     /// Appends the regions of the buckets, from the highest to bucket 0.
-    ///
-    /// # Requires
-    ///
-    /// - The list ends where the buckets begin.
-    /// - The control bytes are inside the bytes.
-    ///
-    /// # Errors
-    ///
-    /// - A text or the list fails to allocate.
     fn add_buckets<T: BucketItem>(
         self,
         alloc: Global,
@@ -134,16 +103,6 @@ impl<'a> Buckets<'a> {
         Ok(())
     }
 
-    /// Appends the regions of the control bytes.
-    ///
-    /// # Requires
-    ///
-    /// - The list ends at the first control byte.
-    /// - The control bytes are inside the archive.
-    ///
-    /// # Errors
-    ///
-    /// - A text or the list fails to allocate.
     fn add_controls(self, alloc: Global, list: &mut RegionList) -> Result<(), AllocError>
         requires list { IsRegionList list.old }
         requires begin { list.old.end ≡ self.controls_pos }
@@ -165,17 +124,6 @@ impl<'a> Buckets<'a> {
     }
 
     /// Appends the regions of the buckets and control bytes, and of the bytes before them.
-    ///
-    /// A table without buckets has none.
-    ///
-    /// # Requires
-    ///
-    /// - The list ends where the buckets begin, or before.
-    /// - The control bytes are inside the archive.
-    ///
-    /// # Errors
-    ///
-    /// - A text or the list fails to allocate.
     pub(crate) fn add<T: BucketItem>(
         self,
         alloc: Global,
