@@ -25,7 +25,6 @@ pub struct FileInspection<'a> {
     pub inspection: Inspection,
 }
 
-/// Returns the inspection of an archive, without lookups if they read more than `STRIDES` strides.
 fn inspect_archive(
     alloc: Global,
     file: &str,
@@ -39,7 +38,6 @@ fn inspect_archive(
     inspect(alloc, archive, contents, STRIDES).map_err(|error| inspect_error(alloc, file, error))
 }
 
-/// Returns the inspection of a bare archive with these contents.
 fn inspect_bare<'a>(
     alloc: Global,
     file: &str,
@@ -57,7 +55,6 @@ fn inspect_bare<'a>(
     })
 }
 
-/// Returns the header and the archive of a container.
 fn open_container<'a>(
     alloc: Global,
     file: &str,
@@ -69,7 +66,6 @@ fn open_container<'a>(
     open(bytes).map_err(|error| container_error(alloc, file, error))
 }
 
-/// Returns the inspection of a container.
 fn inspect_container<'a>(
     alloc: Global,
     file: &str,
@@ -87,7 +83,7 @@ fn inspect_container<'a>(
     })
 }
 
-/// Returns the inspection of a bare archive with these contents, or else of a container.
+/// Returns the inspection of a bare archive with these contents, or of a container if `None`.
 pub fn inspect_bytes<'a>(
     alloc: Global,
     file: &str,

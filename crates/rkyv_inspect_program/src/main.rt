@@ -21,7 +21,6 @@ use std::io::{BufWriter, Write};
 use std::process::ExitCode;
 use std::{env, fs, io};
 
-/// Prints an inspection, and the header of a container before it.
 fn print(rt: &HostRuntime, found: &FileInspection<'_>, options: Options<'_>) -> io::Result<()> {
     let mut out = BufWriter::new(rt.alloc(), io::writer(rt))?;
     if options.svg {
@@ -53,14 +52,12 @@ fn inspect_file(
     Ok(Outcome::Complete)
 }
 
-/// Returns the bytes of a file.
 fn read_file(rt: &HostRuntime, file: &str) -> Result<Vec<u8>, ProgramError>
     ensures { IfErr result (IsReadError file.now) }
 {
     fs::read(rt, file).map_err(|error| file_error(rt.alloc(), file, error))
 }
 
-/// Prints the usage to standard error.
 fn print_usage(rt: &HostRuntime) -> Outcome
     ensures { result ≡ Outcome.Misused }
 {
@@ -68,9 +65,6 @@ fn print_usage(rt: &HostRuntime) -> Outcome
     Outcome::Misused
 }
 
-/// Executes the command line with these words.
-///
-/// If they are misused, it prints the usage to standard error.
 fn execute(rt: &HostRuntime, words: &[String]) -> Result<Outcome, ProgramError>
     ensures misused { (result ≡ Ok Outcome.Misused) ↔ IsMisused (map string_bytes words.now) }
     ensures result { IsExecutionOf (map string_bytes words.now) result }
@@ -94,7 +88,6 @@ fn execute(rt: &HostRuntime, words: &[String]) -> Result<Outcome, ProgramError>
     }
 }
 
-/// Executes the command of the command line.
 fn run(rt: &HostRuntime) -> Result<Outcome, ProgramError> {
     let given = env::args(rt).map_err(ProgramError::Arguments)?;
     let mut words = Vec::new(rt.alloc());

@@ -60,13 +60,12 @@ pub struct Options<'a> {
     pub width: Option<Width>,
     /// Whether the bytes are printed in colour.
     pub color: bool,
-    /// Whether the drawing is printed alone.
+    /// Whether only the drawing is printed.
     pub svg: bool,
     /// Whether the usage is printed.
     pub help: bool,
 }
 
-/// Returns whether the word begins with a hyphen, as options do.
 fn is_hyphenated(word: &str) -> bool
     ensures { result ≡ starts_with_minus word.now }
 {
@@ -114,7 +113,7 @@ pub fn type_named(word: &str) -> Option<ItemType>
     }
 }
 
-/// Returns the width of this number of bits, or `None` if no width has it.
+/// Returns the width of this many bits, or `None` if no width has it.
 pub fn width_named(word: &str) -> Option<Width>
     ensures { result ≡ width_named word.now }
 {
@@ -125,9 +124,7 @@ pub fn width_named(word: &str) -> Option<Width>
     }
 }
 
-/// Returns the type of the values of a collection of this kind, or `None` if they don't fit.
-///
-/// A set has unit values and takes no type, and a map takes one.
+/// Returns the type of the values of a collection of this kind, which is unit for sets.
 fn value_of(kind: Kind, value: Option<ItemType>) -> Option<ItemType>
     ensures { result ≡ value_of kind value }
 {
@@ -141,13 +138,11 @@ fn value_of(kind: Kind, value: Option<ItemType>) -> Option<ItemType>
 /// The first words of a command line.
 #[derive(Clone, Copy)]
 struct Words<'a> {
-    /// The options that they name.
     options: Options<'a>,
     /// The option whose value is the next word, if there is one.
     awaited: Option<Name>,
 }
 
-/// Returns words after which no value is awaited.
 fn whole(options: Options<'_>) -> Words<'_>
     ensures { result ≡ whole options.entry }
 {
@@ -158,7 +153,6 @@ fn whole(options: Options<'_>) -> Words<'_>
 }
 
 impl<'a> Words<'a> {
-    /// Returns the words with one more, or `None` if it isn't an option, a value or a file.
     fn after(self, word: &'a str) -> Option<Words<'a>>
         ensures { IsAfter self.entry word.now result }
     {
@@ -170,7 +164,6 @@ impl<'a> Words<'a> {
 }
 
 impl<'a> Options<'a> {
-    /// Returns the options of a command line without words.
     fn none() -> Options<'a>
         ensures { NamesOptions [] result }
     {
@@ -186,10 +179,7 @@ impl<'a> Options<'a> {
         }
     }
 
-    /// Returns the words so far after one that isn't the value of an option.
-    ///
-    /// The result is `None` if the word begins with a hyphen and is no option, or if there is
-    /// a file already.
+    /// Returns the words after one more, which isn't the value of an option.
     fn after_word(self, word: &'a str) -> Option<Words<'a>>
         ensures { IsAfter (whole self.entry) word.now result }
     {
@@ -215,7 +205,6 @@ impl<'a> Options<'a> {
         }
     }
 
-    /// Returns the options after the value of an option, or `None` if it has no such value.
     fn after_value(self, name: Name, word: &str) -> Option<Options<'a>>
         ensures { IsAfter (awaiting self.entry name) word.now (option_map whole result) }
     {
@@ -240,9 +229,9 @@ impl<'a> Options<'a> {
         }
     }
 
-    /// Returns the options of a command line, or `None` if its words name none.
+    /// Returns the options of a command line, or `None` if its words aren't one of the usage.
     ///
-    /// Of an option that is given more than once, the last value counts. There is at most one file.
+    /// The last value of a repeated option counts. There is at most one file.
     pub fn parse(words: &'a [String]) -> Option<Options<'a>>
         ensures { let words = map string_bytes words.now in
             MatchOption result (NamesNoOptions words) (NamesOptions words) }
@@ -257,7 +246,7 @@ impl<'a> Options<'a> {
         }
     }
 
-    /// Returns whether the kind of a bare archive, a type or its width is given.
+    /// Returns whether the command line has `--kind`, `--key`, `--value` or `--width`.
     pub fn is_bare(self) -> bool
         ensures { IsTrue result ↔ IsBare self.entry }
     {

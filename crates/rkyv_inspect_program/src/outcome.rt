@@ -7,20 +7,16 @@ use crate::errors::ProgramError;
 /// The outcome of a run that doesn't fail.
 #[derive(Clone, Copy, Debug, PartialEq, Eq)]
 pub enum Outcome {
-    /// The archive is valid, or `--help` is given.
+    /// The archive is valid, or the usage is printed.
     Complete,
     /// The command line isn't one of the usage.
     Misused,
 }
 
-/// Returns the exit status of the program.
+/// Returns the exit status.
 ///
-/// | Status | Outcome |
-/// |---|---|
-/// | 0 | the archive is valid, or `--help` is given |
-/// | 1 | the file can't be opened as a container, or the archive is invalid |
-/// | 2 | the command line isn't one of the usage |
-/// | 3 | another error |
+/// It is 0 for `Complete`, 1 for a `Container` or `Invalid` error, 2 for `Misused`, and 3 for any
+/// other error.
 pub fn exit_status(outcome: &Result<Outcome, ProgramError>) -> u8
     ensures { result ≡ status_of outcome.now }
 {
