@@ -1,8 +1,8 @@
 //! Hashers whose hashes are the same on every machine.
 //!
-//! The hash of a `KeyHasher` is a function of the list of its calls alone,
-//! so an archive can depend on it. std's `Hasher` leaves open how a call changes the hash,
-//! and its hashes may differ between machines.
+//! The hash of a `KeyHasher` depends only on the list of its calls, so an archive can depend on it.
+//! std's `Hasher` leaves open how a call changes the hash, and its hashes may differ between
+//! machines.
 //!
 //! `FxHasher64` is the hasher of archived maps, and `FxHasher64Wide` its variant
 //! for 64-bit `usize` words.
@@ -19,36 +19,31 @@ use std::simd::prelude::*;
 
 /// A state machine that is fed calls and returns a hash.
 ///
-/// Each call's new state is a function of the old state and the call.
-/// The hash is a function of the state.
-///
-/// The docs of the methods describe the words that `FxHasher64` feeds.
-/// Another hasher may treat a call differently.
+/// The methods' docs describe the words that `FxHasher64` feeds; another hasher may differ.
 pub trait KeyHasher: Default + Drop {
     // The initial state, the state after one call, and the result of `finish`.
     ghost hasher: { Hasher Self };
 
-    /// Feeds the bytes without their number: two writes may hash as one write of both joined.
+    /// Feeds the bytes without their length: two writes may hash as one write of both joined.
     ///
-    /// Feeds the whole words of eight bytes first, each in little-endian order.
-    /// Of the remaining bytes, the first four are one word if there are four, the next two
-    /// if there are two more, and the last one if one is left.
+    /// Feeds the words of eight bytes first, each in little-endian order. The rest is then fed
+    /// as at most one word of four bytes, one of two and one of one, in this order.
     fn write(&mut self, bytes: &[u8])
         ensures { self.new ≡ hasher.feed self.old (Bytes bytes.now) };
 
-    /// Feeds the number as one word.
+    /// Feeds the integer as one word.
     fn write_u8(&mut self, number: u8)
         ensures { self.new ≡ hasher.feed self.old (U8 number) };
 
-    /// Feeds the number as one word.
+    /// Feeds the integer as one word.
     fn write_u16(&mut self, number: u16)
         ensures { self.new ≡ hasher.feed self.old (U16 number) };
 
-    /// Feeds the number as one word.
+    /// Feeds the integer as one word.
     fn write_u32(&mut self, number: u32)
         ensures { self.new ≡ hasher.feed self.old (U32 number) };
 
-    /// Feeds the number as one word.
+    /// Feeds the integer as one word.
     fn write_u64(&mut self, number: u64)
         ensures { self.new ≡ hasher.feed self.old (U64 number) };
 
@@ -56,42 +51,35 @@ pub trait KeyHasher: Default + Drop {
     fn write_u128(&mut self, number: u128)
         ensures { self.new ≡ hasher.feed self.old (U128 number) };
 
-    /// Feeds one word.
-    ///
-    /// `FxHasher64` feeds the low 32 bits, whatever the machine. `FxHasher64Wide` feeds all 64.
+    /// Feeds the low 32 bits on every machine. `FxHasher64Wide` feeds all 64.
     fn write_usize(&mut self, number: usize)
         ensures { self.new ≡ hasher.feed self.old (Usize number) };
 
-    /// Feeds the same words as `write_u8` of the number with the same bits.
+    /// Feeds the same words as `write_u8` of the same bits.
     fn write_i8(&mut self, number: i8)
         ensures { self.new ≡ hasher.feed self.old (I8 number) };
 
-    /// Feeds the same words as `write_u16` of the number with the same bits.
+    /// Feeds the same words as `write_u16` of the same bits.
     fn write_i16(&mut self, number: i16)
         ensures { self.new ≡ hasher.feed self.old (I16 number) };
 
-    /// Feeds the same words as `write_u32` of the number with the same bits.
+    /// Feeds the same words as `write_u32` of the same bits.
     fn write_i32(&mut self, number: i32)
         ensures { self.new ≡ hasher.feed self.old (I32 number) };
 
-    /// Feeds the same words as `write_u64` of the number with the same bits.
+    /// Feeds the same words as `write_u64` of the same bits.
     fn write_i64(&mut self, number: i64)
         ensures { self.new ≡ hasher.feed self.old (I64 number) };
 
-    /// Feeds the same words as `write_u128` of the number with the same bits.
+    /// Feeds the same words as `write_u128` of the same bits.
     fn write_i128(&mut self, number: i128)
         ensures { self.new ≡ hasher.feed self.old (I128 number) };
 
-    /// Feeds one word.
-    ///
-    /// `FxHasher64` feeds the low 32 bits, whatever the machine, sign-extended to 64.
-    /// `FxHasher64Wide` feeds all 64.
+    /// Feeds the low 32 bits, sign-extended to 64, on every machine. `FxHasher64Wide` feeds all 64.
     fn write_isize(&mut self, number: isize)
         ensures { self.new ≡ hasher.feed self.old (Isize number) };
 
-    /// Returns the hash of all calls made on this hasher.
-    ///
-    /// The state is unchanged, and can be fed further calls.
+    /// Returns the hash of all calls made on this hasher, which can then be fed further calls.
     fn finish(&self) -> u64
         ensures { result ≡ hasher.finish self.now };
 
@@ -134,9 +122,8 @@ fn read_u16(bytes: &[u8], at: usize) -> u16
     u16::from_le_bytes(u8x2::from_slice(&bytes[at..]).to_array())
 }
 
-// Reads and hashes the word even if it is not fed, as the two functions below do.
-// The choice between `fed` and `state` then needs no branch on a bit of the length.
-// Such a branch is hard to predict for keys of many lengths.
+// Hashes the word even if it is not fed, as `hash_two_bytes` and `hash_last_byte` do, to avoid a
+// branch on a bit of the length, which is hard to predict for keys of many lengths.
 #[inline]
 fn hash_four_bytes(state: u64, bytes: &[u8]) -> u64
     ensures { result ≡ hash_words state (four_bytes bytes.now) }
@@ -173,7 +160,6 @@ fn hash_last_byte(state: u64, bytes: &[u8]) -> u64
     if len % 2 == 1 { fed } else { state }
 }
 
-// Hashes the words after the last whole one.
 #[inline]
 fn hash_rest(state: u64, bytes: &[u8]) -> u64
     ensures { result ≡ hash_words state (rest_words bytes.now) }
@@ -195,9 +181,6 @@ fn hash_bytes(state: u64, bytes: &[u8]) -> u64
 }
 
 /// The hasher of archived maps. On every machine it takes the low 32 bits of a `usize` or `isize`.
-///
-/// Its state is one word, at first 0, which is also its hash. Each word fed is mixed into the
-/// state by a rotation, an xor and a product.
 ///
 /// It takes no secret key, so whoever chooses the keys can let them share a hash. A lookup among
 /// such keys may read the whole table, and writing them takes quadratic time.
@@ -311,14 +294,6 @@ impl KeyHasher for FxHasher64 {
 }
 
 /// The variant of `FxHasher64` that feeds a `usize` or an `isize` as one word of all its 64 bits.
-///
-/// # Examples
-///
-/// ```rust
-/// let mut hasher = FxHasher64Wide::default();
-/// hasher.write_usize(4_294_967_297);
-/// assert_eq!(rt; hasher.finish(), 0x789e_cc4c_2722_0a95);
-/// ```
 #[derive(Drop)]
 pub struct FxHasher64Wide {
     inner: FxHasher64,

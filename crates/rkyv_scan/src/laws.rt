@@ -1,6 +1,6 @@
 //! Laws of the hash, of the crate's public names, and of clones.
 //!
-//! The laws of the hash are about its definition alone, under any rule for `usize` and `isize`.
+//! The laws of the hash are about its definition, under any rule for `usize` and `isize`.
 //! The others say which definitions the public hashers, masks and groups have.
 ghost use Rattle.std.specs.Prelude.{◌≡◌, ◌+◌, ◌≤◌, ◌↔◌, List, [], drop, length, take};
 ghost use Rattle.rkyv_scan.specs.{CallsHashTheirWords, EightBytesAreOneWord, FixedCallsAgree};
@@ -22,7 +22,7 @@ pub fn writes_join()
     ensures { WritesJoin }
 {}
 
-/// States that a write of eight bytes hashes as a `write_u64` of their little-endian number.
+/// States that a write of eight bytes hashes as a `write_u64` of their little-endian integer.
 pub fn eight_bytes_are_one_word()
     ensures { EightBytesAreOneWord }
 {}
@@ -51,8 +51,6 @@ pub fn empty_masks() -> (bytewise::Bitmask, generic::Bitmask, lanes::Bitmask)
 }
 
 /// States that the hash of each hasher is `fx_hash` of its rule for `usize` and `isize`.
-///
-/// The rule of `FxHasher64` is `low_halves`, and that of `FxHasher64Wide` is `all_bits`.
 pub fn fx_hashers()
     ensures narrow { (calls : List HasherCall)
         → hash_of_calls ⟦<FxHasher64 as KeyHasher>⟧.hasher calls
@@ -62,14 +60,7 @@ pub fn fx_hashers()
         ≡ fx_hash all_bits calls }
 {}
 
-/// Returns the indices that the group at the crate's root marks for `byte`, as a mask.
-///
-/// Of the eight control bytes from `pos` on, each that is `byte` is marked.
-/// So is each that differs from `byte` in its lowest bit alone and follows a marked one.
-///
-/// # Requires
-///
-/// - `pos + 8` is at most the length of `bytes`.
+/// Returns the mask of the indices that the group at the crate's root marks for `byte`.
 pub fn root_group_marks(bytes: &[u8], pos: usize, byte: u8) -> Bitmask
     requires { pos + 8 ≤ length bytes.now }
     ensures { ⟦<Bitmask as Marks>⟧.indices result
@@ -83,10 +74,7 @@ pub fn widest_group()
     ensures { MAX_GROUP_WIDTH ≡ 16 }
 {}
 
-/// States which indices each kind of group marks, and its width.
-///
-/// A `bytewise` or `lanes` group marks the equal bytes alone. A `generic` or `paired` group also
-/// marks a byte that follows a marked one and differs in the lowest bit alone, as in rkyv.
+/// States which indices each kind of group marks, as its module describes.
 pub fn kinds_mark_as_defined()
     ensures bytewise { ⟦<bytewise::Group as GroupKind>⟧.kind ≡ bytewise_kind }
     ensures generic { ⟦<generic::Group as GroupKind>⟧.kind ≡ generic_kind }

@@ -22,8 +22,6 @@ pub mod paired;
 pub const MAX_GROUP_WIDTH: usize = 16;
 
 /// A set of indices within a group. Index 0 is the first of the group's control bytes.
-///
-/// A mask iterates over its indices in ascending order.
 pub trait Marks: Iterator<Item = usize> + Copy {
     // The marked indices, ascending.
     ghost indices: { Self → List ℕ };
@@ -34,11 +32,7 @@ pub trait Marks: Iterator<Item = usize> + Copy {
     fn any_bit_set(self) -> bool
         ensures { IsTrue result ↔ (0 < length (indices self)) };
 
-    /// Returns the mask without its lowest index.
-    ///
-    /// # Requires
-    ///
-    /// - Some index is marked.
+    /// Returns the mask without its lowest index. It must mark an index.
     fn remove_lowest_bit(self) -> Self
         requires { 0 < length (indices self) }
         ensures { indices result ≡ drop 1 (indices self) };
@@ -58,8 +52,7 @@ pub trait Marks: Iterator<Item = usize> + Copy {
 
 /// A kind of group: a fixed number of control bytes that are matched at once.
 ///
-/// A control byte with its high bit set is empty. One below 128 is full,
-/// and is the tag of its item.
+/// A control byte with its high bit set is empty. One below 128 is full, and is the item's tag.
 ///
 /// # Examples
 ///
@@ -83,19 +76,15 @@ pub trait GroupKind: Copy {
     // The control bytes, in order.
     ghost controls: { Self → List ℕ };
 
-    /// Returns the group of the `WIDTH` control bytes from `pos` on.
-    ///
-    /// # Requires
-    ///
-    /// - `pos + WIDTH` is at most the length of `bytes`.
+    /// Returns the group of the `WIDTH` control bytes from `pos` on. `bytes` must have them.
     fn read(bytes: &[u8], pos: usize) -> Self
         requires { pos + kind.width ≤ length bytes.now }
         ensures { controls result ≡ take kind.width (drop pos bytes.now) };
 
     /// Marks each index whose control byte is `byte`, and the false matches that the kind allows.
     ///
-    /// The lowest marked index is never a false match. If `byte` is below 128,
-    /// each marked index is full.
+    /// The lowest marked index is never a false match. If `byte` is below 128, only full indices
+    /// are marked.
     fn match_byte(self, byte: u8) -> Self::Mask
         ensures { Self.Mask.indices result
             ≡ indices_where (kind.marks (controls self) byte) kind.width };

@@ -80,8 +80,8 @@ impl Iterator for Bitmask {
 
 /// A group of eight control bytes in one word.
 ///
-/// `match_byte` may also mark a byte that differs from the asked one in its lowest bit alone.
-/// It does so only right after a marked byte.
+/// `match_byte` may also mark a byte right after a marked one if it differs from the byte to match
+/// only in the lowest bit, as in rkyv.
 #[derive(Clone, Copy)]
 pub struct Group {
     word: Word,

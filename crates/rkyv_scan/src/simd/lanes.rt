@@ -20,7 +20,6 @@ impl Bitmask {
     /// The mask that marks no index.
     pub const EMPTY: Self = Bitmask { bits: 0 };
 
-    /// Returns the mask with these bits.
     #[inline]
     pub(crate) fn of_bits(bits: u16) -> Self
         ensures { mask_bits result ≡ bits }
@@ -28,7 +27,6 @@ impl Bitmask {
         Bitmask { bits }
     }
 
-    /// Returns the bits of the mask.
     #[inline]
     pub(crate) fn bits(self) -> u16
         ensures { result ≡ mask_bits self }

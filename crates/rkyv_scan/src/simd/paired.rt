@@ -13,10 +13,7 @@ pub mod bitmask;
 use crate::simd::paired::bitmask::Bitmask;
 use crate::simd::{GroupKind, Marks, lanes};
 
-/// A group of sixteen control bytes.
-///
-/// A match marks in each half the indices
-/// that [`generic::Group`](crate::simd::generic::Group) marks there.
+/// A group of sixteen control bytes that marks each half as `generic::Group` does.
 #[derive(Clone, Copy)]
 pub struct Group {
     both: lanes::Group,
@@ -30,9 +27,7 @@ fn after(marks: u16) -> u16
     (marks << 1) & 0xfefe
 }
 
-/// Returns the marks of a match, after seven steps from `equal`.
-///
-/// Each step also marks an index of `next` if the index right below it in the same half is marked.
+/// Marks `equal`, and each index of `next` right above a marked one in the same half.
 #[inline]
 fn chained(equal: u16, next: u16) -> u16
     ensures { result ≡ chain equal next 7 }
@@ -45,7 +40,6 @@ fn chained(equal: u16, next: u16) -> u16
 }
 
 impl Bitmask {
-    /// Returns the whole mask.
     #[inline]
     fn whole(self) -> lanes::Bitmask
         ensures { mask_indices 1 0 16 (mask_bits result) ≡ paired_indices self }
