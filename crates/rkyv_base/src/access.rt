@@ -19,24 +19,7 @@ use crate::seal::ArchiveSeal;
 use crate::view::View;
 use crate::width::{Narrow, Width};
 
-/// Validates an archive of the width `W`, and returns a view of the root at its end.
-///
-/// # Errors
-///
-/// - `OutOfRange`: the archive is shorter than a root, or longer than the width's limit.
-/// - `Unaligned`: the position of the root is not a multiple of its alignment.
-/// - The error of the root's own validation.
-///
-/// # Examples
-///
-/// ```rust
-/// // Returns the number at the root of a wide archive.
-/// fn number_of(archive: &[u8]) -> Result<u64, VerifyError> {
-///     Ok(access_in::<Wide, u64>(archive)?.to_native())
-/// }
-///
-/// assert_eq!(rt; number_of(&[1, 2, 0, 0, 0, 0, 0, 0]).ok(), Some(513));
-/// ```
+/// Validates an archive as `access` does, with the limit of the width `W`.
 #[inline]
 pub fn access_in<'a, W: Width, T: Element>(bytes: &'a [u8]) -> Result<View<'a, T>, VerifyError>
     ensures root { MatchResult result
@@ -67,7 +50,9 @@ pub fn access_in<'a, W: Width, T: Element>(bytes: &'a [u8]) -> Result<View<'a, T
 ///
 /// # Errors
 ///
-/// The same as for `access_in`, with a limit of 4,294,967,295 bytes.
+/// - `OutOfRange`: the archive is shorter than a root, or longer than 4,294,967,295 bytes.
+/// - `Unaligned`: the position of the root is not a multiple of its alignment.
+/// - The error of the root's own validation.
 ///
 /// # Examples
 ///
@@ -95,18 +80,9 @@ pub fn access<'a, T: Element>(bytes: &'a [u8]) -> Result<View<'a, T>, VerifyErro
     access_in::<Narrow, T>(bytes)
 }
 
-/// Returns a view of the root at the end of an archive, without validation.
+/// Returns a view of the root at the end of an archive of any width, which it doesn't validate.
 ///
-/// # Requires
-///
-/// - The archive has a valid `T` at its end.
-///
-/// # Examples
-///
-/// ```rust
-/// let map = ArchivedHashMap::of(access_unchecked::<HashMapOf<Text, u64>>(table));
-/// Some(map.get(&name)?.to_native())
-/// ```
+/// The archive must have a valid `T` at its end.
 #[inline]
 pub fn access_unchecked<'a, T: Element>(bytes: &'a [u8]) -> View<'a, T>
     requires { Viewable T.spec bytes.now (length bytes.now - T.spec.size) }
@@ -116,31 +92,7 @@ pub fn access_unchecked<'a, T: Element>(bytes: &'a [u8]) -> View<'a, T>
     View::new(bytes, (bytes.len() - T::size()) as u64)
 }
 
-/// Validates an archive of the width `W`, and returns a seal of the root at its end.
-///
-/// The seal borrows the bytes unchanged, for writes in place.
-///
-/// # Errors
-///
-/// The same as for `access_in`.
-///
-/// # Examples
-///
-/// ```rust
-/// // Writes a character over the root of a wide archive. Returns the old value and the new value.
-/// fn wide_root_replaced(bytes: &mut [u8], value: char) -> Result<(char, char), VerifyError> {
-///     let whole = access_mut_in::<Wide, char>(bytes)?;
-///     let root = whole.pos();
-///     let mut seal = whole.seal_at::<char>(root);
-///     let before = seal.to_native();
-///     seal.set(value);
-///     Ok((before, seal.to_native()))
-/// }
-///
-/// let mut bytes = [0x61, 0, 0, 0];
-/// let replaced = wide_root_replaced(&mut bytes, '€').ok();
-/// assert_eq!(rt; (replaced, bytes), (Some(('a', '€')), [0xac, 0x20, 0, 0]));
-/// ```
+/// Validates an archive as `access_mut` does, with the limit of the width `W`.
 #[inline]
 pub fn access_mut_in<'a, W: Width, T: Element>(
     bytes: &'a mut [u8],
@@ -156,9 +108,7 @@ pub fn access_mut_in<'a, W: Width, T: Element>(
     Ok(ArchiveSeal::new(bytes, pos))
 }
 
-/// Validates a narrow archive, and returns a seal of the root at its end.
-///
-/// The seal borrows the bytes unchanged, for writes in place.
+/// Validates a narrow archive, and returns a seal of the root, for writes in place.
 ///
 /// # Errors
 ///
@@ -193,28 +143,7 @@ pub fn access_mut<'a, T: Element>(bytes: &'a mut [u8]) -> Result<ArchiveSeal<'a,
     access_mut_in::<Narrow, T>(bytes)
 }
 
-/// Validates an archive of the width `W`, and calls `write` with its bytes and the root's position.
-///
-/// Returns the result of `write`.
-///
-/// # Requires
-///
-/// - `write` can be called with the bytes and the root's position, if the archive is valid.
-///
-/// # Errors
-///
-/// The same as for `access_in`. On an error no byte is changed.
-///
-/// # Examples
-///
-/// ```rust
-/// let mut archive = [1; 8];
-/// let pos = access_mut_with_in::<Wide, u64, u64, _>(&mut archive, |bytes: &mut [u8], pos: u64| {
-///     bytes.fill(7);
-///     pos
-/// });
-/// assert_eq!(rt; (pos.ok(), archive), (Some(0), [7; 8]));
-/// ```
+/// Validates an archive as `access_mut_with` does, with the limit of the width `W`.
 #[inline]
 pub fn access_mut_with_in<W: Width, T: Element, R, F: FnOnce(&mut [u8], u64) -> R>(
     bytes: &mut [u8],
@@ -233,13 +162,9 @@ pub fn access_mut_with_in<W: Width, T: Element, R, F: FnOnce(&mut [u8], u64) -> 
 ///
 /// Returns the result of `write`.
 ///
-/// # Requires
-///
-/// - `write` can be called with the bytes and the root's position, if the archive is valid.
-///
 /// # Errors
 ///
-/// The same as for `access_mut_with_in`, with a limit of 4,294,967,295 bytes.
+/// The same as for `access`. On an error no byte is changed.
 ///
 /// # Examples
 ///

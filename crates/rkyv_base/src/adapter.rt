@@ -16,14 +16,6 @@ use std::alloc::Global;
 use std::marker::PhantomData;
 
 /// A key and a value, each by value or by reference, which are archived as an entry.
-///
-/// # Examples
-///
-/// ```rust
-/// let value = 2u32;
-/// let adapter = EntryAdapter::<u8, &u32, u8, u32>::new(1, &value);
-/// let archived = is_archived_as(rt.alloc(), &adapter, &[1, 0, 0, 0, 2, 0, 0, 0]);
-/// ```
 #[derive(Drop)]
 pub struct EntryAdapter<BK, BV, K, V> {
     /// The key, or a reference to it.

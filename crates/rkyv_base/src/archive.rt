@@ -33,17 +33,8 @@ pub trait Archive<W: Width> {
 
     /// Writes the fixed bytes of a value at `pos` over the whole of `out`.
     ///
-    /// `out` may keep any bytes for a text that is too long to be serialized.
-    ///
-    /// # Requires
-    ///
-    /// - `out` has the size of the element.
-    /// - The fixed bytes at `pos` end below 2^64.
-    ///
-    /// # Errors
-    ///
-    /// - `DistanceTooLarge`: a distance to a part doesn't fit in the width.
-    ///   `out` may then have any bytes.
+    /// Fails with `DistanceTooLarge` if a distance to a part doesn't fit in the width. `out` may
+    /// then have any bytes, as it may for a text that is too long to be serialized.
     fn resolve(&self, resolver: Self::Resolver, pos: u64, out: &mut [u8]) -> ResolveResult
         requires room { length out.old ≡ Self.Archived.spec.size }
         requires fits { pos + Self.Archived.spec.size < 2 ^ 64 }
@@ -55,29 +46,10 @@ pub trait Archive<W: Width> {
 }
 
 /// A type whose values can be written to a writer.
-///
-/// # Examples
-///
-/// ```rust
-/// impl<S: Writer, W: Width> Serialize<S, W> for Spot {
-///     fn serialize(
-///         &self,
-///         alloc: Global,
-///         serializer: &mut S,
-///     ) -> WriteResult<EntryResolver<(), ()>, S> {
-///         let pair = (self.x, self.y);
-///         <(i32, i32) as Serialize<S, W>>::serialize(&pair, alloc, serializer)
-///     }
-/// }
-/// ```
 pub trait Serialize<S: Writer, W: Width>: Archive<W> {
     /// Writes the parts of the value, which precede it in the archive, and returns its resolver.
     ///
-    /// # Errors
-    ///
-    /// - The error of the first piece or value that fails.
-    ///
-    /// The bytes written before the call are unchanged.
+    /// Fails with the error of the first piece or value that fails.
     fn serialize(&self, alloc: Global, serializer: &mut S) -> WriteResult<Self::Resolver, S>
         ensures { Serializes W.LIMIT Self.format self.now
             (S.output serializer.old) (S.output serializer.new) result };

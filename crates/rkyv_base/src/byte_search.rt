@@ -7,16 +7,13 @@ ghost use Rattle.std.specs.Str.{IsAscii};
 
 use std::simd::prelude::*;
 
-/// A kind of byte that is searched for.
 pub(crate) trait ByteClass {
     // The test for a byte of the kind.
     ghost in_class: { ℕ → Bool };
 
-    /// Returns `true` if the byte is of the kind.
     fn contains(byte: u8) -> bool
         ensures { result ≡ in_class byte };
 
-    /// Returns a mask of the bytes of the kind, with one bit for each of eight.
     fn mask(eight: u8x8) -> u64
         ensures { result ≡ mask_l (map in_class eight) };
 }
@@ -38,7 +35,6 @@ impl ByteClass for PadByte {
     }
 }
 
-/// The bytes that are not ASCII.
 pub(crate) struct NonAscii;
 
 impl ByteClass for NonAscii {
@@ -55,7 +51,6 @@ impl ByteClass for NonAscii {
     }
 }
 
-/// Returns the index of the first byte of the kind among the first eight, by one comparison.
 #[inline]
 fn first_of_eight<S: ByteClass>(bytes: &[u8]) -> Option<usize>
     requires { 8 ≤ length bytes.now }
@@ -69,7 +64,6 @@ fn first_of_eight<S: ByteClass>(bytes: &[u8]) -> Option<usize>
     }
 }
 
-/// Returns the index of the first byte of the kind, byte by byte.
 #[inline]
 fn first_of_bytes<S: ByteClass>(bytes: &[u8]) -> Option<usize>
     ensures { result ≡ position S.in_class bytes.now }
@@ -77,7 +71,6 @@ fn first_of_bytes<S: ByteClass>(bytes: &[u8]) -> Option<usize>
     bytes.iter().position(|byte| S::contains(*byte))
 }
 
-/// Returns the index of the first byte of the kind.
 #[inline]
 pub(crate) fn first<S: ByteClass>(bytes: &[u8]) -> Option<usize>
     ensures { result ≡ position S.in_class bytes.now }
@@ -92,9 +85,7 @@ pub(crate) fn first<S: ByteClass>(bytes: &[u8]) -> Option<usize>
     Some(at + first_of_bytes::<S>(&bytes[at..])?)
 }
 
-/// Returns `true` only if all bytes, at least eight, are ASCII.
-///
-/// It tests eight bytes at a time, and the last eight may overlap the ones before.
+/// Tests eight bytes at a time. The last eight may overlap the ones before.
 #[inline]
 pub(crate) fn is_ascii(bytes: &[u8]) -> bool
     requires { 8 ≤ length bytes.now }

@@ -30,15 +30,11 @@ use crate::writer::{Writer, append_in};
 use std::alloc::Global;
 use std::marker::PhantomData;
 
-/// A byte string in an archive of the width `W`.
-///
-/// Its bytes are out of line, before its fixed bytes, and aren't validated. The fixed bytes have
-/// the distance to the first byte and the length.
+/// A byte string in an archive of the width `W`. Its bytes are out of line, and aren't validated.
 pub struct Bytes<W = Narrow> {
     width: PhantomData<W>,
 }
 
-/// Returns the length of a byte string.
 #[inline]
 fn byte_string_len<W: Width>(fixed: &[u8]) -> u64
     requires { length fixed.now ≡ text_size W.word }
@@ -47,7 +43,6 @@ fn byte_string_len<W: Width>(fixed: &[u8]) -> u64
     W::read_count(fixed, W::ALIGN)
 }
 
-/// Returns the position at which a byte string begins.
 #[inline]
 fn byte_string_start<W: Width>(fixed: &[u8], pos: u64) -> i128
     requires { length fixed.now ≡ text_size W.word }
@@ -98,7 +93,6 @@ impl<'t, W: Width> Represents<&'t [u8]> for Bytes<W> {
     ghost local = { λ t. byte_string_local W.word t.now };
 }
 
-/// Returns the byte string whose fixed bytes are at a position.
 #[inline]
 fn byte_string_part<W: Width>(bytes: &[u8], pos: u64) -> &[u8]
     requires { Viewable (byte_string_spec W.word) bytes.now pos }
@@ -111,10 +105,6 @@ fn byte_string_part<W: Width>(bytes: &[u8], pos: u64) -> &[u8]
 
 impl<'a, W: Width> View<'a, Bytes<W>> {
     /// Returns the bytes of the byte string.
-    ///
-    /// # Requires
-    ///
-    /// - The archive has a valid byte string at the position.
     #[inline]
     pub fn as_slice(self) -> &'a [u8]
         requires { IsValidView (byte_string_spec W.word) self }
@@ -124,10 +114,6 @@ impl<'a, W: Width> View<'a, Bytes<W>> {
     }
 
     /// Returns the number of bytes of the byte string.
-    ///
-    /// # Requires
-    ///
-    /// - The archive has a valid byte string at the position.
     #[inline]
     pub fn len(self) -> usize
         requires { IsValidView (byte_string_spec W.word) self }
@@ -138,10 +124,6 @@ impl<'a, W: Width> View<'a, Bytes<W>> {
     }
 
     /// Returns `true` if and only if the byte string has no bytes.
-    ///
-    /// # Requires
-    ///
-    /// - The archive has a valid byte string at the position.
     #[inline]
     pub fn is_empty(self) -> bool
         requires { IsValidView (byte_string_spec W.word) self }
@@ -160,7 +142,6 @@ pub struct BytesResolver {
     pub pos: u64,
 }
 
-/// Writes the distance to a byte string, and its length.
 #[inline]
 fn fill_words<W: Width>(distance: i64, len: u64, out: &mut [u8])
     requires room { length out.old ≡ text_size W.word }
@@ -173,7 +154,6 @@ fn fill_words<W: Width>(distance: i64, len: u64, out: &mut [u8])
     W::write_count(back, len);
 }
 
-/// Resolves a byte string.
 #[inline]
 fn resolve_bytes<W: Width>(
     bytes: &[u8],
@@ -196,7 +176,6 @@ fn resolve_bytes<W: Width>(
     Ok(())
 }
 
-/// Writes the bytes of a byte string.
 #[inline]
 fn serialize_bytes<S: Writer, W: Width>(
     bytes: &[u8],

@@ -1,9 +1,11 @@
 //! Elements: the types whose values are in the bytes of an archive.
 //!
-//! - `HasSpec` has the size, the alignment and the condition for valid bytes, for contracts alone.
+//! - `HasSpec` has the size, the alignment and the condition for valid bytes, only for contracts.
 //! - `Element` adds the validator, `check`. It takes the `PartRange` that the value's parts
 //!   may use, and returns the rest of it.
 //! - `Represents` relates the bytes of an element to the native values that they represent.
+//!
+//! `docs/OWN_TYPES.md` has implementations for user-defined types.
 
 ghost use Rattle.std.specs.Prelude.{◌≡◌, ℕ, ◌+◌, ◌%◌, ◌≤◌, List, length, MatchResult};
 ghost use Rattle.rkyv_base.specs.Checking.{Fails, Passes};
@@ -21,20 +23,9 @@ pub struct PartRange {
     pub hi: u64,
 }
 
-/// The layout of an element and the condition for its valid bytes, for contracts alone.
+/// The layout of an element and the condition for its valid bytes, only for contracts.
 ///
-/// Collections that are read have this bound, so that they can carry the fact that their bytes
-/// are valid.
-///
-/// # Examples
-///
-/// ```rust
-/// impl HasSpec for ArchivedSpot {
-///     ghost spec = { spot_spec };
-///
-///     ghost laws = { spot_element };
-/// }
-/// ```
+/// Collections that are read have this bound, so that their type carries that they are valid.
 pub trait HasSpec {
     // The size and the alignment of its values, and the condition for valid bytes.
     ghost spec: { ElementSpec };
@@ -46,24 +37,6 @@ pub trait HasSpec {
 ///
 /// A value has `size` fixed bytes at a multiple of `align`.
 /// It may also have parts out of line, before it.
-///
-/// # Examples
-///
-/// ```rust
-/// impl Element for ArchivedSpot {
-///     fn size() -> usize {
-///         Entry::<i32, i32>::size()
-///     }
-///
-///     fn align() -> usize {
-///         Entry::<i32, i32>::align()
-///     }
-///
-///     fn check(bytes: &[u8], pos: u64, range: PartRange) -> Result<PartRange, VerifyError> {
-///         Entry::<i32, i32>::check(bytes, pos, range)
-///     }
-/// }
-/// ```
 pub trait Element: HasSpec {
     /// Returns the size of a value in bytes: a multiple of the alignment, at most 1,073,741,824.
     fn size() -> usize
@@ -75,17 +48,7 @@ pub trait Element: HasSpec {
 
     /// Validates the value at `pos`, whose parts must be in the range.
     ///
-    /// Returns the rest of the range, for the parts of the next value.
-    ///
-    /// # Requires
-    ///
-    /// - The fixed bytes at `pos` end inside `bytes`.
-    /// - `pos` is a multiple of the alignment.
-    /// - The range ends at or after its start, and at or before `pos`.
-    ///
-    /// # Errors
-    ///
-    /// - The first fault that the validation finds.
+    /// Returns the rest of the range, for the parts of the next value, or the first fault.
     fn check(bytes: &[u8], pos: u64, range: PartRange) -> Result<PartRange, VerifyError>
         requires inside { pos + Self.spec.size ≤ length bytes.now }
         requires aligned { pos % Self.spec.align ≡ 0 }
@@ -95,16 +58,6 @@ pub trait Element: HasSpec {
 }
 
 /// An element whose values represent values of the type `V`.
-///
-/// # Examples
-///
-/// ```rust
-/// impl Represents<Spot> for ArchivedSpot {
-///     ghost represents = { SpotRepresents };
-///
-///     ghost local = { spot_local };
-/// }
-/// ```
 pub trait Represents<V>: Element {
     // The bytes at a position represent the value.
     ghost represents: { List ℕ → ℕ → V → Type 0 };

@@ -1,7 +1,7 @@
 //! Entries: a key followed by a value.
 //!
 //! The layout of an `Entry` is the key, padding up to the value's alignment, the value,
-//! and padding up to the greater alignment. `value_offset` and `whole_size` return its numbers.
+//! and padding up to the greater alignment. `value_offset` and `whole_size` return its offsets.
 
 ghost use Rattle.std.specs.Prelude.{◌≡◌, ◌+◌, ◌<◌, ◌≤◌, ◌^◌};
 ghost use Rattle.rkyv_base.specs.{entry_spec, round_up, value_offset, whole_size};
@@ -15,9 +15,6 @@ use std::marker::PhantomData;
 pub const MAX_ELEMENT_SIZE: usize = 1_073_741_824;
 
 /// A key followed by a value, as in an archive.
-///
-/// The value begins at the key's size, rounded up to the value's alignment.
-/// The size of the whole is rounded up to the greater alignment.
 ///
 /// An entry of more than 1,073,741,824 bytes can't be archived. Its size is 0,
 /// and its validation fails with `Refused(0)`.

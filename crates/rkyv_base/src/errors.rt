@@ -4,7 +4,7 @@
 //! - `VerifyError` is the first fault of a validation.
 //! - `ReadError` is the error of a deserialization.
 //! - `RoundTripError` is the error of writing a value and deserializing it.
-//! - `DistanceTooLarge` is the error of `resolve` alone.
+//! - `DistanceTooLarge` is only the error of `resolve`.
 //!
 //! `?` converts an `AllocError` or an `AllocFailed` into the `Memory` of a `WriteError` or a
 //! `ReadError`, and `DistanceTooLarge` into `WriteError::DistanceTooLarge`. It wraps an
@@ -43,12 +43,9 @@ pub enum WriteError<F> {
     InvalidLoadFactor {
         /// The numerator of the load factor.
         numerator: usize,
-        /// The denominator of the load factor.
         denominator: usize,
     },
     /// An iterator yielded another number of items than it claimed.
-    ///
-    /// The actual number is at most one more than the claimed one.
     #[error("{0}")]
     IteratorLengthMismatch(IteratorLengthMismatch),
     /// A hash table of this length needs more buckets than the width's greatest capacity.
@@ -72,9 +69,7 @@ pub enum WriteError<F> {
     /// Memory could not be allocated for the write.
     #[error("no memory")]
     Memory,
-    /// The value can't be archived, for a reason of its type.
-    ///
-    /// The number of an entry that is too large is 0.
+    /// The value can't be archived, for a reason of its type: 0 is an entry that is too large.
     #[error("refused {0}")]
     Refused(u32),
 }
@@ -118,21 +113,19 @@ impl<F> From<IteratorLengthMismatch> for WriteError<F> {
 /// The error of a validation: the first fault in the bytes.
 #[derive(Clone, Copy, Debug, PartialEq, Eq, Error)]
 pub enum VerifyError {
-    /// A part or the root isn't inside its range of bytes, or the archive is longer than the limit.
+    /// A part or the root isn't inside its range, or the archive is longer than the limit.
     ///
-    /// The position is negative if a distance leads before the start of the archive, if the buckets
+    /// `pos` is negative if a distance leads before the start of the archive, if the buckets
     /// of a table would begin before it, or if the archive is shorter than its root.
     #[error("{size} bytes at {pos} are out of range")]
     OutOfRange {
         /// The position of the first byte of the part.
         pos: i128,
-        /// The number of bytes of the part.
         size: u128,
     },
     /// The position of a part or the root is not a multiple of its alignment.
     #[error("position {pos} is no multiple of {align}")]
     Unaligned {
-        /// The position of the part.
         pos: u64,
         /// The alignment of the part, in bytes.
         align: u64,
@@ -140,7 +133,6 @@ pub enum VerifyError {
     /// The length of a hash table is not below its capacity, and they are not both 0.
     #[error("hash table length must be strictly less than its capacity (length: {len}, capacity: {cap})")]
     InvalidLength {
-        /// The number of items of the table.
         len: usize,
         /// The number of buckets of the table.
         cap: usize,
@@ -150,12 +142,10 @@ pub enum VerifyError {
     WrongNumberOfElements {
         /// The length of the table.
         expected: usize,
-        /// The number of full buckets.
         actual: usize,
     },
-    /// A control byte after those of the buckets isn't as it must be.
-    ///
-    /// It differs from the control byte that it mirrors, or isn't empty from twice the capacity on.
+    /// A control byte after the buckets' own differs from the one that it mirrors or, from twice
+    /// the capacity on, isn't empty.
     #[error("unwrapped control byte at index {index}")]
     UnwrappedControlByte {
         /// The index of the control byte.
@@ -166,7 +156,6 @@ pub enum VerifyError {
     PlaceOutOfRange {
         /// The index in the bucket.
         place: usize,
-        /// The length of the map.
         len: usize,
     },
     /// The fixed bytes at this position, or the text to which they lead, are not a valid value.
@@ -175,9 +164,7 @@ pub enum VerifyError {
         /// The position of the fixed bytes.
         pos: u64,
     },
-    /// The element rejects the value, for a reason of its type.
-    ///
-    /// The number of an entry that is too large is 0.
+    /// The element rejects the value, for a reason of its type: 0 is an entry that is too large.
     #[error("refused {0}")]
     Refused(u32),
 }

@@ -38,9 +38,7 @@ use crate::width::{Narrow, Wide, Width, Word};
 use crate::writer::{NoMemory, VecWriter, Writer};
 use std::alloc::{AllocError, AllocFailed};
 
-/// States by which numbers the integers are encoded: in as many bits as their types have.
-///
-/// A signed integer is in two's complement.
+/// States that an integer's code has its type's bits, in two's complement if it is signed.
 pub fn integers_are_encoded_by_their_types()
     ensures u8 { SameEncoding ⟦<u8 as Scalar>⟧.encoding (unsigned w8) }
     ensures u16 { SameEncoding ⟦<u16 as Scalar>⟧.encoding (unsigned w16) }
@@ -52,15 +50,13 @@ pub fn integers_are_encoded_by_their_types()
     ensures i64 { SameEncoding ⟦<i64 as Scalar>⟧.encoding (signed w64) }
 {}
 
-/// States by which numbers `bool` and `char` are encoded.
-///
-/// A `bool` is the byte 0 or 1, and a `char` its code in four bytes.
+/// States that a `bool` is encoded as the byte 0 or 1, and a `char` as its code in four bytes.
 pub fn bools_and_chars_are_numbers()
     ensures bool { SameEncoding ⟦<bool as Scalar>⟧.encoding bool_encoding }
     ensures char { SameEncoding ⟦<char as Scalar>⟧.encoding char_encoding }
 {}
 
-/// States that a scalar is one aligned little-endian number, which is that of its value.
+/// States that a scalar is one aligned little-endian integer, the code of its value.
 pub fn scalars_are_numbers<W: Width, N: Scalar>()
     ensures spec { IsScalar N.spec N.encoding }
     ensures values { SameValues ⟦<N as Represents<N>>⟧.represents (ScalarRepresents N.encoding) }
@@ -68,8 +64,6 @@ pub fn scalars_are_numbers<W: Width, N: Scalar>()
 {}
 
 /// States the layout of text, and that `&str` and `String` are archived as their bytes.
-///
-/// Without a width, text is that of a narrow archive.
 pub fn texts_are_their_bytes<'t, W: Width>()
     ensures spec { SameSpec ⟦<Text<W> as HasSpec>⟧.spec (text_spec W.word) }
     ensures default { SameSpec ⟦<Text as HasSpec>⟧.spec (text_spec w32) }
@@ -84,8 +78,6 @@ pub fn texts_are_their_bytes<'t, W: Width>()
 {}
 
 /// States the layout of byte strings, and that `&[u8]` and `Vec<u8>` are archived as their bytes.
-///
-/// Without a width, a byte string is one of a narrow archive.
 pub fn byte_strings_are_their_bytes<'t, W: Width>()
     ensures spec { SameSpec ⟦<Bytes<W> as HasSpec>⟧.spec (byte_string_spec W.word) }
     ensures default { SameSpec ⟦<Bytes as HasSpec>⟧.spec (byte_string_spec w32) }
@@ -148,9 +140,7 @@ pub fn words_read_back<W: Width>()
     ensures distances { DistancesReadBack W.word }
 {}
 
-/// States that the distance between two positions of a wide archive fits in its word.
-///
-/// So a wide header is written unless it ends after the limit.
+/// States that wide distances fit, so a wide header is written unless it ends after the limit.
 pub fn wide_distances_fit()
     ensures { WideDistancesFit }
 {}
@@ -161,9 +151,6 @@ pub fn largest_element()
 {}
 
 /// States the output of each writer: its first position, its bytes, and its count of failures.
-///
-/// That of a `VecWriter` begins at position 0. The writer of a vector has its bytes, and counted no
-/// failure. A `LimitWriter` has the bytes of its inner writer, and a count of failures of its own.
 pub fn outputs_of_writers<S: Writer>()
     ensures memory { (w : _) → ⟦<VecWriter as Writer>⟧.output w ≡ vec_output w }
     ensures of_vec { (v : _) (w : _) → ⟦<VecWriter as From<Vec<u8>>>⟧.from_gives v w
@@ -214,8 +201,6 @@ pub fn equal_are_the_same()
 {}
 
 /// States that errors with a writer's fault are equal by `==` if and only if they are the same.
-///
-/// Equal faults of the type `F` must be the same.
 pub fn equal_with_faults_are_the_same<F: PartialEq>()
     ensures write { ((f g : F) → (⟦<F as PartialEq>⟧.eq f g ≡ true) ↔ (f ≡ g))
         → (a b : WriteError F) → (⟦<WriteError<F> as PartialEq>⟧.eq a b ≡ true) ↔ (a ≡ b) }
@@ -255,8 +240,6 @@ pub fn clones_are_the_same()
 {}
 
 /// States that a clone of an error with a writer's fault is the error itself, and can't fail.
-///
-/// A clone of a fault of the type `F` must be the fault itself, and must not fail.
 pub fn clones_with_faults_are_the_same<F: Clone>()
     ensures write { ((f g : F) → ⟦<F as Clone>⟧.is_clone f g ↔ (g ≡ f))
         → (a clone : WriteError F) → ⟦<WriteError<F> as Clone>⟧.is_clone a clone ↔ (clone ≡ a) }

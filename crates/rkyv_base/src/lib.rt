@@ -1,14 +1,13 @@
 //! The core of an archive: elements and their validation, views, seals and writers.
 //!
-//! - To write, `to_bytes` returns the archive of a value,
-//!   and `write_root` appends one to a `Writer`.
+//! - To write, `to_bytes` returns the archive of a value, and `write_root` appends it to a writer.
 //! - To read, `access` validates untrusted bytes and returns a `View` of the root.
-//! - To write in place, `access_mut` validates the bytes
-//!   and returns an `ArchiveSeal` of the root.
+//! - To write in place, `access_mut` validates the bytes and returns an `ArchiveSeal` of the root.
 //!
-//! An `Element` is a type of archived values. `Archive` and `Serialize` are the traits of types
-//! that are archived as an element. The calls that write or open an archive and end in `_in`
-//! take the width of the archive, and the others, but for `access_unchecked`, are for `Narrow`.
+//! An `Element` is a type of archived values; `Archive` and `Serialize` are the traits of types
+//! that are archived as an element. Unlike in rkyv, a view is a position in the archive's bytes,
+//! validation is always available, and the width is a type: calls that end in `_in` take it, and
+//! the others, but for `access_unchecked`, are for `Narrow`.
 //!
 //! The root re-exports most names that callers need. Others, as `access::access`, stay in their
 //! modules.

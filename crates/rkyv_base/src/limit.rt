@@ -24,20 +24,8 @@ pub enum LimitFault<F> {
 
 /// A writer that passes pieces to an inner writer, up to a limit of bytes.
 ///
-/// Its position is the inner writer's. It has a count of failures of its own. All bytes
-/// that the inner writer appends count against the limit, even those of a piece on which it fails.
-///
-/// # Examples
-///
-/// ```rust
-/// let mut writer = LimitWriter::new(VecWriter::new(alloc), 40);
-/// assert!(rt;
-///     matches!(
-///         write_root(alloc, &list, &mut writer),
-///         Err(WriteError::Writer(LimitFault::Full))
-///     )
-/// );
-/// ```
+/// Its position is the inner writer's, and its count of failures its own. All bytes that the inner
+/// writer appends count against the limit, even of a piece on which it fails.
 #[derive(Drop)]
 pub struct LimitWriter<W> {
     inner: W,
@@ -66,7 +54,6 @@ impl<W: Writer> LimitWriter<W> {
         self.inner
     }
 
-    // Counts a failure.
     #[inline]
     fn count_failure(&mut self)
         ensures counted { self.new.failures ≡ min (self.old.failures + 1) (2 ^ 64 - 1) }
@@ -77,7 +64,6 @@ impl<W: Writer> LimitWriter<W> {
         self.failures = self.failures.saturating_add(1);
     }
 
-    // Passes a piece that fits in the rest of the limit to the inner writer.
     fn pass_on(&mut self, bytes: &[u8]) -> Result<(), LimitFault<W::Fault>>
         requires end { end_of (limited W.output self.old) + length bytes.now < 2 ^ 64 }
         requires fits { length bytes.now ≤ self.old.left }
@@ -118,17 +104,9 @@ impl<W: Writer> Writer for LimitWriter<W> {
 
     /// Passes the prefix of the piece that fits in the rest of the limit to the inner writer.
     ///
-    /// An empty piece always fits. The inner writer is not called if the piece is not empty
-    /// and nothing is left of the limit.
-    ///
-    /// # Requires
-    ///
-    /// - The piece ends below 2^64.
-    ///
-    /// # Errors
-    ///
-    /// - `Inner`: the inner writer failed on the prefix.
-    /// - `Full`: the piece doesn't fit.
+    /// The inner writer is not called if nothing is left of the limit, unless the piece is empty.
+    /// Fails with `Inner` if the inner writer fails on the prefix, or with `Full` if the piece
+    /// doesn't fit.
     fn write(&mut self, bytes: &[u8]) -> Result<(), LimitFault<W::Fault>>
         requires { end_of (limited W.output self.old) + length bytes.now < 2 ^ 64 }
         ensures appends { let o = limited W.output self.old in let o' = limited W.output self.new in

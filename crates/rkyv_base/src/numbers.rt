@@ -1,6 +1,6 @@
-//! The implementations of `Scalar` for numbers, `bool` and `char`.
+//! The implementations of `Scalar` for integers, `bool` and `char`.
 //!
-//! A number is little-endian, in as many bytes as its type has. A `bool` is the byte 0 or 1,
+//! An integer is little-endian, in as many bytes as its type has. A `bool` is the byte 0 or 1,
 //! and a `char` is its code in four bytes.
 
 ghost use Rattle.std.specs.Prelude.{◌≡◌};

@@ -1,6 +1,6 @@
 //! Pairs, which are archived as entries.
 //!
-//! The parts of the key are written first, then those of the value. The fixed bytes are an `Entry`.
+//! The parts of the key are written before the parts of the value. The fixed bytes are an `Entry`.
 
 ghost use Rattle.std.specs.Prelude.{◌≡◌, ◌+◌, ◌^◌, ◌<◌, ◌≤◌, length, MatchResult};
 ghost use Rattle.rkyv_base.specs.{Padded, PairRepresents, Serializes, entry_spec, pair_format};
@@ -15,7 +15,7 @@ use crate::width::Width;
 use crate::writer::Writer;
 use std::alloc::Global;
 
-/// The resolver of an entry: those of its key and of its value.
+/// The resolver of an entry.
 #[derive(Drop)]
 #[must_use]
 pub struct EntryResolver<K, V> {
@@ -25,7 +25,6 @@ pub struct EntryResolver<K, V> {
     pub value: V,
 }
 
-/// Resolves a value into the front of `out`, and fills the rest with zeros.
 #[inline]
 fn resolve_padded<W: Width, V: Archive<W>>(
     value: &V,
@@ -45,7 +44,6 @@ fn resolve_padded<W: Width, V: Archive<W>>(
     Ok(())
 }
 
-/// Resolves a key and a value as an entry.
 #[inline]
 pub(crate) fn resolve_entry<W: Width, A: Archive<W>, B: Archive<W>>(
     key: &A,
@@ -70,7 +68,6 @@ pub(crate) fn resolve_entry<W: Width, A: Archive<W>, B: Archive<W>>(
     resolve_padded::<W, B>(value, resolver.value, pos + offset as u64, back)
 }
 
-/// Writes the parts of a key and a value.
 #[inline]
 pub(crate) fn serialize_entry<S: Writer, W: Width, A: Serialize<S, W>, B: Serialize<S, W>>(
     key: &A,

@@ -1,6 +1,6 @@
 //! The parts of a value, which are out of line, before it.
 //!
-//! A validator calls `part_in` with a part's begin, which is computed from untrusted numbers.
+//! A validator calls `part_in` with a part's begin, which is computed from untrusted bytes.
 
 ghost use Rattle.std.specs.Prelude.{◌+ℤ◌, ◌<◌, ◌≡◌, pos as int, MatchResult};
 ghost use Rattle.rkyv_base.specs.{PartFails, PartIn};
@@ -18,14 +18,7 @@ pub fn distance_target(from: u64, distance: i64) -> i128
 
 /// Returns the position of a part of `size` bytes that begins at `begin`.
 ///
-/// # Requires
-///
-/// - `align` is greater than 0.
-///
-/// # Errors
-///
-/// - `OutOfRange`: the part isn't inside the range.
-/// - `Unaligned`: `begin` is not a multiple of `align`.
+/// Fails with `OutOfRange` if it isn't inside the range, or else with `Unaligned`.
 #[inline]
 pub fn part_in(begin: i128, size: u128, align: u64, range: PartRange) -> Result<u64, VerifyError>
     requires { 0 < align }

@@ -17,17 +17,7 @@ use crate::width::{Narrow, Width};
 use crate::writer::{NoMemory, VecWriter, Writer, align_for_in, append_in};
 use std::alloc::Global;
 
-/// Writes a value as the root of an archive of the width `W`, and returns its position.
-///
-/// # Errors
-///
-/// - `Memory`: the root has more than 64 fixed bytes, and a buffer for them could not be allocated.
-/// - The error of serializing the value.
-/// - The error of appending zeros up to the root's alignment.
-/// - `DistanceTooLarge`: a distance from the root doesn't fit in the width.
-/// - The error of appending the root's fixed bytes.
-///
-/// The bytes written before the call are unchanged.
+/// Writes a value as the root of an archive of the width `W`, as `write_root` does.
 pub fn write_root_in<W: Width, S: Writer, V: Serialize<S, W>>(
     alloc: Global,
     value: &V,
@@ -45,7 +35,6 @@ pub fn write_root_in<W: Width, S: Writer, V: Serialize<S, W>>(
     write_root_by::<W, _, _>(alloc, value, out.as_mut_slice(), serializer)
 }
 
-// Writes a value as a root, with a buffer for the root's fixed bytes.
 #[inline]
 fn write_root_by<W: Width, S: Writer, V: Serialize<S, W>>(
     alloc: Global,
@@ -64,21 +53,7 @@ fn write_root_by<W: Width, S: Writer, V: Serialize<S, W>>(
     Ok(root)
 }
 
-/// Returns the archive of a value, in the width `W`.
-///
-/// # Errors
-///
-/// The same as for `write_root_in` with a new `VecWriter`.
-///
-/// # Examples
-///
-/// ```rust
-/// let bytes = to_bytes_in::<Wide, &str>(rt.alloc(), &"wonderful")?;
-/// assert_eq!(rt;
-///     bytes.as_slice(),
-///     b"wonderful\xff\xff\xff\xff\xff\xff\xff".as_slice()
-/// );
-/// ```
+/// Returns the archive of a value, in the width `W`, as `to_bytes` does.
 pub fn to_bytes_in<W: Width, V: Serialize<VecWriter, W>>(
     alloc: Global,
     value: &V,
@@ -96,7 +71,11 @@ pub fn to_bytes_in<W: Width, V: Serialize<VecWriter, W>>(
 ///
 /// # Errors
 ///
-/// The same as for `write_root_in`.
+/// - `Memory`: the root has more than 64 fixed bytes, and a buffer for them could not be allocated.
+/// - The error of serializing the value.
+/// - The error of appending zeros up to the root's alignment.
+/// - `DistanceTooLarge`: a distance from the root doesn't fit in the width.
+/// - The error of appending the root's fixed bytes.
 ///
 /// # Examples
 ///
@@ -120,7 +99,7 @@ pub fn write_root<S: Writer, V: Serialize<S, Narrow>>(
 ///
 /// # Errors
 ///
-/// The same as for `to_bytes_in`.
+/// The same as for `write_root` with a new `VecWriter`.
 ///
 /// # Examples
 ///

@@ -1,4 +1,4 @@
-//! Scalars: values of a few fixed bytes, which are one little-endian number.
+//! Scalars: values of a few fixed bytes, which are one little-endian integer.
 //!
 //! A scalar is an element, represents itself, is archived as itself, and has no parts.
 
@@ -14,9 +14,7 @@ use crate::width::Width;
 use crate::writer::Writer;
 use std::alloc::Global;
 
-/// A value that is written as a little-endian number of 1, 2, 4 or 8 bytes.
-///
-/// Each scalar is an element, represents itself and is archived as itself.
+/// A value that is written as a little-endian integer of 1, 2, 4 or 8 bytes.
 pub trait Scalar: Copy + HasSpec {
     // The encoding of its values.
     ghost encoding: { Encoding Self };
@@ -25,31 +23,18 @@ pub trait Scalar: Copy + HasSpec {
     fn byte_count() -> usize
         ensures { result ≡ byte_len encoding.word };
 
-    /// Returns `true` if and only if the bytes are a valid value.
-    ///
-    /// # Requires
-    ///
-    /// - The number of bytes is `byte_count`.
+    /// Returns `true` if and only if the bytes, `byte_count` of them, are a valid value.
     fn is_value(bytes: &[u8]) -> bool
         requires { length bytes.now ≡ byte_len encoding.word }
         ensures { IsTrue result ↔ encoding.IsCode (from_le_bytes encoding.word bytes.now) };
 
-    /// Returns the value of the bytes.
-    ///
-    /// # Requires
-    ///
-    /// - The number of bytes is `byte_count`.
-    /// - The bytes are a valid value.
+    /// Returns the value of the bytes, which must be valid.
     fn read(bytes: &[u8]) -> Self
         requires whole { length bytes.now ≡ byte_len encoding.word }
         requires value { encoding.IsCode (from_le_bytes encoding.word bytes.now) }
         ensures { result ≡ encoding.value (from_le_bytes encoding.word bytes.now) };
 
-    /// Writes the value over the whole of the bytes.
-    ///
-    /// # Requires
-    ///
-    /// - The number of bytes is `byte_count`.
+    /// Writes the value over the whole of the bytes, `byte_count` of them.
     fn write(self, bytes: &mut [u8])
         requires { length bytes.old ≡ byte_len encoding.word }
         ensures { Encodes encoding self bytes.new };

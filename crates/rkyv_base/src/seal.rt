@@ -30,17 +30,6 @@ use crate::view::View;
 use std::marker::PhantomData;
 
 /// One value that is written in place: the borrowed bytes, and the value's position in them.
-///
-/// # Examples
-///
-/// ```rust
-/// let mut bytes = [1, 2, 3];
-/// let mut seal = Seal::<u8>::over(&mut bytes, 1);
-/// let before = seal.to_native();
-/// seal.set(255);
-/// drop(seal);
-/// assert_eq!(rt; (before, bytes), (2, [1, 255, 3]));
-/// ```
 pub struct Seal<'a, T> {
     pub(crate) bytes: &'a mut [u8],
     pub(crate) pos: usize,
@@ -72,9 +61,7 @@ impl<'a, T> Seal<'a, T> {
         }
     }
 
-    /// Returns the seal of the value as one of an archive, with the same bytes and position.
-    ///
-    /// Use it to look up a key in a map that is the value of another map.
+    /// Returns the seal as an archive's, to look up a key in a map that is another map's value.
     #[inline]
     pub fn into_archive(self) -> ArchiveSeal<'a, T>
         ensures { ArchiveAt result (bytes_ref self.entry) (seal_pos self.entry) }
@@ -88,11 +75,7 @@ impl<'a, T> Seal<'a, T> {
     }
 }
 
-/// Writes a value at a position of some bytes. All other bytes are unchanged.
-///
-/// # Requires
-///
-/// - The value's bytes end inside `bytes`.
+/// Writes a value at a position of some bytes.
 ///
 /// # Examples
 ///
@@ -114,12 +97,7 @@ pub fn set_at<N: Scalar>(bytes: &mut [u8], pos: usize, value: N)
 }
 
 impl<'a, N: Scalar> Seal<'a, N> {
-    /// Returns the value itself.
-    ///
-    /// # Requires
-    ///
-    /// - The value's bytes end inside the borrowed bytes.
-    /// - The bytes at the position are a valid value.
+    /// Returns the value itself, which must be valid and inside the borrowed bytes.
     #[inline]
     pub fn to_native(&self) -> N
         requires inside { LiesIn N.spec self.now }
@@ -129,11 +107,7 @@ impl<'a, N: Scalar> Seal<'a, N> {
         N::read(&self.bytes[self.pos..self.pos + N::byte_count()])
     }
 
-    /// Writes the value. All other bytes are unchanged.
-    ///
-    /// # Requires
-    ///
-    /// - The value's bytes end inside the borrowed bytes.
+    /// Writes the value, whose bytes must be inside the borrowed bytes.
     #[inline]
     pub fn set(&mut self, value: N)
         requires { LiesIn N.spec self.old }
@@ -220,30 +194,6 @@ impl<'a, T> ArchiveSeal<'a, T> {
     }
 
     /// Calls `write` with the archive and the value's position. It may change any byte.
-    ///
-    /// # Requires
-    ///
-    /// - `write` can be called with the archive and the position.
-    ///
-    /// # Examples
-    ///
-    /// ```rust
-    /// // Writes the value at a position of some bytes.
-    /// fn value_written<N: Scalar>(bytes: &mut [u8], pos: u64, value: N)
-    ///     requires { pos + N.spec.size ≤ length bytes.old }
-    ///     ensures { bytes.new ≡ with_value N.encoding bytes.old pos value }
-    /// {
-    ///     let mut whole = ArchiveSeal::<N>::new(bytes, pos);
-    ///     whole.write_with(
-    ///         |archive: &mut [u8], pos: u64|
-    ///             requires { pos + N.spec.size ≤ length archive.old }
-    ///             ensures { archive.new ≡ with_value N.encoding archive.old pos value }
-    ///         {
-    ///             set_at(archive, pos as usize, value);
-    ///         },
-    ///     );
-    /// }
-    /// ```
     #[inline]
     pub fn write_with<F: FnOnce(&mut [u8], u64)>(&mut self, write: F)
         requires { MayWrite F.pre write (archive_in self.old) (pos_in self.old) }
@@ -256,11 +206,7 @@ impl<'a, T> ArchiveSeal<'a, T> {
         write(archive, pos);
     }
 
-    /// Returns the seal of a value at another position of the archive.
-    ///
-    /// # Requires
-    ///
-    /// - The archive has a valid `U` at `pos`.
+    /// Returns the seal of a valid `U` at another position of the archive.
     #[inline]
     pub fn seal_at<U: Element>(self, pos: u64) -> Seal<'a, U>
         requires { Viewable U.spec (archive_in self) pos }
@@ -270,11 +216,7 @@ impl<'a, T> ArchiveSeal<'a, T> {
         Seal::over(archive, pos as usize)
     }
 
-    /// Returns the seal of the value of an entry.
-    ///
-    /// # Requires
-    ///
-    /// - The value of an entry at `entry_pos` lies inside the archive.
+    /// Returns the seal of the value of an entry, which must be inside the archive.
     #[inline]
     pub fn value_seal<K: Element, V: Element>(self, entry_pos: u64) -> Seal<'a, V>
         requires { value_pos K.spec V.spec entry_pos + V.spec.size ≤ length (archive_in self) }
@@ -286,27 +228,9 @@ impl<'a, T> ArchiveSeal<'a, T> {
         Seal::over(archive, entry_pos as usize + value_offset::<K, V>())
     }
 
-    /// Returns a view of the key of an entry, and a seal of its value.
+    /// Returns a view of the key of the valid entry at `entry_pos`, and a seal of its value.
     ///
-    /// The archive is cut in two at the start of the value. The view is of the front,
-    /// and the seal is at the start of the back.
-    ///
-    /// # Requires
-    ///
-    /// - The archive has a valid entry at `entry_pos`.
-    ///
-    /// # Examples
-    ///
-    /// ```rust
-    /// // Writes the value of the entry at position 0. Returns the key and the old value.
-    /// fn value_replaced(bytes: &mut [u8], value: u32) -> Result<(u8, u32), VerifyError> {
-    ///     let whole = access_mut::<Entry<u8, u32>>(bytes)?;
-    ///     let (key, mut seal) = whole.split_value::<u8, u32>(0);
-    ///     let before = (key.to_native(), seal.to_native());
-    ///     seal.set(value);
-    ///     Ok(before)
-    /// }
-    /// ```
+    /// The view borrows the bytes before the value, the seal the rest.
     #[inline]
     pub fn split_value<K: Element, V: Element>(self, entry_pos: u64) -> (View<'a, K>, Seal<'a, V>)
         requires { Viewable (entry_spec K.spec V.spec) (archive_in self) entry_pos }
@@ -328,11 +252,7 @@ impl<'a, T> ArchiveSeal<'a, T> {
 }
 
 impl<'a, T: Element> ArchiveSeal<'a, T> {
-    /// Returns a view of the value.
-    ///
-    /// # Requires
-    ///
-    /// - The archive has a valid `T` at the position.
+    /// Returns a view of the value, which must be valid.
     #[inline]
     pub fn as_view(&self) -> View<'_, T>
         requires { Viewable T.spec (archive_in self.now) (pos_in self.now) }
@@ -344,21 +264,7 @@ impl<'a, T: Element> ArchiveSeal<'a, T> {
     }
 }
 
-/// Returns the bytes of an archive before the value of an entry, and those from there on.
-///
-/// # Requires
-///
-/// - The value begins inside the archive or at its end.
-///
-/// # Examples
-///
-/// ```rust
-/// let (front, back) = split_at_value::<u32, u32>(archive, entry_pos);
-/// let key = View::<u32>::new(front, entry_pos);
-/// let mut seal = Seal::<u32>::over(back, 0);
-/// seal.set(value);
-/// key.to_native()
-/// ```
+/// Splits an archive into the bytes before the value of an entry, and the rest.
 #[inline]
 pub fn split_at_value<K: Element, V: Element>(
     archive: &mut [u8],
@@ -373,19 +279,7 @@ pub fn split_at_value<K: Element, V: Element>(
     archive.split_at_mut(begin)
 }
 
-/// Writes the value of the entry at a position of an archive. All other bytes are unchanged.
-///
-/// # Requires
-///
-/// - The archive has a valid entry at `entry_pos`.
-///
-/// # Examples
-///
-/// ```rust
-/// let mut bytes = [1, 0, 0, 0, 2, 0, 0, 0];
-///
-/// set_value::<u8, u32>(&mut bytes, 0, 7);
-/// ```
+/// Writes the value of the valid entry at a position of an archive.
 #[inline]
 pub fn set_value<K: Element, N: Scalar>(archive: &mut [u8], entry_pos: u64, value: N)
     requires { Viewable (entry_spec K.spec N.spec) archive.old entry_pos }

@@ -13,7 +13,6 @@ use crate::seal::Seal;
 use crate::text::{Text, fixed_at, inline_part, is_out_of_line};
 use crate::width::Width;
 
-/// Returns the inline text at a position, or `None` if the text is out of line.
 #[inline]
 fn inline_text_at<W: Width>(bytes: &[u8], pos: usize) -> Option<&[u8]>
     requires { pos + text_size W.word ≤ length bytes.now }
@@ -29,7 +28,6 @@ fn inline_text_at<W: Width>(bytes: &[u8], pos: usize) -> Option<&[u8]>
     Some(inline_part(fixed))
 }
 
-/// Returns the length of the inline text at a position, or `None` if the text is out of line.
 #[inline]
 fn inline_len<W: Width>(bytes: &[u8], pos: usize) -> Option<usize>
     requires { pos + text_size W.word ≤ length bytes.now }
@@ -41,14 +39,9 @@ fn inline_len<W: Width>(bytes: &[u8], pos: usize) -> Option<usize>
     Some(inline_text_at::<W>(bytes, pos)?.len())
 }
 
-/// Writes each letter from a to z of inline text in upper case, and returns `true`.
+/// Writes each letter from a to z of the inline text at `pos` in upper case, and returns `true`.
 ///
-/// The text is at `pos` of the bytes. Returns `false`, and changes no byte, if the text is out of
-/// line.
-///
-/// # Requires
-///
-/// - The fixed bytes of the text end inside the bytes.
+/// Returns `false`, and changes no byte, if the text is out of line.
 #[inline]
 pub fn uppercase_at<W: Width>(bytes: &mut [u8], pos: usize) -> bool
     requires { pos + text_size W.word ≤ length bytes.old }
@@ -64,13 +57,7 @@ pub fn uppercase_at<W: Width>(bytes: &mut [u8], pos: usize) -> bool
 }
 
 impl<'a, W: Width> Seal<'a, Text<W>> {
-    /// Returns the text, or `None` if it is out of line or isn't UTF-8.
-    ///
-    /// The inline text of a valid value is UTF-8.
-    ///
-    /// # Requires
-    ///
-    /// - The fixed bytes end inside the borrowed bytes.
+    /// Returns the text, or `None` if it is out of line or, in invalid bytes, isn't UTF-8.
     #[inline]
     pub fn as_str(&self) -> Option<&str>
         requires { LiesIn (text_spec W.word) self.now }
@@ -82,23 +69,7 @@ impl<'a, W: Width> Seal<'a, Text<W>> {
         str::from_utf8(text).ok()
     }
 
-    /// Writes each letter from a to z of inline text in upper case, and returns `true`.
-    ///
-    /// Returns `false`, and changes no byte, if the text is out of line.
-    ///
-    /// # Requires
-    ///
-    /// - The fixed bytes end inside the borrowed bytes.
-    ///
-    /// # Examples
-    ///
-    /// ```rust
-    /// let mut bytes = [0x68, 0x65, 0x6c, 0x6c, 0x6f, 255, 255, 255, 97];
-    ///
-    /// let mut seal = Seal::<Text>::over(&mut bytes, 0);
-    /// let uppercased = seal.make_ascii_uppercase();
-    /// drop(seal);
-    /// ```
+    /// Writes inline text in upper case, as `uppercase_at` does.
     #[inline]
     pub fn make_ascii_uppercase(&mut self) -> bool
         requires { LiesIn (text_spec W.word) self.old }

@@ -24,7 +24,6 @@ pub struct TextResolver {
     pub pos: u64,
 }
 
-/// Writes a text over the front of its fixed bytes, and fills the rest with ff.
 #[inline]
 fn fill_inline(text: &[u8], out: &mut [u8])
     requires { length text.now ≤ length out.old }
@@ -35,7 +34,6 @@ fn fill_inline(text: &[u8], out: &mut [u8])
     back.fill(255);
 }
 
-/// Returns the first word of the fixed bytes of out-of-line text.
 #[inline]
 fn word_of_length(len: u64) -> u64
     requires { len < 2 ^ 62 }
@@ -44,7 +42,6 @@ fn word_of_length(len: u64) -> u64
     len % 64 + 128 + len / 64 * 256
 }
 
-/// Writes the length of an out-of-line text, and the distance to it.
 #[inline]
 fn fill_out_of_line<W: Width>(len: u64, distance: i64, out: &mut [u8])
     requires room { length out.old ≡ text_size W.word }
@@ -57,7 +54,6 @@ fn fill_out_of_line<W: Width>(len: u64, distance: i64, out: &mut [u8])
     W::write_distance(back, distance);
 }
 
-/// Resolves a text.
 #[inline]
 fn resolve_text<W: Width>(
     text: &str,
@@ -83,7 +79,6 @@ fn resolve_text<W: Width>(
     Ok(())
 }
 
-/// Writes the bytes of a text that is too long to be inline.
 #[inline]
 fn serialize_text<S: Writer, W: Width>(
     text: &str,

@@ -28,18 +28,15 @@ use std::marker::PhantomData;
 
 /// A text in an archive of the width `W`.
 ///
-/// A text of up to 8 bytes (16 in a wide archive) is inline, in the fixed bytes.
-/// It ends before their first ff. All bytes after it are written as ff, and aren't validated.
-///
-/// A longer text is out of line, before the fixed bytes. These then have its length,
-/// in a form with which no text begins, and the distance to it.
+/// Inline text ends before the first ff of the fixed bytes. All bytes after it are written as ff,
+/// and aren't validated. The fixed bytes of out-of-line text have its length, in a form with which
+/// no text begins, and the distance to it.
 ///
 /// A text of 1,073,741,824 bytes or more (2^62 in a wide archive) can't be archived.
 pub struct Text<W = Narrow> {
     width: PhantomData<W>,
 }
 
-/// Returns the fixed bytes of the text at a position.
 #[inline]
 pub(crate) fn fixed_at<W: Width>(bytes: &[u8], pos: u64) -> &[u8]
     requires { pos + text_size W.word ≤ length bytes.now }
@@ -58,7 +55,6 @@ pub(crate) fn is_out_of_line(fixed: &[u8]) -> bool
     128 <= fixed[0] && fixed[0] < 192
 }
 
-/// Returns the inline text: the fixed bytes before the first ff.
 #[inline]
 pub(crate) fn inline_part(fixed: &[u8]) -> &[u8]
     ensures { result.now ≡ inline_text fixed.now }
@@ -66,8 +62,6 @@ pub(crate) fn inline_part(fixed: &[u8]) -> &[u8]
     &fixed[..first::<PadByte>(fixed).unwrap_or(fixed.len())]
 }
 
-/// Returns `true` only if the inline text is ASCII.
-///
 /// The first fixed byte that is not ASCII, if there is one, is then the ff at its end.
 #[inline]
 fn is_inline_ascii(fixed: &[u8]) -> bool
@@ -79,7 +73,6 @@ fn is_inline_ascii(fixed: &[u8]) -> bool
     }
 }
 
-/// Returns the length that a first word encodes.
 #[inline]
 fn length_decoded(word: u64) -> u64
     ensures { result ≡ decode_length word }
@@ -87,7 +80,6 @@ fn length_decoded(word: u64) -> u64
     word % 64 + word / 256 * 64
 }
 
-/// Returns the length of out-of-line text.
 #[inline]
 fn out_of_line_len<W: Width>(fixed: &[u8]) -> u64
     requires { length fixed.now ≡ text_size W.word }
@@ -96,7 +88,6 @@ fn out_of_line_len<W: Width>(fixed: &[u8]) -> u64
     length_decoded(W::read_count(fixed, 0))
 }
 
-/// Returns the position at which out-of-line text begins.
 #[inline]
 fn out_of_line_start<W: Width>(fixed: &[u8], pos: u64) -> i128
     requires { length fixed.now ≡ text_size W.word }
@@ -106,11 +97,9 @@ fn out_of_line_start<W: Width>(fixed: &[u8], pos: u64) -> i128
 }
 
 /// The greatest length of out-of-line text that is first tested for ASCII, eight bytes at a time.
-///
 /// On longer text, std's validation takes more bytes at once.
 const SHORT: usize = 64;
 
-/// Validates the bytes of the text at `pos` as UTF-8.
 #[inline]
 fn check_utf8(text: &[u8], pos: u64) -> Result<(), VerifyError>
     ensures { MatchResult result
@@ -123,7 +112,6 @@ fn check_utf8(text: &[u8], pos: u64) -> Result<(), VerifyError>
     Ok(())
 }
 
-/// Validates the inline text of the fixed bytes at `pos` as UTF-8.
 #[inline]
 fn check_inline_utf8(fixed: &[u8], pos: u64) -> Result<(), VerifyError>
     ensures { MatchResult result
@@ -136,7 +124,6 @@ fn check_inline_utf8(fixed: &[u8], pos: u64) -> Result<(), VerifyError>
     check_utf8(inline_part(fixed), pos)
 }
 
-/// Validates the bytes of the out-of-line text at `pos` as UTF-8.
 #[inline]
 fn check_out_of_line_utf8(text: &[u8], pos: u64) -> Result<(), VerifyError>
     requires { 8 ≤ length text.now }
@@ -150,7 +137,6 @@ fn check_out_of_line_utf8(text: &[u8], pos: u64) -> Result<(), VerifyError>
     check_utf8(text, pos)
 }
 
-/// Validates out-of-line text.
 fn check_out_of_line<W: Width>(
     bytes: &[u8],
     pos: u64,
@@ -206,7 +192,6 @@ impl<W: Width> Element for Text<W> {
     }
 }
 
-/// Returns the position at which a part begins.
 #[inline]
 pub(crate) fn pos_of_begin(begin: i128) -> usize
     requires { (at : ℕ) × (int at ≡ begin) × (at < 2 ^ 64) }
@@ -215,7 +200,6 @@ pub(crate) fn pos_of_begin(begin: i128) -> usize
     begin as usize
 }
 
-/// Returns the out-of-line text.
 #[inline]
 fn out_of_line_part<W: Width>(bytes: &[u8], pos: u64) -> &[u8]
     requires viewable { Viewable (text_spec W.word) bytes.now pos }
@@ -227,7 +211,6 @@ fn out_of_line_part<W: Width>(bytes: &[u8], pos: u64) -> &[u8]
     &bytes[at..at + out_of_line_len::<W>(fixed) as usize]
 }
 
-/// Returns the text whose fixed bytes are at a position.
 #[inline]
 fn text_part<W: Width>(bytes: &[u8], pos: u64) -> &[u8]
     requires { Viewable (text_spec W.word) bytes.now pos }
@@ -254,10 +237,6 @@ impl<'t, W: Width> Represents<&'t str> for Text<W> {
 
 impl<'a, W: Width> View<'a, Text<W>> {
     /// Returns the text itself.
-    ///
-    /// # Requires
-    ///
-    /// - The archive has a valid text at the position.
     #[inline]
     pub fn as_str(self) -> &'a str
         requires { IsValidView (text_spec W.word) self }

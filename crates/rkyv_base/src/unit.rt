@@ -1,6 +1,6 @@
 //! The unit value, which has no bytes in an archive.
 //!
-//! It is the value type of a set, whose entries are therefore its keys alone.
+//! It is the value type of a set, whose entries are therefore only its keys.
 
 ghost use Rattle.rkyv_base.specs.{unit_format, unit_represents, unit_spec};
 ghost use Rattle.rkyv_base.specs.Lemmas.Empty.{unit_element, unit_is_format, unit_local};

@@ -1,4 +1,4 @@
-//! Views: values that are read in place.
+//! Views: values that are read in place. The bytes at a view's position must be a valid value.
 //!
 //! - `to_native` returns a scalar, and `as_str` of the module `text` a text.
 //! - `key` and `value` return views of the key and the value of an entry.
@@ -23,11 +23,7 @@ pub struct View<'a, T> {
 }
 
 impl<'a, T: Element> View<'a, T> {
-    /// Returns the view of the value at a position of some bytes.
-    ///
-    /// # Requires
-    ///
-    /// - The bytes have a valid `T` at `pos`.
+    /// Returns the view of the valid `T` at a position of some bytes.
     #[inline]
     pub fn new(archive: &'a [u8], pos: u64) -> View<'a, T>
         requires { Viewable T.spec archive.now pos }
@@ -56,11 +52,7 @@ impl<'a, T: Element> View<'a, T> {
         self.archive
     }
 
-    /// Returns the view of a value at another position of the same archive.
-    ///
-    /// # Requires
-    ///
-    /// - The archive has a valid `U` at `pos`.
+    /// Returns the view of the valid `U` at another position of the same archive.
     #[inline]
     pub fn at<U: Element>(self, pos: u64) -> View<'a, U>
         requires { Viewable U.spec (bytes_of self) pos }
@@ -80,10 +72,6 @@ pub fn found_pos<T: Element>(found: Option<View<'_, T>>) -> Option<u64>
 
 impl<'a, N: Scalar> View<'a, N> {
     /// Returns the value itself.
-    ///
-    /// # Requires
-    ///
-    /// - The archive has a valid value at the position.
     #[inline]
     pub fn to_native(self) -> N
         requires { IsValidView N.spec self }
@@ -99,25 +87,6 @@ pub type PairView<'a, K, V> = (View<'a, K>, View<'a, V>);
 
 impl<'a, K: Element, V: Element> View<'a, Entry<K, V>> {
     /// Returns the view of the key of the entry.
-    ///
-    /// # Requires
-    ///
-    /// - The archive has a valid entry at the position.
-    ///
-    /// # Examples
-    ///
-    /// ```rust
-    /// // Returns the parts of a pair and of its inner pair, read in place.
-    /// fn parts(bytes: &[u8]) -> Option<(u8, i32, bool)> {
-    ///     let root = access::<Entry<u8, Entry<i32, bool>>>(bytes).ok()?;
-    ///     let inner = root.value();
-    ///     Some((
-    ///         root.key().to_native(),
-    ///         inner.key().to_native(),
-    ///         inner.value().to_native(),
-    ///     ))
-    /// }
-    /// ```
     #[inline]
     pub fn key(self) -> View<'a, K>
         requires { IsValidView (entry_spec K.spec V.spec) self }
@@ -128,10 +97,6 @@ impl<'a, K: Element, V: Element> View<'a, Entry<K, V>> {
     }
 
     /// Returns the view of the value of the entry.
-    ///
-    /// # Requires
-    ///
-    /// - The archive has a valid entry at the position.
     #[inline]
     pub fn value(self) -> View<'a, V>
         requires { IsValidView (entry_spec K.spec V.spec) self }

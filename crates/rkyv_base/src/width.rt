@@ -24,7 +24,7 @@ pub trait Word {
 
 /// The width of the positions and counts of an archive, and the sizes that depend on it.
 pub trait Width: Word {
-    /// The number that stores an index in an index map: `u32` or `u64`.
+    /// The integer that stores an index in an index map: `u32` or `u64`.
     type Place;
 
     /// The greatest position, and the greatest length of an archive, in bytes.
@@ -63,40 +63,22 @@ pub trait Width: Word {
     ghost TEXT_LIMIT: { ℕ };
 
     /// Returns the count at position `at`.
-    ///
-    /// # Requires
-    ///
-    /// - The word at `at` ends inside `bytes`.
     fn read_count(bytes: &[u8], at: usize) -> u64
         requires { at + byte_len Self.word ≤ length bytes.now }
         ensures { result ≡ number_at Self.word bytes.now at };
 
-    /// Writes a count over the whole of `out`.
-    ///
-    /// # Requires
-    ///
-    /// - `out` has the size of a word.
-    /// - `count` fits in a word.
+    /// Writes a count over the whole of `out`, which is one word.
     fn write_count(out: &mut [u8], count: u64)
         requires room { length out.old ≡ byte_len Self.word }
         requires fits { count < 2 ^ bits Self.word }
         ensures { out.new ≡ to_le_bytes Self.word count };
 
     /// Returns the distance at position `at`.
-    ///
-    /// # Requires
-    ///
-    /// - The word at `at` ends inside `bytes`.
     fn read_distance(bytes: &[u8], at: usize) -> i64
         requires { at + byte_len Self.word ≤ length bytes.now }
         ensures { result ≡ signed_at Self.word bytes.now at };
 
-    /// Writes a distance over the whole of `out`.
-    ///
-    /// # Requires
-    ///
-    /// - `out` has the size of a word.
-    /// - `distance` fits in a signed word.
+    /// Writes a distance over the whole of `out`, which is one word.
     fn write_distance(out: &mut [u8], distance: i64)
         requires room { length out.old ≡ byte_len Self.word }
         requires fits { FitsSigned Self.word distance }
@@ -115,9 +97,7 @@ pub trait Width: Word {
 #[derive(Clone, Copy, Debug)]
 pub struct Narrow;
 
-/// The width of archives of up to 9,223,372,036,854,775,807 bytes.
-///
-/// Positions and counts have 64 bits.
+/// The width of archives of up to 2^63 - 1 bytes. Positions and counts have 64 bits.
 #[derive(Clone, Copy, Debug)]
 pub struct Wide;
 

@@ -32,18 +32,9 @@ pub trait Writer {
     fn failures(&self) -> u64
         ensures { result ≡ (output self.now).failures };
 
-    /// Appends a piece.
+    /// Appends a piece, which must end below 2^64.
     ///
-    /// # Requires
-    ///
-    /// - The piece ends below 2^64.
-    ///
-    /// # Errors
-    ///
-    /// - The fault of the writer.
-    ///
-    /// On an error it appended some prefix of the piece, maybe all of it. It counts one more
-    /// failure.
+    /// On an error it appended some prefix of the piece, maybe all of it.
     fn write(&mut self, bytes: &[u8]) -> Result<(), Self::Fault>
         requires { end_of (output self.old) + length bytes.now < 2 ^ 64 }
         ensures appends { OnOk result (Appends (output self.old) (output self.new) bytes.now) }
@@ -104,17 +95,6 @@ impl VecWriter {
 }
 
 /// The writer of a vector appends to its bytes, and uses its memory.
-///
-/// # Examples
-///
-/// ```rust
-/// let mut writer = VecWriter::from(vec![in rt.alloc(); 1, 2, 3]?);
-/// let root = write_root(rt.alloc(), &7u32, &mut writer).ok();
-/// assert_eq!(rt;
-///     (root, writer.bytes()),
-///     (Some(4), [1, 2, 3, 0, 7, 0, 0, 0].as_slice())
-/// );
-/// ```
 impl From<Vec<u8>> for VecWriter {
     ghost from_gives = { λ bytes w. w ≡ (bytes.items, 0) };
 
@@ -138,15 +118,7 @@ impl Writer for VecWriter {
         self.failures
     }
 
-    /// Appends the whole piece.
-    ///
-    /// # Requires
-    ///
-    /// - The piece ends below 2^64.
-    ///
-    /// # Errors
-    ///
-    /// - `NoMemory`: memory could not be allocated. Nothing is appended. An empty piece needs none.
+    /// Appends the whole piece, or nothing if memory can't be allocated. An empty piece needs none.
     #[inline]
     fn write(&mut self, bytes: &[u8]) -> Result<(), NoMemory>
         requires { length self.old.0 + length bytes.now < 2 ^ 64 }
@@ -167,10 +139,8 @@ impl Writer for VecWriter {
 
 /// Appends one piece to an archive of the width `W`.
 ///
-/// # Errors
-///
-/// - `PositionTooLarge`: the piece would end after the width's limit. Nothing is written.
-/// - `Writer`: the writer failed. It may have written a prefix of the piece.
+/// Fails with `PositionTooLarge`, without writing, if the piece would end after the width's limit.
+/// Fails with `Writer` if the writer failed, maybe after a prefix of the piece.
 #[inline]
 pub fn append_in<W: Width, S: Writer>(serializer: &mut S, bytes: &[u8]) -> WriteResult<(), S>
     ensures { AppendsPiece W.LIMIT bytes.now
@@ -186,11 +156,7 @@ pub fn append_in<W: Width, S: Writer>(serializer: &mut S, bytes: &[u8]) -> Write
 
 /// Appends zeros up to the next multiple of the element's alignment, in one piece.
 ///
-/// Returns the position after them.
-///
-/// # Errors
-///
-/// The same as for `append_in`.
+/// Returns the position after them. Fails as `append_in` does.
 #[inline]
 pub fn align_for_in<W: Width, T: Element, S: Writer>(serializer: &mut S) -> WriteResult<u64, S>
     ensures { Aligns W.LIMIT T.spec.align
@@ -203,11 +169,7 @@ pub fn align_for_in<W: Width, T: Element, S: Writer>(serializer: &mut S) -> Writ
     Ok(serializer.pos())
 }
 
-/// Appends one piece to a narrow archive.
-///
-/// # Errors
-///
-/// The same as for `append_in`, with a limit of 4,294,967,295 bytes.
+/// Appends one piece to a narrow archive, as `append_in` does.
 #[inline]
 pub fn append<S: Writer>(serializer: &mut S, bytes: &[u8]) -> WriteResult<(), S>
     ensures { AppendsPiece narrow_limit bytes.now
@@ -216,13 +178,7 @@ pub fn append<S: Writer>(serializer: &mut S, bytes: &[u8]) -> WriteResult<(), S>
     append_in::<Narrow, S>(serializer, bytes)
 }
 
-/// Appends zeros up to the next multiple of the element's alignment to a narrow archive.
-///
-/// Returns the position after them.
-///
-/// # Errors
-///
-/// The same as for `align_for_in`, with a limit of 4,294,967,295 bytes.
+/// Appends zeros to a narrow archive, as `align_for_in` does.
 #[inline]
 pub fn align_for<T: Element, S: Writer>(serializer: &mut S) -> WriteResult<u64, S>
     ensures { Aligns narrow_limit T.spec.align
