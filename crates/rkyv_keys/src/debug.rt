@@ -13,18 +13,14 @@ use std::fmt::{self, Debug, Formatter, Write};
 
 /// An element whose values can be formatted in place.
 pub trait ElementDebug: Element {
-    /// Writes the value to the formatter.
-    ///
-    /// # Requires
-    ///
-    /// - The view is of a valid value.
+    /// Writes the value, which must be valid, to the formatter.
     fn debug<W: Write>(view: View<'_, Self>, f: &mut Formatter<W>) -> fmt::Result
         requires { IsValidView Self.spec view };
 }
 
-/// Validates the value at a position of some bytes, and returns a view of it.
+/// Returns a view of the value at a position of some bytes, or `None` if it is not valid.
 ///
-/// Returns `None` if there is no valid value at the position. Its parts can be anywhere before it.
+/// Its parts can be anywhere before it.
 #[inline]
 pub fn valid_at<T: Element>(bytes: &[u8], pos: u64) -> Option<View<'_, T>>
     ensures { MatchOption result
@@ -42,8 +38,7 @@ pub fn valid_at<T: Element>(bytes: &[u8], pos: u64) -> Option<View<'_, T>>
 
 /// A value in an archive, for formatting by `Debug`.
 ///
-/// Formatting validates the value again, so it has no condition.
-/// It fails if the value is not valid.
+/// Formatting validates the value again. It fails if the value is not valid.
 ///
 /// # Examples
 ///

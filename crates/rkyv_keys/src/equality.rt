@@ -13,32 +13,11 @@ ghost use Rattle.rkyv_keys.specs.{at_views};
 use rkyv_base::{Archive, Element, Represents, View, Width};
 
 /// An element whose values can be compared in place, within one archive or between two.
-///
-/// # Examples
-///
-/// ```rust
-/// impl ElementEq for LowByte {
-///     ghost same = { low_same };
-///
-///     fn same(a: View<'_, LowByte>, b: View<'_, LowByte>) -> bool
-///         requires a { IsValidView low_spec a }
-///         requires b { IsValidView low_spec b }
-///         ensures { result ≡ at_views low_same a.entry b.entry }
-///     {
-///         number(a) % 256 == number(b) % 256
-///     }
-/// }
-/// ```
 pub trait ElementEq: Element {
     // The comparison of the values at two positions.
     ghost same: { Comparison };
 
     /// Returns `true` if and only if the two values are the same.
-    ///
-    /// # Requires
-    ///
-    /// - `a` is the view of a valid value.
-    /// - `b` is the view of a valid value.
     fn same(a: View<'_, Self>, b: View<'_, Self>) -> bool
         requires a { IsValidView Self.spec a }
         requires b { IsValidView Self.spec b }
@@ -46,14 +25,6 @@ pub trait ElementEq: Element {
 }
 
 /// An element whose comparison is an equivalence.
-///
-/// # Examples
-///
-/// ```rust
-/// impl ElementEquiv for ArchivedSpot {
-///     ghost equivalence = { spot_equivalence };
-/// }
-/// ```
 pub trait ElementEquiv: ElementEq {
     ghost equivalence: { IsEquivalence Self.spec Self.same };
 }
@@ -64,10 +35,6 @@ pub trait MatchesNative<V>: Represents<V> {
     ghost equals: { List ℕ → ℕ → V → Type 0 };
 
     /// Returns `true` if and only if the archived value equals the native value.
-    ///
-    /// # Requires
-    ///
-    /// - The view is of a valid value.
     fn eq_native(view: View<'_, Self>, value: &V) -> bool
         requires { IsValidView Self.spec view }
         ensures { IsTrue result ↔ AtView equals view.entry value.now };
@@ -78,15 +45,11 @@ pub trait EqualsWritten<W: Width>: Archive<W>
 where
     Self::Archived: MatchesNative<Self>,
 {
-    // In each archive that has the bytes of a written value,
-    // the archived value equals the written one.
+    // An archived value equals the written one, in each archive that has its bytes.
     ghost equal: { IsFormat Self.Archived.spec Self.Archived.equals Self.format };
 }
 
 /// An element whose values equal only native values that are equal to the represented ones.
-///
-/// If `eq_native` returns `true`, its argument is `==` to each native value
-/// that the archived one represents.
 ///
 /// Archived maps and sets don't implement it. A caller may know that the keys of an archived map
 /// are distinct, but this law can't assume it.

@@ -11,18 +11,6 @@ use rkyv_scan::KeyHasher;
 /// A value that is hashed by a list of calls, which is a function of the value.
 ///
 /// It replaces std's `Hash`, whose calls depend on the machine.
-///
-/// # Examples
-///
-/// ```rust
-/// impl KeyHash for EndsIn {
-///     ghost calls = { λ q. byte_call q.0 };
-///
-///     fn hash<H: KeyHasher>(&self, state: &mut H) {
-///         state.write_u8(self.0);
-///     }
-/// }
-/// ```
 pub trait KeyHash {
     // The calls, in order.
     ghost calls: { Self → List HasherCall };

@@ -1,6 +1,6 @@
 //! Keys, and the queries by which they are looked up.
 //!
-//! `KeyElement` is the trait of archived keys, and `Query` that of values by which they
+//! `KeyElement` is the trait of archived keys, and `Query` the trait of values by which they
 //! are looked up. A `NativeKey` is a query for its own archived form. A `NativeQuery` finds
 //! the archived forms of the native keys that it equals.
 
@@ -38,10 +38,6 @@ pub trait KeyElement: ElementEquiv {
     ghost key_calls: { List ℕ → ℕ → List HasherCall };
 
     /// Feeds the calls of an archived value to a hasher.
-    ///
-    /// # Requires
-    ///
-    /// - The view is of a valid value.
     fn hash_view<H: KeyHasher>(view: View<'_, Self>, state: &mut H)
         requires { IsValidView Self.spec view }
         ensures { state.new ≡ after_calls H.hasher state.old (at_view key_calls view.entry) };
@@ -72,10 +68,6 @@ pub trait Query<K: KeyElement>: KeyHash {
     ghost fits: { Self → List ℕ → ℕ → Bool };
 
     /// Returns `true` if and only if the query matches the key.
-    ///
-    /// # Requires
-    ///
-    /// - The view is of a valid key.
     fn same(&self, key: View<'_, K>) -> bool
         requires { IsValidView K.spec key }
         ensures { result ≡ at_view (fits self.now) key.entry };
@@ -84,14 +76,6 @@ pub trait Query<K: KeyElement>: KeyHash {
 }
 
 /// A type whose values are archived as keys of the element `K`, and which look these up.
-///
-/// # Examples
-///
-/// ```rust
-/// impl NativeKey<ArchivedSpot> for Spot {
-///     ghost native = { spot_fits_its_equal };
-/// }
-/// ```
 pub trait NativeKey<K: KeyElement + Represents<Self>>: Query<K> + Eq {
     ghost native: { FitsItsEqual K.spec K.represents Self.eq Self.fits };
 }

@@ -1,6 +1,6 @@
 //! Laws of keys.
 //!
-//! Those of native keys and of queries are proved from the laws of their traits. The others are
+//! The laws of native keys and of queries are proved from the laws of their traits. The others are
 //! about the types of this crate: by which calls their values are hashed, when two of them are the
 //! same, which native values they equal, with which errors they are deserialized, and that a clone
 //! is equal.
@@ -47,7 +47,7 @@ pub fn views_match_same_keys<'a, K: KeyElement>()
     ensures matched { FitsSameKeys K.same ⟦<KeyView<'a, K> as Query<K>>⟧.fits }
 {}
 
-/// States that a number is hashed by the call of its own type.
+/// States that an integer is hashed by the call of its own type.
 pub fn numbers_hash_by_their_types()
     ensures u8 { HashesBy ⟦<u8 as KeyHash>⟧ (λ n. U8 n ∷ []) }
     ensures u16 { HashesBy ⟦<u16 as KeyHash>⟧ (λ n. U16 n ∷ []) }
@@ -61,9 +61,7 @@ pub fn numbers_hash_by_their_types()
     ensures isize { HashesBy ⟦<isize as KeyHash>⟧ (λ z. Isize z ∷ []) }
 {}
 
-/// States how a `bool`, a `char` and the unit value are hashed.
-///
-/// A `bool` is hashed as the byte 0 or 1, a `char` as its code in a `u32`, and `()` by no call.
+/// States that a `bool` is hashed as a byte, a `char` as its code in a `u32`, and `()` by no call.
 pub fn bools_chars_and_units_hash_by_their_calls()
     ensures bool { HashesBy ⟦<bool as KeyHash>⟧ (λ b. bool_call b ∷ []) }
     ensures char { HashesBy ⟦<char as KeyHash>⟧ (λ c. U32 c ∷ []) }
@@ -82,16 +80,15 @@ pub fn byte_strings_hash_by_their_bytes<'a>()
     ensures vector { HashesBy ⟦<Vec<u8> as KeyHash>⟧ (λ v. byte_string_calls v.items) }
 {}
 
-/// States that a pair is hashed by the calls of its first value, and then those of its second.
+/// States that a pair is hashed by the calls of its first value, and then of its second.
 pub fn pairs_hash_in_order<A: KeyHash, B: KeyHash>()
     ensures { (pair : _) →
         ⟦<(A, B) as KeyHash>⟧.calls pair ≡ A.calls pair.0 ++ B.calls pair.1 }
 {}
 
-/// States when two archived scalars, unit values, texts or pairs are the same.
+/// States when two archived values are the same: scalars if equal, and texts if their bytes are.
 ///
-/// Scalars are the same if they are equal, and texts if their bytes are. Unit values always are.
-/// Pairs are the same if their keys and their values are.
+/// Unit values always are. Pairs are the same if their keys and their values are.
 pub fn archived_values_are_compared<N: ScalarKey, W: Width, K: ElementEq, V: ElementEq>()
     ensures scalar { SameComparison ⟦<N as ElementEq>⟧.same (scalar_same N.encoding N.eq) }
     ensures unit { SameComparison ⟦<() as ElementEq>⟧.same unit_same }
@@ -121,7 +118,7 @@ where
 /// States the errors with which scalars, the unit value, texts and pairs are deserialized.
 ///
 /// Scalars and `()` never fail. A text fails only to allocate, and never if it is empty. A pair
-/// fails with an error of its key or, if the key's bytes represent a value, with one of its value.
+/// fails with an error of its key or, if the key's bytes represent a value, of its value.
 pub fn errors_of_deserializing<N: ScalarKey, W: Width, A: Drop, B, K, V>()
 where
     K: Deserialize<A>,

@@ -1,13 +1,15 @@
 //! Keys: hashing, comparison, lookup and deserialization of archived values.
 //!
-//! - `KeyHash` hashes native values, and `KeyElement` archived ones.
+//! - `KeyHash` hashes native values, and `KeyElement` archived ones. It replaces std's `Hash`,
+//!   whose calls depend on the machine.
 //! - `ElementEq` compares archived values, and `MatchesNative` compares them with native ones.
-//! - `Query` is the trait of values by which a key is looked up.
+//! - `Query` is the trait of values by which a key is looked up: a native key, a `KeyView` of an
+//!   archived one, or a value of another type. rkyv has `Borrow` in its place.
 //! - `Deserialize` reads an archived value back.
 //! - `Shown` formats an archived value by `Debug`.
 //!
-//! These are implemented for scalar keys, text, byte strings, entries and the unit value.
-//! The root re-exports the traits.
+//! Scalar keys, text, byte strings, entries and the unit value implement them. The root
+//! re-exports the traits. Begin with `KeyHash` and `Query`.
 #![tactic(auto)]
 
 mod bytes;

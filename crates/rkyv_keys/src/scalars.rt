@@ -1,6 +1,6 @@
 //! The implementations for scalars.
 //!
-//! A type that implements `ScalarKey` has the traits of keys. Numbers, `bool` and `char`
+//! A type that implements `ScalarKey` has the traits of keys. Integers, `bool` and `char`
 //! implement it.
 
 ghost use Rattle.std.specs.Prelude.{◌≡◌, IsTrue, ◌↔◌, MatchResult};
@@ -24,7 +24,7 @@ use rkyv_base::{ReadError, Scalar, View, Width};
 use rkyv_scan::KeyHasher;
 use std::alloc::Global;
 
-/// A scalar that is hashed by one call, and is equal to itself alone.
+/// A scalar that is hashed by one call, and is equal only to itself.
 ///
 /// Each is a key, is a query for itself and is deserialized as itself.
 pub trait ScalarKey: Scalar + Eq {

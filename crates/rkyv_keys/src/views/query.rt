@@ -13,10 +13,6 @@ use rkyv_scan::KeyHasher;
 
 impl<'a, K: HasSpec> KeyView<'a, K> {
     /// Returns the key of a view as a query.
-    ///
-    /// # Requires
-    ///
-    /// - The view is of a valid key.
     #[inline]
     pub fn of(view: View<'a, K>) -> KeyView<'a, K>
         requires { IsValidView K.spec view }
