@@ -9,22 +9,13 @@ const MODULUS: u64 = 65_521;
 // The greatest number of bytes that are added up before the sums are reduced.
 const BLOCK: usize = 4_096;
 
-// The two sums of Adler-32.
 #[derive(Clone, Copy, Debug)]
 struct Sums {
     low: u64,
     high: u64,
 }
 
-/// Returns the checksum Adler-32 of `bytes`, as in zlib.
-///
-/// It detects each change of one byte. It is no protection from an attacker.
-///
-/// # Examples
-///
-/// ```rust
-/// assert_eq!(rt; adler32(b"abc"), 0x024d_0127);
-/// ```
+/// Returns the checksum Adler-32 of `bytes`, as in zlib. It is no protection from an attacker.
 pub fn adler32(bytes: &[u8]) -> u32
     ensures sums { result ≡ adler32_of bytes.now }
     ensures change { DetectsChange bytes.now result }
@@ -40,7 +31,6 @@ pub fn adler32(bytes: &[u8]) -> u32
 }
 
 impl Sums {
-    // Returns the sums after the bytes of a block, each below the modulus.
     fn add(self, block: &[u8]) -> Sums
         requires low { self.low < 65521 }
         requires high { self.high < 65521 }

@@ -22,18 +22,6 @@ use crate::header::{HEADER_LEN, Header};
 /// - The errors of `Header::read`.
 /// - `WrongLength`: the number of bytes after the header isn't the length in the header.
 /// - `WrongChecksum`: the header has a checksum that isn't the archive's.
-///
-/// # Examples
-///
-/// ```rust
-/// // Returns whether `open` returns this header and archive.
-/// fn opens(bytes: &[u8], header: Header, archive: &[u8]) -> bool {
-///     match open(bytes) {
-///         Ok((found, rest)) => found == header && rest == archive,
-///         Err(_) => false,
-///     }
-/// }
-/// ```
 pub fn open(bytes: &[u8]) -> Result<(Header, &[u8]), ContainerError>
     ensures ok { IfOk result (λ opened. IsContainer opened.0 opened.1.now bytes.now) }
     ensures opens { (header : Header) → (archive : List ℕ) → IsContainer header archive bytes.now
@@ -45,15 +33,10 @@ pub fn open(bytes: &[u8]) -> Result<(Header, &[u8]), ContainerError>
 
 /// Opens a container with the expected contents: returns its archive in place.
 ///
-/// A container of other contents is never opened.
-///
 /// # Errors
 ///
-/// - The errors of `Header::read`.
-/// - `WrongKind`, `WrongKeyType`, `WrongValueType`, `WrongWidth`: that part of the contents isn't
-///   the expected one.
-/// - `WrongLength`: the number of bytes after the header isn't the length in the header.
-/// - `WrongChecksum`: the header has a checksum that isn't the archive's.
+/// The same as for `open`, and before `WrongLength` one of `WrongKind`, `WrongKeyType`,
+/// `WrongValueType` and `WrongWidth` if that part of the contents isn't the expected one.
 ///
 /// # Examples
 ///
@@ -75,13 +58,7 @@ pub fn open_as(bytes: &[u8], expected: Contents) -> Result<&[u8], ContainerError
     open_expected(bytes, expected)
 }
 
-/// Makes a container of the archive after the first 32 bytes, and returns its header.
-///
-/// The header is written over the first 32 bytes. It has a checksum if `checked` is `true`.
-///
-/// # Requires
-///
-/// - `bytes` has at least the length `HEADER_LEN`.
+/// Writes the header over the first 32 bytes, before the archive, with a checksum if `checked`.
 ///
 /// # Examples
 ///
@@ -102,7 +79,6 @@ pub fn fill_header(bytes: &mut [u8], contents: Contents, checked: bool) -> Heade
     header
 }
 
-// Opens a container of any contents.
 fn open_any(bytes: &[u8]) -> Result<(Header, &[u8]), ContainerError>
     ensures { MatchResult result (λ opened. IsContainer opened.0 opened.1.now bytes.now)
         (λ e. OpenFails bytes.now e) }
@@ -112,7 +88,6 @@ fn open_any(bytes: &[u8]) -> Result<(Header, &[u8]), ContainerError>
     Ok((header, archive))
 }
 
-// Opens a container of the expected contents.
 fn open_expected(bytes: &[u8], expected: Contents) -> Result<&[u8], ContainerError>
     ensures { MatchResult result (λ archive. IsContainerOf expected archive.now bytes.now)
         (λ e. OpenAsFails expected bytes.now e) }
@@ -123,7 +98,6 @@ fn open_expected(bytes: &[u8], expected: Contents) -> Result<&[u8], ContainerErr
     Ok(archive)
 }
 
-// Splits a container into its header and the bytes behind it.
 fn split(bytes: &[u8]) -> Result<(Header, &[u8]), ContainerError>
     ensures { MatchResult result (λ parts. IsSplit parts.0 parts.1.now bytes.now)
         (λ e. FirstFails (header_checks bytes.now) e) }
@@ -133,7 +107,6 @@ fn split(bytes: &[u8]) -> Result<(Header, &[u8]), ContainerError>
     Ok((header, archive))
 }
 
-// Checks that the contents are the expected ones.
 fn check_contents(found: Contents, expected: Contents) -> Result<(), ContainerError>
     ensures { MatchResult result (λ _. AllPass (contents_checks expected found))
         (λ e. FirstFails (contents_checks expected found) e) }
@@ -165,7 +138,6 @@ fn check_contents(found: Contents, expected: Contents) -> Result<(), ContainerEr
     Ok(())
 }
 
-// Checks the length and the checksum of an archive.
 fn check_archive(header: &Header, archive: &[u8]) -> Result<(), ContainerError>
     ensures { MatchResult result (λ _. AllPass (archive_checks header.now archive.now))
         (λ e. FirstFails (archive_checks header.now archive.now) e) }

@@ -1,6 +1,17 @@
 //! The contents of a container: a kind of collection, the types of its items, and its width.
 //!
 //! Each has a code of one byte in the header. `code` and `from_code` convert it.
+//!
+//! | | Codes |
+//! |---|---|
+//! | `Kind` | `HashMap` 1, `HashSet` 2, `IndexMap` 3, `IndexSet` 4 |
+//! | `ItemType` | `Unit` 1, `Bool` 2, `Char` 3, `Text` (UTF-8) 4, `Bytes` (any) 5 |
+//! | | `U8` 17, `U16` 18, `U32` 20, `U64` 24: 16 and the size in bytes |
+//! | | `I8` 33, `I16` 34, `I32` 36, `I64` 40: 32 and the size in bytes |
+//! | | `F32` 52, `F64` 56: 48 and the size in bytes |
+//! | `Width` | `Narrow` 4, `Wide` 8: the size of a word in bytes |
+//!
+//! No collection has keys of the types `F32` and `F64`. A header with such a key type is read.
 
 ghost use Rattle.std.specs.Prelude.{◌≡◌, MatchOption, Some};
 ghost use Rattle.rkyv_container.specs.{IsItemCode, IsKindCode, IsWidthCode, item_code, kind_code};
@@ -11,93 +22,53 @@ use std::fmt;
 /// The kind of an archived collection.
 #[derive(Clone, Copy, Debug, PartialEq, Eq)]
 pub enum Kind {
-    /// A hash map. Its code is 1.
     HashMap,
-    /// A hash set. Its code is 2.
     HashSet,
-    /// An index map. Its code is 3.
     IndexMap,
-    /// An index set. Its code is 4.
     IndexSet,
 }
 
 /// The type of the keys or of the values of a collection.
-///
-/// The low four bits of a number's code are its size in bytes. `F32` and `F64` are types of values:
-/// no collection has keys of these types. A header with either as its key type is read.
 #[derive(Clone, Copy, Debug, PartialEq, Eq)]
 pub enum ItemType {
-    /// `()`, the type of the values of a set. Its code is 1.
+    /// `()`, the type of the values of a set.
     Unit,
-    /// `bool`. Its code is 2.
     Bool,
-    /// `char`. Its code is 3.
     Char,
-    /// UTF-8 text. Its code is 4.
     Text,
-    /// Bytes of any length. Their code is 5.
     Bytes,
-    /// `u8`. Its code is 17.
     U8,
-    /// `u16`. Its code is 18.
     U16,
-    /// `u32`. Its code is 20.
     U32,
-    /// `u64`. Its code is 24.
     U64,
-    /// `i8`. Its code is 33.
     I8,
-    /// `i16`. Its code is 34.
     I16,
-    /// `i32`. Its code is 36.
     I32,
-    /// `i64`. Its code is 40.
     I64,
-    /// `f32`, a type of values. Its code is 52.
     F32,
-    /// `f64`, a type of values. Its code is 56.
     F64,
 }
 
-/// The width of an archive. Its code is the size of a word in bytes.
+/// The width of an archive.
 #[derive(Clone, Copy, Debug, PartialEq, Eq)]
 pub enum Width {
-    /// The width of archives of up to 4,294,967,295 bytes. Its code is 4.
+    /// The width of archives of up to 4,294,967,295 bytes.
     Narrow,
-    /// The width of archives of up to 9,223,372,036,854,775,807 bytes. Its code is 8.
+    /// The width of archives of up to 2^63 - 1 bytes.
     Wide,
 }
 
-/// The contents of a container.
-///
-/// The value type of a set is `ItemType::Unit`. No function of this crate requires it.
-///
-/// # Examples
-///
-/// ```rust
-/// pub(crate) fn numbers() -> Contents {
-///     Contents {
-///         kind: Kind::HashMap,
-///         key: ItemType::U32,
-///         value: ItemType::U32,
-///         width: Width::Narrow,
-///     }
-/// }
-/// ```
+/// The contents of a container. No function requires that the values of a set are `Unit`.
 #[derive(Clone, Copy, Debug, PartialEq, Eq)]
 pub struct Contents {
-    /// The kind of collection.
     pub kind: Kind,
-    /// The type of its keys.
     pub key: ItemType,
-    /// The type of its values.
     pub value: ItemType,
-    /// The width of its archive.
     pub width: Width,
 }
 
 impl Kind {
-    /// Returns the code of a kind, one byte of a header.
+    /// Returns the code of a kind.
     pub fn code(self) -> u8
         ensures { result ≡ kind_code self }
     {
@@ -124,7 +95,7 @@ impl Kind {
 }
 
 impl ItemType {
-    /// Returns the code of a type, one byte of a header.
+    /// Returns the code of a type.
     pub fn code(self) -> u8
         ensures { result ≡ item_code self }
     {
@@ -173,7 +144,7 @@ impl ItemType {
 }
 
 impl Width {
-    /// Returns the code of a width: the size of its word in bytes.
+    /// Returns the code of a width.
     pub fn code(self) -> u8
         ensures { result ≡ width_code self }
     {

@@ -1,13 +1,8 @@
-//! Numbers in the fields of a header.
+//! Integers in the fields of a header.
 
 ghost use Rattle.std.specs.Prelude.{◌≡◌, length};
 ghost use Rattle.std.specs.Int.{from_le_bytes, to_le_bytes, w16, w32, w64};
 
-/// Returns the number in a field of two bytes.
-///
-/// # Requires
-///
-/// - `field` has two bytes.
 pub(crate) fn read_u16(field: &[u8]) -> u16
     requires { length field.now ≡ 2 }
     ensures number { result ≡ from_le_bytes w16 field.now }
@@ -16,11 +11,6 @@ pub(crate) fn read_u16(field: &[u8]) -> u16
     u16::from_le_bytes([field[0], field[1]])
 }
 
-/// Returns the number in a field of four bytes.
-///
-/// # Requires
-///
-/// - `field` has four bytes.
 pub(crate) fn read_u32(field: &[u8]) -> u32
     requires { length field.now ≡ 4 }
     ensures number { result ≡ from_le_bytes w32 field.now }
@@ -29,11 +19,6 @@ pub(crate) fn read_u32(field: &[u8]) -> u32
     u32::from_le_bytes([field[0], field[1], field[2], field[3]])
 }
 
-/// Returns the number in a field of eight bytes.
-///
-/// # Requires
-///
-/// - `field` has eight bytes.
 pub(crate) fn read_u64(field: &[u8]) -> u64
     requires { length field.now ≡ 8 }
     ensures number { result ≡ from_le_bytes w64 field.now }

@@ -10,7 +10,7 @@
 //! | 24 to 27 | the checksum, or 0 |
 //! | 28 to 31 | zeros |
 //!
-//! Numbers are little-endian. `Header::read` checks all fields but the length, in this order.
+//! Integers are little-endian. `Header::read` checks all fields but the length, in this order.
 
 ghost use Rattle.std.specs.Prelude.{◌≡◌, ◌↔◌, MatchResult, length};
 ghost use Rattle.std.specs.Int.{from_le_bytes, w16, w32};
@@ -23,9 +23,7 @@ use crate::contents::{Contents, ItemType, Kind, Width};
 use crate::errors::ContainerError;
 use crate::fields::{read_u16, read_u32, read_u64};
 
-/// The number of bytes of a header, and the position of the archive in a container.
-///
-/// It is a multiple of every alignment of an archive.
+/// The size of a header in bytes, a multiple of every alignment of an archive.
 pub const HEADER_LEN: usize = 32;
 
 /// The first bytes of every container.
@@ -44,7 +42,6 @@ pub fn header_constants()
 /// The header of a container: its contents, and the length and the checksum of its archive.
 #[derive(Clone, Copy, Debug, PartialEq, Eq)]
 pub struct Header {
-    /// The contents of the container.
     pub contents: Contents,
     /// The length of the archive in bytes.
     pub len: u64,
@@ -54,14 +51,6 @@ pub struct Header {
 
 impl Header {
     /// Returns the header of an archive. It has a checksum if `checked` is `true`.
-    ///
-    /// # Examples
-    ///
-    /// ```rust
-    /// let header = Header::new(numbers(), &[0; 60], false);
-    ///
-    /// assert_eq!(rt; header.to_bytes(), NUMBERS);
-    /// ```
     pub fn new(contents: Contents, archive: &[u8], checked: bool) -> Header
         ensures { result ≡ header_of contents archive.now checked }
     {
@@ -124,10 +113,6 @@ impl Header {
     }
 
     /// Writes the bytes of a header over the whole of `out`.
-    ///
-    /// # Requires
-    ///
-    /// - `out` has the length `HEADER_LEN`.
     pub fn write(&self, out: &mut [u8])
         requires { length out.old ≡ 32 }
         ensures bytes { out.new ≡ header_bytes self.now }
@@ -136,30 +121,11 @@ impl Header {
         out.copy_from_slice(&self.to_bytes());
     }
 
-    /// Reads the header at the beginning of `bytes`.
+    /// Reads the header at the beginning of `bytes`. The archive behind it isn't read.
     ///
-    /// The archive behind the header isn't read.
-    ///
-    /// # Errors
-    ///
-    /// - `TooShort`: there are fewer than 32 bytes.
-    /// - `WrongMagic`: the first eight bytes aren't `MAGIC`.
-    /// - `UnsupportedVersion`: the version isn't `VERSION`.
-    /// - `UnknownKind`, `UnknownKeyType`, `UnknownValueType`, `UnknownWidth`: nothing has the code.
-    /// - `UnknownFlags`: a flag other than the lowest bit is set.
-    /// - `UnexpectedChecksum`: there is no flag, but the checksum isn't 0.
-    /// - `NonzeroReserved`: the last four bytes aren't 0.
-    ///
-    /// # Examples
-    ///
-    /// ```rust
-    /// let header = Header {
-    ///     contents: numbers(),
-    ///     len: 60,
-    ///     checksum: None,
-    /// };
-    /// assert_eq!(rt; Header::read(&NUMBERS), Ok(header));
-    /// ```
+    /// Fails with the first of these errors whose check fails: `TooShort`, `WrongMagic`,
+    /// `UnsupportedVersion`, `UnknownKind`, `UnknownKeyType`, `UnknownValueType`, `UnknownWidth`,
+    /// `UnknownFlags`, `UnexpectedChecksum`, `NonzeroReserved`.
     pub fn read(bytes: &[u8]) -> Result<Header, ContainerError>
         ensures ok { (header : Header) → (result ≡ Ok header) ↔ IsHeader header bytes.now }
         ensures err { (e : ContainerError) → (result ≡ Err e)
@@ -169,7 +135,6 @@ impl Header {
     }
 }
 
-// Returns the flags of a header with this checksum.
 fn flags_field(checksum: Option<u32>) -> u16
     ensures { result ≡ flags_of checksum }
 {
@@ -179,7 +144,6 @@ fn flags_field(checksum: Option<u32>) -> u16
     }
 }
 
-// Reads a header.
 fn read_fields(bytes: &[u8]) -> Result<Header, ContainerError>
     ensures { MatchResult result (λ header. IsHeader header bytes.now)
         (λ e. FirstFails (header_checks bytes.now) e) }
@@ -198,7 +162,6 @@ fn read_fields(bytes: &[u8]) -> Result<Header, ContainerError>
     })
 }
 
-// Checks the length, the magic bytes and the version.
 fn check_start(bytes: &[u8]) -> Result<(), ContainerError>
     ensures { MatchResult result (λ _. AllPass (start_checks bytes.now))
         (λ e. FirstFails (start_checks bytes.now) e) }
@@ -216,7 +179,6 @@ fn check_start(bytes: &[u8]) -> Result<(), ContainerError>
     Ok(())
 }
 
-// Reads the four codes of the contents.
 fn read_contents(field: &[u8]) -> Result<Contents, ContainerError>
     requires { length field.now ≡ 4 }
     ensures { MatchResult result (λ contents. field.now ≡ contents_bytes contents)
@@ -234,7 +196,6 @@ fn read_contents(field: &[u8]) -> Result<Contents, ContainerError>
     })
 }
 
-// Reads the checksum, if the flags say that there is one.
 fn read_checksum(flags_field: &[u8], field: &[u8]) -> Result<Option<u32>, ContainerError>
     requires flags { length flags_field.now ≡ 2 }
     requires checksum { length field.now ≡ 4 }

@@ -1,6 +1,6 @@
-//! Laws of the texts that `Display` writes for kinds, types and widths, and of `==` and clones.
+//! Laws of the strings that `Display` writes for kinds, types and widths, and of `==` and clones.
 //!
-//! Each impl of `Display` has its text as `ghost output`, and the law states it by a definition.
+//! Each impl of `Display` has its string as `ghost output`, and the law states it by a definition.
 
 ghost use Rattle.std.specs.Prelude.{Some, true, ◌↔◌, ◌≡◌};
 ghost use Rattle.rkyv_container.specs.{kind_text, type_text, width_text};
@@ -10,7 +10,7 @@ use crate::errors::ContainerError;
 use crate::header::Header;
 use std::fmt;
 
-/// States the texts that `Display` writes for kinds, types and widths.
+/// States the strings that `Display` writes for kinds, types and widths.
 pub fn displayed_as_named()
     ensures kind { (kind : Kind) → ⟦<Kind as fmt::Display>⟧.output kind ≡ Some (kind_text kind) }
     ensures item { (item : ItemType)
