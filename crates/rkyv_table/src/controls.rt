@@ -1,4 +1,4 @@
-//! The control bytes of a table: probe sequences, placing, lookups, walks and validation.
+//! The control bytes of a table: probe sequences, placing, lookups, iteration and validation.
 //!
 //! A table with `cap` buckets has one control byte for each bucket, at the bucket's index.
 //! A control byte below 128 is full: it is the tag of the item's hash. Any other is empty, and 255
@@ -11,7 +11,7 @@
 //! - `numbers` has the capacity, the number of control bytes, and the start and tag of a hash.
 //! - `probe` has the probe sequence, and `reciprocal` computes its start without a division.
 //! - `place` finds the home bucket of an item, and `find` looks an item up.
-//! - `walk` visits the full buckets, and `wrapped` validates the mirrored control bytes.
+//! - `walk` iterates over the full buckets, and `wrapped` validates the mirrored control bytes.
 
 pub mod find;
 pub mod laws;

@@ -1,21 +1,18 @@
-//! Archived hash tables: writing, validating, reading and changing tables of items.
+//! Archived hash tables of items: writing, validating, reading and changing them.
 //!
-//! A table has a header, buckets with the items, and control bytes, as rkyv's tables have.
-//! The caller passes the hash of each item, and a comparison to each lookup.
-//! `TableOf` is the element type of a header, and `ArchivedHashTable` is a table that is read.
+//! A table is a SwissTable, as rkyv's: a header, buckets, and one control byte for each bucket,
+//! which is empty or has seven bits of the item's hash. A lookup compares sixteen at once, in the
+//! order of triangular probing. The capacity need not be a power of two. Unlike in rkyv, all
+//! mirrored control bytes are validated. The caller passes each item's hash and a comparison.
 //!
-//! - To write, `ArchivedHashTable::serialize_from_iter` writes a table and returns
-//!   a `HashTableResolver`. `HashTableResolver::resolve` then writes the header.
-//! - To read, `ArchivedHashTable::of` decodes the header at a view, once for all lookups.
-//! - To look up, `get_with` returns a view of an item, `get_pos_with` its position,
-//!   and `get_counted` counts the strides that are read. `get_by` takes the kind of group.
-//! - To walk over the items, `raw_iter` returns a `RawIter`.
-//! - To write an item in place, `get_seal_with` returns a seal of the found item, and `found_with`
-//!   passes one to a closure. `raw_iter_seal` returns a cursor over all items.
-//! - To validate hashes, `misplaced_by` counts the items that a lookup of their own doesn't find.
+//! Begin with `ArchivedHashTable`, the table that is read; `TableOf` is the element of its header.
 //!
-//! The module `controls` has the algorithms over control bytes alone, and the module `table`
-//! has the calls on whole tables.
+//! - `serialize_from_iter` writes a table, and `HashTableResolver::resolve` its header.
+//! - `of` decodes the header at a view, once for all lookups. `get_with` looks an item up.
+//! - `raw_iter` iterates over the items. `found_with`, `for_each_seal`, `raw_iter_seal` write them.
+//! - `misplaced_by` counts the items that a lookup of the same item doesn't return.
+//!
+//! The module `controls` has the algorithms over only control bytes, `table` the calls on tables.
 #![tactic(auto)]
 
 pub mod controls;

@@ -2,8 +2,8 @@
 //!
 //! - `serialize` writes the items and control bytes, and `resolve` writes the header.
 //! - `verify` validates a table, and `accessors` opens it.
-//! - `lookup` finds an item, `raw_iter` walks over all items, and `misplaced` counts those that
-//!   a lookup of their own doesn't find.
+//! - `lookup` finds an item, `raw_iter` iterates over all items, and `misplaced` counts the items
+//!   that a lookup of the same item doesn't return.
 //! - `sealed` and `raw_iter_seal` write items in place.
 //! - `laws` has laws that a proof cites.
 //!
@@ -49,9 +49,7 @@ pub struct TableOf<T, W = Narrow> {
     width: PhantomData<W>,
 }
 
-/// A table of T that is read in place, in an archive of the width W.
-///
-/// Its bytes are valid. It holds its decoded header.
+/// A valid table of T that is read in place, in an archive of the width W, with its decoded header.
 pub struct ArchivedHashTable<'a, T: HasSpec, W: Word = Narrow> {
     view: View<'a, TableOf<T, W>>,
     header: Decoded,

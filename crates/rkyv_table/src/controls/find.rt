@@ -51,7 +51,7 @@ impl Strides {
         self.count
     }
 
-    /// Adds a number of strides. The count is at most 2^64 - 1.
+    /// Adds a number of strides.
     #[inline]
     pub fn add(&mut self, read: u64)
         ensures { self.new ≡ count_after self.old read }
@@ -59,7 +59,6 @@ impl Strides {
         self.count = self.count.saturating_add(read);
     }
 
-    // Counts one stride, and returns the sixteen control bytes from index `pos` on.
     #[inline]
     fn stride<'a>(&mut self, controls: &'a [u8], pos: usize) -> &'a [u8]
         requires { pos + 16 ≤ length controls.now }
@@ -71,8 +70,7 @@ impl Strides {
     }
 }
 
-// Returns the first bucket of the marked indices that the comparison accepts, or `None`.
-// The first index of the group is `at`.
+// Returns the first accepted bucket of the marked indices. The group's first index is `at`.
 #[inline]
 fn first_accepted<M: Marks, F: Fn(usize) -> bool>(
     marks: M,
@@ -158,17 +156,7 @@ fn scan<G: GroupKind, F: Fn(usize) -> bool>(
     }
 }
 
-/// Returns the bucket of an item that the comparison accepts, by a given start, or `None`.
-///
-/// It looks up as `find` does. The start is that of the probe sequence.
-///
-/// `start` has no meaning if there are no buckets.
-///
-/// # Requires
-///
-/// - The control bytes are valid for `len` items in `cap` buckets, if `len` is above 0.
-/// - `start` is `hash % cap`, if there are buckets.
-/// - The comparison can be called with each full bucket.
+/// Looks up as `find` does, from `start`, which is `hash % cap`, or anything without buckets.
 #[inline]
 pub fn find_from<G: GroupKind, F: Fn(usize) -> bool>(
     controls: &[u8],
@@ -201,16 +189,9 @@ pub fn find_from<G: GroupKind, F: Fn(usize) -> bool>(
 
 /// Returns a full bucket that the comparison accepts, in a lookup under `hash`, or `None`.
 ///
-/// If the comparison depends only on the bucket, the strides of the hash decide which bucket it is.
-/// The comparison is called with full buckets alone.
-///
-/// Each stride that is read is counted: none if `len` is 0, else at least one and at most
-/// ceil(cap / 16). The count ends at 2^64 - 1.
-///
-/// # Requires
-///
-/// - The control bytes are valid for `len` items in `cap` buckets, if `len` is above 0.
-/// - The comparison can be called with each full bucket.
+/// The comparison is called only with full buckets. If it depends only on the bucket, the strides
+/// of the hash decide the result. Each stride that is read is counted: none if `len` is 0, else at
+/// most ceil(cap / 16). The control bytes must be valid if `len` is above 0.
 #[inline]
 pub fn find<G: GroupKind, F: Fn(usize) -> bool>(
     controls: &[u8],

@@ -1,4 +1,4 @@
-//! Laws of capacity errors, probe sequences, walks and searches, and of written control bytes.
+//! Laws of capacity errors, probe sequences, iterators and searches, and of written control bytes.
 ghost use Rattle.std.specs.Iterator.{YieldsFirst, item_count};
 ghost use Rattle.std.specs.Prelude.{List, true, ℕ, ◌+◌, ◌-◌, ◌<◌, ◌^◌, ◌≡◌, ◌↔◌};
 ghost use Rattle.rkyv_table.specs.{BucketsAreProbed, FirstEmptyIsNextHome, FoundOnWritten};
@@ -44,18 +44,13 @@ pub fn counts_add_up()
         ≡ count_after before (m + n) }
 {}
 
-/// States that the strides of a hash begin at all indices of one residue class modulo 16.
-///
-/// Each index occurs once. The class is that of the start, and the indices are those below
-/// the probe capacity.
+/// States that the strides of a hash begin, each once, at the indices below the probe capacity that
+/// are congruent to the start modulo 16.
 pub fn strides_cover()
     ensures { StridesCover }
 {}
 
-/// States that the strides of a hash read a contiguous range of control bytes.
-///
-/// It begins at the index of the start modulo 16, has as many indices as the probe capacity, and
-/// ends inside the control bytes.
+/// States that the strides of a hash read contiguous control bytes, from the start modulo 16 on.
 pub fn strides_read_a_row()
     ensures { StridesReadARow }
 {}
@@ -71,17 +66,11 @@ pub fn homes_exist()
 {}
 
 /// States that the first empty control byte of the strides is in the first empty probed bucket.
-///
-/// There is one if some bucket is empty and the control bytes mirror those of the buckets. Its
-/// index is below twice the capacity.
 pub fn homes_are_first_empty()
     ensures { HomesAreFirstEmpty }
 {}
 
 /// States that the first empty control byte of the strides is in the home bucket of the next item.
-///
-/// The control bytes are those of a written table with fewer items than buckets. The home buckets
-/// of all items are `homes` of all hashes, by `homes_are_one_list`.
 pub fn first_empty_is_next_home()
     ensures { FirstEmptyIsNextHome }
 {}
@@ -101,14 +90,12 @@ pub fn written_are_valid()
     ensures { WrittenAreValid }
 {}
 
-/// States that a walk visits a bucket if and only if it is full.
+/// States that the buckets of a `Walk` are the full ones.
 pub fn walked_are_full()
     ensures { WalkedAreFull }
 {}
 
-/// States that a walk yields its buckets in turn, and then `None`.
-///
-/// It has as many items as buckets are left, and `next` has no condition.
+/// States that a `Walk` yields its buckets in turn, and then `None`.
 pub fn buckets_are_yielded<'a, G: GroupKind + 'a>()
     ensures steps { SameSteps ⟦<Walk<'a, G> as Iterator>⟧.next_gives (YieldsFirst (λ s. s)) }
     ensures remain { (left : List ℕ)
@@ -117,8 +104,6 @@ pub fn buckets_are_yielded<'a, G: GroupKind + 'a>()
 {}
 
 /// States that a probe sequence yields the first index of each stride in turn, and then `None`.
-///
-/// It has as many items as strides are left, and `next` has no condition.
 pub fn strides_are_yielded()
     ensures steps { SameSteps ⟦<Probe as Iterator>⟧.next_gives (YieldsFirst (λ s. s)) }
     ensures remain { (left : List ℕ)
@@ -136,9 +121,7 @@ pub fn search_is_bounded()
     ensures { SearchIsBounded }
 {}
 
-/// States that a marked index in valid control bytes has a full bucket.
-///
-/// The index is below twice the capacity.
+/// States that a marked index in valid control bytes, below twice the capacity, has a full bucket.
 pub fn marked_are_walked()
     ensures { MarkedAreWalked }
 {}

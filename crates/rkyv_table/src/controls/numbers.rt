@@ -1,4 +1,4 @@
-//! The numbers of a table: buckets, control bytes, and the start and the tag of a hash.
+//! The sizes of a table in buckets and control bytes, and the start and the tag of a hash.
 //!
 //! The rules are rkyv's.
 ghost use Rattle.std.specs.Prelude.{◌≡◌, ◌%◌, ◌*◌, ◌+◌, ◌<◌, ◌^◌, ◌≤◌};
@@ -8,7 +8,7 @@ ghost use Rattle.rkyv_table.specs.{probe_capacity, start, tag};
 use rkyv_base::WriteError;
 use thiserror::Error;
 
-/// The error of a capacity. The texts are those of the write errors that it becomes.
+/// The error of a capacity, with the messages of the write errors that it becomes.
 #[derive(Clone, Copy, Debug, PartialEq, Eq, Error)]
 pub enum CapacityError {
     /// The load factor isn't a fraction above 0 and at most 1.
@@ -16,7 +16,6 @@ pub enum CapacityError {
     InvalidLoadFactor {
         /// The numerator of the load factor.
         numerator: usize,
-        /// The denominator of the load factor.
         denominator: usize,
     },
     /// The capacity of a table of this length is above the limit.
@@ -45,15 +44,11 @@ impl<F> From<CapacityError> for WriteError<F> {
     }
 }
 
-/// Returns the number of buckets of a table of `len` items under a load factor.
+/// Returns the number of buckets of a table of `len` items under a load factor, as in rkyv.
 ///
-/// The load factor is a fraction above 0 and at most 1. The capacity is 0 for no items. For others
-/// it is `len` divided by the load factor, rounded down, but at least `len + 1`, as in rkyv.
-///
-/// # Errors
-///
-/// - `InvalidLoadFactor`: the load factor isn't above 0 and at most 1.
-/// - `CapacityTooLarge`: the capacity is above `limit`.
+/// It is 0 for no items, else `len` divided by the load factor, rounded down, or if greater
+/// `len + 1`. Fails with `InvalidLoadFactor` unless the load factor is above 0 and at most 1,
+/// and with `CapacityTooLarge` above `limit`.
 pub fn capacity(len: usize, load_factor: (usize, usize), limit: u64) -> Result<usize, CapacityError>
     ensures { IsCapacity len load_factor limit result }
 {
@@ -76,10 +71,6 @@ pub fn capacity(len: usize, load_factor: (usize, usize), limit: u64) -> Result<u
 }
 
 /// Returns the number of indices at which a stride may begin: `cap` rounded up to a multiple of 16.
-///
-/// # Requires
-///
-/// - `cap + 15` is below 2^64.
 #[inline]
 pub fn probe_capacity(cap: usize) -> usize
     requires fits { cap + 15 < 2 ^ 64 }
@@ -89,10 +80,6 @@ pub fn probe_capacity(cap: usize) -> usize
 }
 
 /// Returns the number of control bytes of a table with `cap` buckets.
-///
-/// # Requires
-///
-/// - The result is below 2^64.
 #[inline]
 pub fn control_count(cap: usize) -> usize
     requires fits { control_count cap < 2 ^ 64 }
@@ -101,14 +88,7 @@ pub fn control_count(cap: usize) -> usize
     probe_capacity(cap) + 15
 }
 
-/// Returns the modulus of the probe sequence of a table with `cap` buckets.
-///
-/// It is the least power of two that is at least the number of control bytes.
-///
-/// # Requires
-///
-/// - `cap` is above 0.
-/// - The number of control bytes is at most 2^63.
+/// Returns the modulus of the probe sequence: the control count, rounded up to a power of two.
 #[inline]
 pub fn modulus(cap: usize) -> usize
     requires some { 0 < cap }
@@ -118,9 +98,7 @@ pub fn modulus(cap: usize) -> usize
     control_count(cap).next_power_of_two()
 }
 
-/// Returns the bucket at which the probe sequence of a hash begins.
-///
-/// The result has no meaning if `cap` is 0.
+/// Returns the bucket at which the probe sequence of a hash begins, if there are buckets.
 #[inline]
 pub fn start(hash: u64, cap: usize) -> usize
     ensures { 0 < cap → result ≡ start hash cap }
@@ -140,11 +118,7 @@ pub fn tag(hash: u64) -> u8
     (hash >> 57) as u8
 }
 
-/// Returns the bucket of an index: the index modulo `cap`.
-///
-/// # Requires
-///
-/// - The index is below `2 * cap`.
+/// Returns the bucket of an index of a control byte.
 #[inline]
 pub fn bucket_of(index: usize, cap: usize) -> usize
     requires below { index < 2 * cap }

@@ -11,7 +11,6 @@ use crate::controls::probe::Probe;
 use rkyv_scan::{GroupKind, Marks};
 use std::alloc::{AllocError, Global};
 
-// Returns the first empty index of the stride that begins at index `pos`, or `None`.
 #[inline]
 fn first_empty<G: GroupKind>(controls: &[u8], pos: usize) -> Option<usize>
     requires { pos + 16 ≤ length controls.now }
@@ -28,12 +27,7 @@ fn first_empty<G: GroupKind>(controls: &[u8], pos: usize) -> Option<usize>
 
 /// Sets the control bytes of the first empty bucket that a hash probes, and returns the bucket.
 ///
-/// The tag of the hash is written at the bucket's index, and at the mirrored index if there is one.
-///
-/// # Requires
-///
-/// - The control bytes mirror those of the buckets.
-/// - Some bucket is empty.
+/// The tag is written at the bucket's index, and at the mirrored index if there is one.
 #[inline]
 pub fn place_one<G: GroupKind>(controls: &mut [u8], cap: usize, hash: u64) -> usize
     requires wrapped { IsWrapped cap controls.old }
@@ -44,15 +38,7 @@ pub fn place_one<G: GroupKind>(controls: &mut [u8], cap: usize, hash: u64) -> us
     place_from::<G>(controls, cap, start(hash, cap), hash)
 }
 
-/// Places an item by its hash and a given start, and returns its home bucket.
-///
-/// It places as `place_one` does. The start is that of the probe sequence.
-///
-/// # Requires
-///
-/// - The control bytes mirror those of the buckets.
-/// - Some bucket is empty.
-/// - `start` is `hash % cap`.
+/// Places an item as `place_one` does, by the start of the probe sequence, `hash % cap`.
 #[inline]
 pub fn place_from<G: GroupKind>(controls: &mut [u8], cap: usize, start: usize, hash: u64) -> usize
     requires wrapped { IsWrapped cap controls.old }
@@ -77,15 +63,7 @@ pub fn place_from<G: GroupKind>(controls: &mut [u8], cap: usize, start: usize, h
 
 /// Places an item for each hash, in order, and returns their buckets.
 ///
-/// # Requires
-///
-/// - No bucket is full: all control bytes are 255.
-/// - There are fewer hashes than buckets.
-///
-/// # Errors
-///
-/// - `AllocError`: the list of buckets could not be allocated. The control bytes are unchanged.
-///   No hashes need no memory.
+/// All control bytes must be 255. Fails only to allocate the list. No hashes need no memory.
 pub fn place<G: GroupKind>(
     alloc: Global,
     controls: &mut [u8],

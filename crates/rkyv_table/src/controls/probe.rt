@@ -1,4 +1,4 @@
-//! The probe sequence of a hash, which is rkyv's.
+//! The probe sequence of a hash, which is rkyv's triangular probing.
 //!
 //! The steps of the sequence grow by 16 each, modulo a power of two. Indices
 //! from the probe capacity on are skipped.
@@ -30,11 +30,6 @@ impl Model for Probe {
 
 impl Probe {
     /// Returns the probe sequence of a hash in a table of `cap` buckets.
-    ///
-    /// # Requires
-    ///
-    /// - `cap` is above 0.
-    /// - The number of control bytes is at most 2^63.
     #[inline]
     pub fn new(hash: u64, cap: usize) -> Probe
         requires some { 0 < cap }
@@ -45,11 +40,6 @@ impl Probe {
     }
 
     /// Returns the probe sequence of each hash that is `start` modulo `cap`.
-    ///
-    /// # Requires
-    ///
-    /// - `start` is below `cap`.
-    /// - The number of control bytes is at most 2^63.
     #[inline]
     pub fn starting_at(start: usize, cap: usize) -> Probe
         requires begun { start < cap }

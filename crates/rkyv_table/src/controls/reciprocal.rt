@@ -25,10 +25,6 @@ impl Reciprocal {
     ghost use Rattle.rkyv_table.specs.{divisor_of};
 
     /// Returns the reciprocal of a divisor, with one division.
-    ///
-    /// # Requires
-    ///
-    /// - The divisor is above 0.
     #[inline]
     pub fn new(divisor: u64) -> Reciprocal
         requires { 0 < divisor }
@@ -40,7 +36,7 @@ impl Reciprocal {
         }
     }
 
-    /// Returns the number modulo the divisor.
+    /// Returns the remainder of an integer by the divisor.
     #[inline]
     pub fn remainder(self, number: u64) -> u64
         ensures { result ≡ number % divisor_of self }

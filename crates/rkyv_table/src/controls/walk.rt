@@ -1,4 +1,4 @@
-//! Walks over the full buckets, a group of control bytes at a time.
+//! Iterators over the full buckets, a group of control bytes at a time.
 ghost use Rattle.std.specs.Prelude.{List, MatchOption, [], length, slice_index, ℕ, ◌+◌};
 ghost use Rattle.std.specs.Prelude.{◌<◌, ◌∷◌, ◌≡◌, ◌≤◌};
 ghost use Rattle.std.specs.Iterator.{YieldsFirst, item_count};
@@ -27,11 +27,10 @@ impl<'a, G: GroupKind> Model for Walk<'a, G> {
         (G.Mask.indices w.marks) };
 }
 
-// A group of empty control bytes.
 static EMPTY_GROUP: [u8; MAX_GROUP_WIDTH] = [0xff; MAX_GROUP_WIDTH];
 
 impl<G: GroupKind> Walk<'static, G> {
-    /// Returns a walk over no buckets.
+    /// Returns an iterator over no buckets.
     #[inline]
     pub fn empty() -> Walk<'static, G>
         ensures { result ≡ [] }
@@ -41,12 +40,7 @@ impl<G: GroupKind> Walk<'static, G> {
 }
 
 impl<'a, G: GroupKind> Walk<'a, G> {
-    /// Returns a walk over the full ones of the first `cap` buckets.
-    ///
-    /// # Requires
-    ///
-    /// - There are at least 16 control bytes.
-    /// - There are at least as many as a table with `cap` buckets has.
+    /// Returns an iterator over the full ones of the first `cap` buckets.
     #[inline]
     pub fn new(controls: &'a [u8], cap: usize) -> Walk<'a, G>
         requires some { 16 ≤ length controls.now }
@@ -91,10 +85,6 @@ impl<'a, G: GroupKind> Iterator for Walk<'a, G> {
 }
 
 /// Returns the first full bucket from `from` on and below `cap`, or `None`.
-///
-/// # Requires
-///
-/// - There are at least `cap` control bytes.
 #[inline]
 pub fn next_full(controls: &[u8], cap: usize, from: usize) -> Option<usize>
     requires { cap ≤ length controls.now }

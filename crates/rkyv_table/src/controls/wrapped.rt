@@ -1,8 +1,7 @@
-//! Validating the control bytes after those of the buckets.
+//! Validating the control bytes after the buckets' own.
 ghost use Rattle.std.specs.Prelude.{IfErr, IfOk, IsTrue, length, ◌<◌, ◌≡◌, ◌≤◌, ◌↔◌};
 ghost use Rattle.rkyv_table.specs.{FirstUnwrapped, IsWrapped, IsWrappedAt, control_count};
 
-// Returns `true` if the control byte at an index from `cap` on is as it must be.
 #[inline]
 fn is_wrapped_at(controls: &[u8], cap: usize, index: usize) -> bool
     requires from { cap ≤ index }
@@ -16,18 +15,10 @@ fn is_wrapped_at(controls: &[u8], cap: usize, index: usize) -> bool
     }
 }
 
-/// Validates the control bytes after those of the buckets.
+/// Validates the control bytes from index `cap` on. rkyv compares only some of them.
 ///
-/// Each index from `cap` on and below `2 * cap` has the control byte of the index `cap` lower. rkyv
-/// compares only some of these. Each index from `2 * cap` on is empty.
-///
-/// # Requires
-///
-/// - There are as many control bytes as a table with `cap` buckets has.
-///
-/// # Errors
-///
-/// - The lowest index whose control byte isn't as it must be.
+/// Below `2 * cap` each is the control byte `cap` lower, and the others are empty. The error is
+/// the lowest index whose control byte isn't so.
 pub fn check_wrapped(controls: &[u8], cap: usize) -> Result<(), usize>
     requires count { length controls.now ≡ control_count cap }
     ensures wrapped { IfOk result (λ _. IsWrapped cap controls.now) }

@@ -2,7 +2,7 @@
 //!
 //! - `verify` validates a table for the validator of an element.
 //! - `of` decodes the header at a view of a valid table.
-//! - `len`, `capacity` and `is_empty` return its numbers.
+//! - `len`, `capacity` and `is_empty` are about the sizes in the header.
 ghost use Rattle.std.specs.Prelude.{IsTrue, MatchResult, length, ◌%◌, ◌*◌, ◌+◌, ◌<◌, ◌↔◌, ◌≡◌, ◌≤◌};
 ghost use Rattle.std.specs.Int.{byte_len};
 ghost use Rattle.rkyv_base.specs.{Fails, IsValidView, Passes, bytes_of, pos_of};
@@ -20,36 +20,16 @@ use rkyv_scan::simd::lanes;
 impl<'a, T: Element, W: Width> ArchivedHashTable<'a, T, W> {
     /// Validates the table whose header is at `pos`, and returns the rest of the range.
     ///
-    /// The items, their parts and the control bytes are in `range`. The rest of the range begins
-    /// at the end of the control bytes.
-    ///
-    /// A header with length 0 and capacity 0 is valid, and nothing else is read, as in rkyv.
-    /// The rest is then `range` itself. The buckets are not compared with the hashes of the items.
-    ///
-    /// # Requires
-    ///
-    /// - The header is inside `bytes`, and `pos` is aligned.
-    /// - `range.lo` is at most `range.hi`, and `range.hi` is at most `pos`.
+    /// The rest begins at the end of the control bytes. A header with length 0 and capacity 0 is
+    /// valid, and nothing else is read, as in rkyv. Buckets aren't compared with the items' hashes.
     ///
     /// # Errors
     ///
     /// - `InvalidLength`: the length isn't below the capacity, and they aren't both 0.
-    /// - `OutOfRange` or `Unaligned`: the buckets and control bytes aren't in the range, or aren't
-    ///   aligned.
+    /// - `OutOfRange` or `Unaligned`: the buckets and control bytes aren't in the range or aligned.
     /// - The error of the first invalid item, in bucket order.
     /// - `WrongNumberOfElements`: the length isn't the number of full buckets.
-    /// - `UnwrappedControlByte`: the lowest index from the capacity on whose control byte
-    ///   isn't as it must be.
-    ///
-    /// # Examples
-    ///
-    /// ```rust
-    /// let whole = PartRange { lo: 0, hi: 48 };
-    /// let accepted = matches!(
-    ///     ArchivedHashTable::<Entry<u32, u32>, Narrow>::verify(&one_number(), 48, whole),
-    ///     Ok(PartRange { lo: 47, hi: 48 })
-    /// );
-    /// ```
+    /// - `UnwrappedControlByte`: a control byte from the capacity on isn't as it must be.
     #[inline]
     pub fn verify(bytes: &[u8], pos: u64, range: PartRange) -> Result<PartRange, VerifyError>
         requires inside { pos + 3 * byte_len W.word ≤ length bytes.now }
@@ -63,10 +43,6 @@ impl<'a, T: Element, W: Width> ArchivedHashTable<'a, T, W> {
     }
 
     /// Returns the table at a view of its header, which is decoded here, once.
-    ///
-    /// # Requires
-    ///
-    /// - The view is of a valid table.
     #[inline]
     pub fn of(view: View<'a, TableOf<T, W>>) -> ArchivedHashTable<'a, T, W>
         requires { IsValidView (table_spec W.word T.spec) view }
@@ -79,11 +55,6 @@ impl<'a, T: Element, W: Width> ArchivedHashTable<'a, T, W> {
     }
 
     /// Returns the table at a view of its header, which was decoded before.
-    ///
-    /// # Requires
-    ///
-    /// - The view is of a valid table.
-    /// - `header` is the decoded header of the table at the view.
     #[inline]
     pub fn with_header(
         view: View<'a, TableOf<T, W>>,
@@ -130,7 +101,6 @@ impl<'a, T: Element, W: Width> ArchivedHashTable<'a, T, W> {
         self.header.cap
     }
 
-    /// Returns the bucket at which the probe sequence of a hash begins, if there are buckets.
     #[inline]
     pub(crate) fn start(self, hash: u64) -> usize
         ensures { 0 < self.entry.header.cap → result ≡ hash % self.entry.header.cap }
@@ -139,7 +109,7 @@ impl<'a, T: Element, W: Width> ArchivedHashTable<'a, T, W> {
     }
 }
 
-// Decodes the header of a table; takes one division.
+// Takes one division.
 #[inline]
 fn decode<T: Element, W: Width>(view: View<'_, TableOf<T, W>>) -> Decoded
     requires { IsValidView (table_spec W.word T.spec) view }

@@ -9,7 +9,6 @@ ghost use Rattle.rkyv_table.specs.{slots_with};
 
 use rkyv_base::{Archive, Element, Lend, ResolveResult, Width, WriteResult, Writer, append_in};
 
-// Fills one bucket: with zeros, or with the item by the last resolver.
 #[inline]
 fn fill_bucket<W: Width, U: Archive<W>, X: Lend<U>>(
     slot: &Option<X>,
@@ -36,8 +35,6 @@ fn fill_bucket<W: Width, U: Archive<W>, X: Lend<U>>(
     }
 }
 
-// Writes the buckets from the highest to bucket 0, with a buffer of one bucket. Each is one piece,
-// and an empty one is zeros.
 #[inline]
 fn write_by<W: Width, S: Writer, U: Archive<W>, X: Lend<U>>(
     slots: &[Option<X>],
@@ -63,7 +60,6 @@ fn write_by<W: Width, S: Writer, U: Archive<W>, X: Lend<U>>(
     Ok(())
 }
 
-// Writes the buckets from the highest to bucket 0. Each is one piece, and an empty one is zeros.
 // `bucket` is the buffer for buckets of more than 64 bytes.
 pub(crate) fn write_buckets<W: Width, S: Writer, U: Archive<W>, X: Lend<U>>(
     slots: &[Option<X>],

@@ -13,8 +13,7 @@ use crate::table::parts::serialize_slots;
 use rkyv_base::{Lend, Serialize, Width, WriteResult, Writer, align_for_in, append_in};
 use std::alloc::Global;
 
-// Writes the parts of the items, the buckets and the control bytes. Returns the position
-// of the first control byte.
+// Returns the position of the first control byte.
 pub(crate) fn write_table<W: Width, S: Writer, U: Serialize<S, W>, X: Lend<U>>(
     alloc: Global,
     slots: &[Option<X>],

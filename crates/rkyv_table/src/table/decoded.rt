@@ -9,16 +9,13 @@ use crate::controls::reciprocal::Reciprocal;
 
 /// The decoded header of a table, with the reciprocal of its capacity.
 ///
-/// A table, map or set decodes its header once. Its lookups then take no division. A caller in C
-/// can keep it between calls.
+/// A caller in C can keep it between calls.
 #[repr(C)]
 #[derive(Clone, Copy, Debug)]
 pub struct Decoded {
     // The position of the first control byte; without meaning if there are no buckets.
     pub(crate) controls_pos: usize,
-    // The number of items.
     pub(crate) len: usize,
-    // The number of buckets.
     pub(crate) cap: usize,
     // Of the capacity; without meaning if there are no buckets.
     pub(crate) reciprocal: Reciprocal,

@@ -10,7 +10,7 @@ ghost use Rattle.rkyv_table.specs.{bucket_at, cap_at, control_count, len_at, par
 use crate::controls::numbers::control_count;
 use rkyv_base::{Width, distance_target};
 
-/// The three numbers of a header.
+/// The three words of a header.
 #[derive(Clone, Copy)]
 pub(crate) struct Header {
     /// The distance from the header's own position to the first control byte.
@@ -19,11 +19,6 @@ pub(crate) struct Header {
     pub(crate) cap: u64,
 }
 
-/// Returns the header at `pos`.
-///
-/// # Requires
-///
-/// - The header is inside `bytes`.
 #[inline]
 pub(crate) fn read_header<W: Width>(bytes: &[u8], pos: u64) -> Header
     requires { pos + 3 * byte_len W.word ≤ length bytes.now }
@@ -39,7 +34,6 @@ pub(crate) fn read_header<W: Width>(bytes: &[u8], pos: u64) -> Header
     }
 }
 
-/// Returns the number of bytes of all buckets.
 #[inline]
 fn buckets_size(cap: u64, size: usize) -> u128
     requires { size ≤ 1073741824 }
@@ -49,7 +43,6 @@ fn buckets_size(cap: u64, size: usize) -> u128
     u128::from(cap) * size as u128
 }
 
-/// Returns the number of bytes of all buckets and control bytes.
 #[inline]
 pub(crate) fn part_size(cap: u64, size: usize) -> u128
     requires { size ≤ 1073741824 }
@@ -58,9 +51,7 @@ pub(crate) fn part_size(cap: u64, size: usize) -> u128
     buckets_size(cap, size) + (u128::from(cap) + 15) / 16 * 16 + 15
 }
 
-/// Returns the position at which the buckets begin, by a header at `pos`.
-///
-/// It is computed from untrusted numbers, and may be negative or beyond the archive.
+/// Returns the position at which the buckets begin. It may be negative or beyond the archive.
 #[inline]
 pub(crate) fn decode_begin(pos: u64, header: Header, size: usize) -> i128
     requires { size ≤ 1073741824 }
@@ -69,7 +60,6 @@ pub(crate) fn decode_begin(pos: u64, header: Header, size: usize) -> i128
     distance_target(pos, header.distance) - buckets_size(header.cap, size) as i128
 }
 
-/// Returns the position of a bucket of a table whose buckets begin at `begin`.
 #[inline]
 pub(crate) fn bucket_position(begin: u64, cap: usize, bucket: usize, size: usize) -> u64
     requires inside { bucket < cap }
@@ -79,7 +69,6 @@ pub(crate) fn bucket_position(begin: u64, cap: usize, bucket: usize, size: usize
     begin + ((cap - (bucket + 1)) * size) as u64
 }
 
-/// Returns the position of the first control byte, by a header at `pos` of a table with buckets.
 #[inline]
 pub(crate) fn controls_pos(pos: u64, header: Header) -> usize
     requires { (at : ℕ) × (int at ≡ int pos +ℤ header.distance) × (at < 2 ^ 64) }
@@ -88,7 +77,6 @@ pub(crate) fn controls_pos(pos: u64, header: Header) -> usize
     distance_target(pos, header.distance) as usize
 }
 
-/// Returns the control bytes of `cap` buckets, from position `at` on.
 #[inline]
 pub(crate) fn controls_from(bytes: &[u8], at: usize, cap: usize) -> &[u8]
     requires { at + control_count cap ≤ length bytes.now }

@@ -1,4 +1,4 @@
-//! The control bytes of a table, its items, and a walk over its full buckets.
+//! The control bytes of a table, its items, and an iterator over its full buckets.
 ghost use Rattle.std.specs.Prelude.{◌<◌, ◌≡◌};
 ghost use Rattle.rkyv_table.specs.{IsFullIn, IsItemIn, cap_at, table_bytes, table_controls};
 ghost use Rattle.rkyv_table.specs.{table_pos, walk};
@@ -23,7 +23,6 @@ impl<'a, T: Element, W: Width> ArchivedHashTable<'a, T, W> {
         controls_from(self.view.bytes(), header.controls_pos, header.cap)
     }
 
-    /// Returns a view of the item in a full bucket.
     #[inline]
     pub(crate) fn item(self, bucket: usize) -> View<'a, T>
         requires { IsFullIn self bucket }
@@ -33,7 +32,6 @@ impl<'a, T: Element, W: Width> ArchivedHashTable<'a, T, W> {
         View::new(self.view.bytes(), pos as u64)
     }
 
-    /// Returns a walk over the full buckets.
     #[inline]
     pub(crate) fn walk<G: GroupKind>(self) -> Walk<'a, G>
         ensures { result ≡ walk

@@ -1,4 +1,4 @@
-//! Laws of tables, over their definitions alone.
+//! Laws of tables, over their definitions.
 //!
 //! - `written` is about the bytes of written tables, `misplaced` about misplaced items.
 //! - `in_place` is about writes of one item in place, `each` about writes of each item.
@@ -27,27 +27,20 @@ use crate::table::{ArchivedHashTable, TableOf};
 use rkyv_base::width::Word;
 use rkyv_base::{Archive, Element, HasSpec, Lend, Scalar, Width};
 
-/// States that a walk over written control bytes visits each home bucket once, and no other.
-///
-/// The buckets are in ascending order. In a table without buckets, the walk visits none.
+/// States that the full buckets of written control bytes are the home buckets, in ascending order.
 pub fn walk_visits_homes()
     ensures written { WalkVisitsHomes }
     ensures empty { (controls : List ℕ) → VisitsHomes 0 [] controls }
 {}
 
-/// States that a walk yields the positions of the items in turn.
-///
-/// At most as many items remain as positions are left, and `next` has no condition.
+/// States that a `RawIter` yields the positions of the items in turn.
 pub fn positions_are_yielded<'a, T: 'a>()
     ensures steps { SameSteps ⟦<RawIter<'a, T> as Iterator>⟧.next_gives YieldsPos }
     ensures remain { CountsPositions ⟦<RawIter<'a, T> as Iterator>⟧.remaining }
     ensures ready { (left : ItemsLeft) → ⟦<RawIter<'a, T> as Iterator>⟧.can_next left }
 {}
 
-/// States that the iterators over a list yield its pairs or items in turn.
-///
-/// Those with units yield the keys of another iterator, each with the unit value. At most as many
-/// items remain as are left in the list, and `next` has no condition of its own.
+/// States that the iterators over a list yield its pairs or items in turn, or keys with units.
 pub fn lists_are_yielded<'a, A: 'a, B: 'a, BK, I: Iterator<Item = BK>>()
     ensures pairs { SameSteps ⟦<PairRefs<'a, A, B> as Iterator>⟧.next_gives
         (YieldsFirstBy (λ pair. (pair.0.now, pair.1.now)) pairs_left) }
@@ -66,20 +59,18 @@ pub fn lists_are_yielded<'a, A: 'a, B: 'a, BK, I: Iterator<Item = BK>>()
     ensures units_ready { (s : _) → ⟦<WithUnits<I> as Iterator>⟧.can_next s ↔ I.can_next s.keys }
 {}
 
-/// States that a lookup in a written table finds the first accepted item of its list.
+/// States that a lookup in a written table finds the first accepted item of its list, or `None`.
 ///
-/// The result is the position of that very item, in its home bucket. It is `None` if and only if
-/// no item is accepted. At the position of each item, the comparison must return what `accept`
-/// returns for the item. Each accepted item must be under the hash of the lookup. After a write in
-/// place, the list is that of `items_written_represent`.
+/// At the position of each item, the comparison must return what `accept` returns for the item.
+/// Each accepted item must be under the hash of the lookup. After a write in place, the list is
+/// the one of `items_written_represent`.
 pub fn lookups_find_the_first<W: Width, U: Archive<W>, X: Lend<U>>()
     ensures { LookupFindsFirst W.word U.Archived.spec (RepresentsAs X.lent U.Archived.represents) }
 {}
 
-/// States that if items are written in one way, so is a table of them.
+/// States that if items are written in one way, so is a table of them, by any kind of group.
 ///
-/// An item is written in one way if its bytes and its parts are functions of the item
-/// and the position. The kind of group that places the items makes no difference.
+/// An item is written in one way if its bytes and its parts are functions of it and the position.
 pub fn tables_are_written_one_way<W: Width, U: Archive<W>, X: Lend<U>>()
     ensures { (load_factor : ℕ × ℕ) → WritesOneWay U.format
         → WritesOneWay (table_format W.word U.Archived.spec (written_as X.lent U.format)
@@ -96,16 +87,12 @@ pub fn ready_elements_are_written_one_way<W: Width, N: Scalar, A: Archive<W>, B:
 {}
 
 /// States the layout of a table: the header, with the buckets and control bytes before it.
-///
-/// Without a width, a table is one of a narrow archive.
 pub fn tables_are_laid_out<W: Width, T: Element>()
     ensures spec { SameSpec ⟦<TableOf<T, W> as HasSpec>⟧.spec (table_spec W.word T.spec) }
     ensures default { SameSpec ⟦<TableOf<T> as HasSpec>⟧.spec (table_spec w32 T.spec) }
 {}
 
 /// States that without a width, a table and a resolver are of a narrow archive.
-///
-/// The table is valid in the narrow width, and its capacity is below 2^32.
 pub fn tables_are_narrow<'a, T: Element>(table: ArchivedHashTable<'a, T>, r: &HashTableResolver)
     ensures table { IsValidView (table_spec w32 T.spec) (table_view table.entry) }
     ensures resolver { resolved_capacity r.now < 2 ^ 32 }

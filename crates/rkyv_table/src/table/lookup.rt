@@ -17,10 +17,7 @@ use rkyv_base::{Element, View, Width, found_pos};
 use rkyv_scan::GroupKind;
 use rkyv_scan::simd::paired;
 
-// Every lookup of this module is one call of `find_by`.
 impl<'a, T: Element, W: Width> ArchivedHashTable<'a, T, W> {
-    // Returns an item that the comparison accepts, by groups of the kind `G`, or `None`, and counts
-    // the strides it reads.
     #[inline]
     fn find_by<G: GroupKind, F: Fn(View<'a, T>) -> bool>(
         self,
@@ -51,18 +48,13 @@ impl<'a, T: Element, W: Width> ArchivedHashTable<'a, T, W> {
 
     /// Returns an item that the comparison accepts, in a lookup under `hash`, or `None`.
     ///
-    /// The result is an item of the table, whatever the comparison returns. The comparison
-    /// is called with items of the table alone, and may be called twice with one.
+    /// The comparison is called only with items of the table, maybe twice with one.
     ///
     /// If the comparison depends only on the position of an item, the control bytes decide
     /// which item it is. In a written table, it is the first accepted item in insertion order
     /// if each accepted item is under `hash`.
     ///
     /// A lookup in an untrusted table may read all of its control bytes.
-    ///
-    /// # Requires
-    ///
-    /// - The comparison can be called with each item of the table.
     ///
     /// # Examples
     ///
@@ -87,23 +79,10 @@ impl<'a, T: Element, W: Width> ArchivedHashTable<'a, T, W> {
         self.get_by::<paired::Group, F>(hash, cmp)
     }
 
-    /// Returns an item that the comparison accepts, by groups of the kind `G`, or `None`.
+    /// Looks up as `get_with` does, but at the indices that the kind of group `G` marks.
     ///
-    /// It looks up as `get_with` does, but at the indices that `G` marks. Both find the same item
-    /// in a written table if all accepted items are under `hash`. In others they may differ.
-    ///
-    /// # Requires
-    ///
-    /// - The comparison can be called with each item of the table.
-    ///
-    /// # Examples
-    ///
-    /// ```rust
-    /// match table.get_by::<G, _>(hash, |item| is_accepted(item.to_native(), accepted)) {
-    ///     Some(item) => Ok(Some(item.to_native())),
-    ///     None => Ok(None),
-    /// }
-    /// ```
+    /// Both find the same item in a written table if all accepted items are under `hash`. In others
+    /// they may differ.
     #[inline]
     pub fn get_by<G: GroupKind, F: Fn(View<'a, T>) -> bool>(
         self,
@@ -116,23 +95,7 @@ impl<'a, T: Element, W: Width> ArchivedHashTable<'a, T, W> {
         self.find_by::<G, F>(hash, cmp, &mut Strides::new())
     }
 
-    /// Returns the position of an item that the comparison accepts, or `None`.
-    ///
-    /// It looks up as `get_with` does.
-    ///
-    /// # Requires
-    ///
-    /// - The comparison can be called with each item of the table.
-    ///
-    /// # Examples
-    ///
-    /// ```rust
-    /// // Returns the position of a number that is found under a hash.
-    /// fn pos_of_number(bytes: &[u8], hash: u64, number: u8) -> Result<Option<u64>, VerifyError> {
-    ///     let table = ArchivedHashTable::of(access::<TableOf<u8>>(bytes)?);
-    ///     Ok(table.get_pos_with(hash, |item| item.to_native() == number))
-    /// }
-    /// ```
+    /// Looks up as `get_with` does, and returns the position of the item.
     #[inline]
     pub fn get_pos_with<F: Fn(View<'a, T>) -> bool>(self, hash: u64, cmp: F) -> Option<u64>
         requires callable { CanCompare (F.pre cmp) self }
@@ -141,23 +104,7 @@ impl<'a, T: Element, W: Width> ArchivedHashTable<'a, T, W> {
         found_pos(self.get_with(hash, cmp))
     }
 
-    /// Returns an item that the comparison accepts, or `None`, and counts the strides it reads.
-    ///
-    /// It looks up as `get_with` does. A stride has sixteen control bytes.
-    ///
-    /// It reads no stride of an empty table, else at least one and at most ceil(capacity / 16).
-    /// The count ends at 2^64 - 1.
-    ///
-    /// # Requires
-    ///
-    /// - The comparison can be called with each item of the table.
-    ///
-    /// # Examples
-    ///
-    /// ```rust
-    /// let mut strides = Strides::new();
-    /// let found = table.get_counted(hash, |pair| pair.key().to_native() == key, &mut strides);
-    /// ```
+    /// Looks up as `get_with` does, and counts the strides of sixteen control bytes that it reads.
     #[inline]
     pub fn get_counted<F>(self, hash: u64, cmp: F, strides: &mut Strides) -> Option<View<'a, T>>
     where

@@ -1,4 +1,4 @@
-//! Counting the items of a table that a lookup of their own doesn't find.
+//! Counting the items of a table that a lookup of the same item doesn't return.
 //!
 //! - `misplaced_by` looks up each item. Its cost on untrusted bytes may be quadratic.
 //! - `misplaced_up_to_by` ends at a limit on the strides that are read.
@@ -22,8 +22,6 @@ pub fn finds_another_or_none(bucket: usize, found: Option<usize>) -> bool
 }
 
 impl<'a, T: Element, W: Width> ArchivedHashTable<'a, T, W> {
-    // Returns `true` if a lookup of the item in `bucket` finds another bucket or returns `None`.
-    // Counts its strides.
     #[inline]
     fn is_misplaced<H: Fn(View<'a, T>) -> u64, S: Fn(View<'a, T>, View<'a, T>) -> bool>(
         self,
@@ -59,37 +57,14 @@ impl<'a, T: Element, W: Width> ArchivedHashTable<'a, T, W> {
         finds_another_or_none(bucket, found)
     }
 
-    /// Returns the number of items that a lookup of their own doesn't find.
+    /// Counts the items that a lookup of the same item doesn't return.
     ///
-    /// The lookup is under the hash that `hash_of` returns for the item. It accepts the items
-    /// for which `same` returns `true`, with the item as the first argument. An item
-    /// is found if the lookup returns its bucket.
+    /// The lookup of an item is under its `hash_of`, and accepts the items for which `same` returns
+    /// `true` with the item as the first argument. The count is specified if both functions depend
+    /// only on the arguments' positions. `repeated_are_misplaced` relates it to repeated items.
     ///
-    /// It is at most the length. The number is specified if both functions depend only
-    /// on the positions of their arguments.
-    /// `repeated_are_misplaced` relates it to repeated items of a written table.
-    ///
-    /// By its code alone, each item is looked up once. Items that share one hash cost a number of
-    /// comparisons that grows with the square of their number.
-    ///
-    /// # Requires
-    ///
-    /// - `hash_of` can be called with each item, and `same` with any two items.
-    ///
-    /// # Examples
-    ///
-    /// ```rust
-    /// // Returns the number of misplaced pairs of a table. Pairs with one key are the same.
-    /// fn misplaced_small(bytes: &[u8]) -> Result<usize, VerifyError> {
-    ///     let table = ArchivedHashTable::of(access::<TableOf<Entry<i8, i8>>>(bytes)?);
-    ///     Ok(table.misplaced_by(
-    ///         |pair| hash_of_i8(pair.key().to_native()),
-    ///         |own, other| own.key().to_native() == other.key().to_native(),
-    ///     ))
-    /// }
-    ///
-    /// assert_eq!(rt; misplaced_small(&one_key_twice()).ok(), Some(1));
-    /// ```
+    /// Not proved: each item is looked up once. Items that share one hash cost comparisons that
+    /// grow with the square of their number.
     pub fn misplaced_by<H: Fn(View<'a, T>) -> u64, S: Fn(View<'a, T>, View<'a, T>) -> bool>(
         self,
         hash_of: H,
@@ -111,35 +86,13 @@ impl<'a, T: Element, W: Width> ArchivedHashTable<'a, T, W> {
         count
     }
 
-    /// Returns the number of misplaced items, or `None` at a limit on the strides that it reads.
+    /// Counts as `misplaced_by` does, or returns `None` at a limit on the strides that it reads.
     ///
-    /// The number is the result of `misplaced_by`. If both functions depend only on the positions
-    /// of their arguments, the result is `None` if and only if the lookups of all items read more
-    /// than `limit` strides of sixteen control bytes. They are added to `strides`, whose count ends
-    /// at 2^64 - 1.
+    /// If both functions depend only on the arguments' positions, it is `None` if and only if the
+    /// lookups of all items read more than `limit` strides. They are added to `strides`.
     ///
-    /// For any `hash_of` and `same`, it counts at most `limit` strides and those of one more
-    /// lookup, which are at most ceil(capacity / 16). So its cost on untrusted bytes is bounded.
-    ///
-    /// # Requires
-    ///
-    /// - `hash_of` can be called with each item, and `same` with any two items.
-    ///
-    /// # Examples
-    ///
-    /// ```rust
-    /// fn counted_up_to(bytes: &[u8], limit: u64) -> Result<(Option<usize>, u64), VerifyError> {
-    ///     let table = ArchivedHashTable::of(access::<TableOf<Entry<i8, i8>>>(bytes)?);
-    ///     let mut strides = Strides::new();
-    ///     let misplaced = table.misplaced_up_to_by(
-    ///         |pair| hash_of_i8(pair.key().to_native()),
-    ///         |own, other| own.key().to_native() == other.key().to_native(),
-    ///         limit,
-    ///         &mut strides,
-    ///     );
-    ///     Ok((misplaced, strides.count()))
-    /// }
-    /// ```
+    /// For any functions, it counts at most `limit` strides and one more lookup's, at most
+    /// ceil(capacity / 16). So its cost on untrusted bytes is bounded.
     pub fn misplaced_up_to_by<H, S>(
         self,
         hash_of: H,

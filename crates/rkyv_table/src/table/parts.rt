@@ -7,7 +7,6 @@ ghost use Rattle.rkyv_table.specs.{WritesParts, filled, slots_with};
 use rkyv_base::{Lend, Serialize, Width, WriteResult, Writer};
 use std::alloc::Global;
 
-// Serializes the items in bucket order, and pushes their resolvers.
 pub(crate) fn serialize_slots<W: Width, S: Writer, U: Serialize<S, W>, X: Lend<U>>(
     alloc: Global,
     slots: &[Option<X>],

@@ -1,4 +1,4 @@
-//! Walks over the items of a table.
+//! Iterators over the items of a table.
 //!
 //! The iterator returns the positions of the items, and `next_view` returns views.
 ghost use Rattle.std.specs.Prelude.{[], IfSome, MatchOption, length, slice_index, take, ◌<◌};
@@ -21,9 +21,7 @@ pub struct RawIter<'a, T> {
     archive: &'a [u8],
     // The position at which the buckets of the current group end.
     buckets_end: usize,
-    // The number of bytes of a bucket.
     size: usize,
-    // The number of items that remain.
     count: usize,
     controls: &'a [u8],
     // The first index of the current group.
@@ -49,7 +47,6 @@ impl<'a, T> Model for RawIter<'a, T> {
         (⟦<Bitmask as Marks>⟧.indices r.marks) };
 }
 
-/// Returns the full indices of the first group of control bytes, if there are items.
 #[inline]
 fn first_marks(controls: &[u8], len: usize) -> Bitmask
     requires { 0 < len → 8 ≤ length controls.now }
@@ -65,7 +62,7 @@ fn first_marks(controls: &[u8], len: usize) -> Bitmask
 }
 
 impl<T> RawIter<'static, T> {
-    /// Returns a walk over no items.
+    /// Returns an iterator over no items.
     #[inline]
     pub fn empty() -> RawIter<'static, T>
         ensures positions { result.positions ≡ [] }
@@ -86,10 +83,6 @@ impl<T> RawIter<'static, T> {
 
 impl<'a, T: Element> RawIter<'a, T> {
     /// Returns a view of the next item, or `None` at the end.
-    ///
-    /// # Requires
-    ///
-    /// - The archive has a valid item at each position that remains.
     #[inline]
     pub fn next_view(&mut self) -> Option<View<'a, T>>
         requires { AllValid T.spec self.old }
@@ -144,7 +137,7 @@ impl<'a, T> ExactSizeIterator for RawIter<'a, T> {
 }
 
 impl<'a, T: Element, W: Width> ArchivedHashTable<'a, T, W> {
-    /// Returns a walk over the positions of the items, in bucket order.
+    /// Returns an iterator over the positions of the items, in bucket order.
     ///
     /// # Examples
     ///

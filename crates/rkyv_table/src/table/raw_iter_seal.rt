@@ -25,7 +25,6 @@ use crate::table::{ArchivedHashTable, TableOf};
 use rkyv_base::{ArchiveSeal, Element, Scalar, Seal, View, Width, set_at};
 use std::marker::PhantomData;
 
-/// Returns the `count` bytes from position `pos` on, or `None` if there are fewer.
 #[inline]
 fn part(bytes: &[u8], pos: usize, count: usize) -> Option<&[u8]>
     ensures { MatchOption result (length bytes.now < pos + count)
@@ -38,7 +37,6 @@ fn part(bytes: &[u8], pos: usize, count: usize) -> Option<&[u8]>
     Some(&bytes[pos..pos + count])
 }
 
-/// Returns the position of a bucket before `buckets_end`, or `None` if there is no room.
 #[inline]
 fn pos_before(buckets_end: usize, bucket: usize, size: usize) -> Option<usize>
     requires { size ≤ 1073741824 }
@@ -52,7 +50,6 @@ fn pos_before(buckets_end: usize, bucket: usize, size: usize) -> Option<usize>
     Some(buckets_end - behind as usize)
 }
 
-/// The next item of a cursor: its bucket and its position.
 #[derive(Clone, Copy)]
 struct NextItem {
     bucket: usize,
@@ -61,12 +58,9 @@ struct NextItem {
 
 /// A cursor over the items of a table, in bucket order, for writing in place.
 ///
-/// While only items are written and stay valid, `next_pos`, `next_with` and `next_seal_with`
-/// return each item once. They return as many items as `len` says, and then `None`. The cursor
-/// is unspecified after `next_seal` and after `bytes_mut`. It writes nothing when it is dropped.
-///
-/// If control bytes are overwritten, the cursor may find no further full bucket. Its calls then
-/// return `None`, and `len` stays above 0.
+/// While only items are written and stay valid, each item is returned once, and then `None`.
+/// The cursor is unspecified after `next_seal` and after `bytes_mut`. If control bytes are
+/// overwritten, it may return `None` while `len` stays above 0.
 #[derive(Drop)]
 #[must_use]
 pub struct RawIterSeal<'a, T> {
@@ -89,7 +83,6 @@ impl<'a, T: Element> RawIterSeal<'a, T> {
         self.left
     }
 
-    // Returns the first item that remains, or `None`.
     #[inline]
     fn first(&self) -> Option<NextItem>
         ensures some { IfSome result (λ _. 0 < cursor_len self.now) }
@@ -120,9 +113,7 @@ impl<'a, T: Element> RawIterSeal<'a, T> {
         Some(first.at as u64)
     }
 
-    /// Returns a seal of the next item, or `None` if it finds none.
-    ///
-    /// The contract of `next_seal_with` also covers the items that remain.
+    /// Returns a seal of the next item. `next_seal_with` also specifies the items that remain.
     #[inline]
     pub fn next_seal(&mut self) -> Option<Seal<'_, T>>
         ensures inside { IfSome result (LiesIn T.spec) }
@@ -138,12 +129,8 @@ impl<'a, T: Element> RawIterSeal<'a, T> {
 impl<'a, T: Element> RawIterSeal<'a, T> {
     /// Calls `write` with the archive and the position of the next item, and returns the position.
     ///
-    /// If no item remains, the result is `None`, and nothing is written.
-    ///
-    /// # Requires
-    ///
-    /// - `write` can be called with the archive and each position at which an item fits. It may
-    ///   rely on a valid item there if the cursor is over a valid table.
+    /// Without a next item, it writes nothing. `write` must accept each position at which an item
+    /// fits. It may rely on a valid item there if the cursor is over a valid table.
     #[inline]
     pub fn next_with<F: FnOnce(&mut [u8], u64)>(&mut self, write: F) -> Option<u64>
         requires { MayWriteNext F.pre T.spec self.old write }
@@ -160,7 +147,6 @@ impl<'a, T: Element> RawIterSeal<'a, T> {
     }
 }
 
-/// Calls `write` with a seal at a position of the bytes, and returns its result.
 #[inline]
 fn lend_seal<T, R, F: FnOnce(&mut Seal<'_, T>) -> R>(bytes: &mut [u8], pos: usize, write: F) -> R
     requires { MaySeal F.pre write bytes.old pos }
@@ -171,14 +157,7 @@ fn lend_seal<T, R, F: FnOnce(&mut Seal<'_, T>) -> R>(bytes: &mut [u8], pos: usiz
 }
 
 impl<'a, T: Element> RawIterSeal<'a, T> {
-    /// Calls `write` with a seal of the next item, and returns the position of the item.
-    ///
-    /// If no item remains, the result is `None`, and nothing is written.
-    ///
-    /// # Requires
-    ///
-    /// - `write` can be called with a seal of each item that fits in the archive. It may rely on
-    ///   a valid item there if the cursor is over a valid table.
+    /// Calls `write` with a seal of the next item, and returns its position, as `next_with` does.
     #[inline]
     pub fn next_seal_with<F: FnOnce(&mut Seal<'_, T>)>(&mut self, write: F) -> Option<u64>
         requires { MaySealNext F.pre T.spec self.old write }
@@ -197,10 +176,6 @@ impl<'a, T: Element> RawIterSeal<'a, T> {
 
 impl<'a, T> RawIterSeal<'a, T> {
     /// Calls `write` with the archive and the position `pos`.
-    ///
-    /// # Requires
-    ///
-    /// - `write` can be called with them.
     #[inline]
     pub fn write_with<F: FnOnce(&mut [u8], u64)>(&mut self, pos: u64, write: F)
         requires { MayWriteAt F.pre self.old pos write }
@@ -220,9 +195,7 @@ impl<'a, T> RawIterSeal<'a, T> {
         &*self.archive
     }
 
-    /// Returns the bytes of the archive, to write.
-    ///
-    /// The contract of `write_with` also covers how they change.
+    /// Returns the bytes of the archive, to write. `write_with` also specifies how they change.
     #[inline]
     pub fn bytes_mut(&mut self) -> &mut [u8]
         ensures { result.now ≡ cursor_bytes self.old }
@@ -231,10 +204,6 @@ impl<'a, T> RawIterSeal<'a, T> {
     }
 
     /// Writes a scalar at position `pos + offset` of the archive.
-    ///
-    /// # Requires
-    ///
-    /// - The scalar fits in the archive at that position.
     #[inline]
     pub fn write_at<N: Scalar>(&mut self, pos: u64, offset: usize, value: N)
         requires { pos + offset + N.spec.size ≤ length (cursor_bytes self.old) }
@@ -253,10 +222,6 @@ impl<'a, T> RawIterSeal<'a, T> {
 
 impl<'a, N: Scalar> RawIterSeal<'a, N> {
     /// Writes a scalar at position `pos` of the archive.
-    ///
-    /// # Requires
-    ///
-    /// - The scalar fits in the archive at that position.
     #[inline]
     pub fn set_at(&mut self, pos: u64, value: N)
         requires { pos + N.spec.size ≤ length (cursor_bytes self.old) }
@@ -271,34 +236,7 @@ impl<'a, N: Scalar> RawIterSeal<'a, N> {
 }
 
 impl<'a, T: Element, W: Width> ArchivedHashTable<'a, T, W> {
-    /// Returns a cursor over the items of a sealed table, in bucket order.
-    ///
-    /// The contract of `raw_iter_over` also covers the bytes of the archive afterwards.
-    ///
-    /// # Requires
-    ///
-    /// - The archive has a valid table at the position of the seal.
-    ///
-    /// # Examples
-    ///
-    /// ```rust
-    /// fn write_stepping(bytes: &mut [u8]) -> Result<([Option<u64>; 3], usize), VerifyError> {
-    ///     let whole = access_mut::<TableOf<u8>>(bytes)?;
-    ///     let mut rest = ArchivedHashTable::raw_iter_seal(whole);
-    ///     let positions = [
-    ///         rest.next_with(|archive: &mut [u8], pos: u64| {
-    ///             change(archive, pos, 7);
-    ///         }),
-    ///         rest.next_with(|archive: &mut [u8], pos: u64| {
-    ///             change(archive, pos, 9);
-    ///         }),
-    ///         rest.next_with(|archive: &mut [u8], pos: u64| {
-    ///             change(archive, pos, 11);
-    ///         }),
-    ///     ];
-    ///     Ok((positions, rest.len()))
-    /// }
-    /// ```
+    /// Returns a cursor over a sealed table. `raw_iter_over` also specifies the bytes afterwards.
     #[inline]
     pub fn raw_iter_seal(this: ArchiveSeal<'a, TableOf<T, W>>) -> RawIterSeal<'a, T>
         requires table { IsTableSeal W.word T.spec this }
@@ -315,25 +253,6 @@ impl<'a, T: Element, W: Width> ArchivedHashTable<'a, T, W> {
     }
 
     /// Returns a cursor over the items of the table at `pos` of an archive, in bucket order.
-    ///
-    /// # Requires
-    ///
-    /// - The archive has a valid table at `pos`.
-    ///
-    /// # Examples
-    ///
-    /// ```rust
-    /// // Sets each item of a table, which stays valid.
-    /// fn set_all<N: Scalar, W: Width>(archive: &mut [u8], pos: u64, value: N)
-    ///     requires { Viewable (table_spec W.word N.spec) archive.old pos }
-    ///     ensures { Viewable (table_spec W.word N.spec) archive.new pos }
-    /// {
-    ///     let mut rest = ArchivedHashTable::<N, W>::raw_iter_over(archive, pos);
-    ///     while let Some(next) = rest.next_pos() {
-    ///         rest.set_at(next, value);
-    ///     }
-    /// }
-    /// ```
     #[inline]
     pub fn raw_iter_over(archive: &'a mut [u8], pos: u64) -> RawIterSeal<'a, T>
         requires table { Viewable (table_spec W.word T.spec) archive.old pos }
@@ -361,30 +280,7 @@ impl<'a, T: Element, W: Width> ArchivedHashTable<'a, T, W> {
     /// Calls `write` with a seal of the item that a lookup finds, and returns its result.
     ///
     /// The table is at `pos` of the archive. If no item is found, the result is `None`, and nothing
-    /// is written.
-    ///
-    /// # Requires
-    ///
-    /// - The archive has a valid table at `pos`.
-    /// - The comparison can be called with each item of the table.
-    /// - `write` can be called with a seal of each valid value of the archive.
-    ///
-    /// # Examples
-    ///
-    /// ```rust
-    /// ArchivedHashTable::<N, W>::found_with(
-    ///     archive,
-    ///     pos,
-    ///     hash,
-    ///     accepts,
-    ///     |seal: &mut Seal<'_, N>|
-    ///         requires { LiesIn N.spec seal.old }
-    ///     {
-    ///         seal.set(value);
-    ///         seal.to_native()
-    ///     },
-    /// )
-    /// ```
+    /// is written. `write` must accept a seal of each valid value of the archive.
     #[inline]
     pub fn found_with<R, F: Fn(View<'_, T>) -> bool, G: FnOnce(&mut Seal<'_, T>) -> R>(
         archive: &mut [u8],

@@ -59,16 +59,8 @@ impl<W: Width> HashTableResolver<W> {
 
     /// Writes the header of the written table over the whole of `out`, for a header at `pos`.
     ///
-    /// It is the header that `resolve_from_len` writes.
-    ///
-    /// # Requires
-    ///
-    /// - `out` has the size of a header.
-    ///
-    /// # Errors
-    ///
-    /// - `DistanceTooLarge`: the table isn't empty, and the distance doesn't fit in the width.
-    ///   `out` is unchanged.
+    /// Fails with `DistanceTooLarge` if the table isn't empty and the distance doesn't fit in the
+    /// width. `out` is then unchanged. The distance of an empty table is 1, and never read.
     pub fn resolve(self, pos: u64, out: &mut [u8]) -> ResolveResult
         requires room { length out.old ≡ W.TABLE_SIZE }
         ensures { WritesHeader W.word self pos out.old out.new result }
@@ -78,7 +70,6 @@ impl<W: Width> HashTableResolver<W> {
     }
 }
 
-// Writes the three words of a header.
 #[inline]
 fn write_header<W: Width>(out: &mut [u8], distance: i64, len: u64, cap: u64)
     requires room { length out.old ≡ W.TABLE_SIZE }
@@ -94,7 +85,6 @@ fn write_header<W: Width>(out: &mut [u8], distance: i64, len: u64, cap: u64)
     W::write_count(third, cap);
 }
 
-// Returns the capacity of a written table.
 #[inline]
 pub(crate) fn resolved_capacity<W: Width>(resolver: &HashTableResolver<W>) -> usize
     ensures value { result ≡ resolved_capacity resolver.now }
@@ -104,20 +94,7 @@ pub(crate) fn resolved_capacity<W: Width>(resolver: &HashTableResolver<W>) -> us
 }
 
 impl<'a, T: HasSpec, W: Width> ArchivedHashTable<'a, T, W> {
-    /// Writes the header of a written table over the whole of `out`, for a header at `pos`.
-    ///
-    /// The header has the distance from `pos` to the first control byte, the length
-    /// and the capacity. The distance of an empty table is 1, and never read.
-    ///
-    /// # Requires
-    ///
-    /// - `len` and `load_factor` are those of the resolver.
-    /// - `out` has the size of a header.
-    ///
-    /// # Errors
-    ///
-    /// - `DistanceTooLarge`: the table isn't empty, and the distance doesn't fit in the width.
-    ///   `out` is unchanged.
+    /// Writes the header as `resolve` does, with the resolver's length and load factor again.
     pub fn resolve_from_len(
         len: usize,
         load_factor: (usize, usize),

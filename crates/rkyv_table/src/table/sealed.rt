@@ -11,29 +11,7 @@ use crate::table::{ArchivedHashTable, TableOf};
 use rkyv_base::{ArchiveSeal, Element, Seal, View, Width};
 
 impl<'a, T: Element, W: Width> ArchivedHashTable<'a, T, W> {
-    /// Returns a seal of an item that the comparison accepts, or `None`.
-    ///
-    /// It looks up as `get_with` does.
-    ///
-    /// The contract of `found_with` also covers the bytes of the archive afterwards.
-    ///
-    /// # Requires
-    ///
-    /// - The archive has a valid table at the position of the seal.
-    /// - The comparison can be called with each item of the table.
-    ///
-    /// # Examples
-    ///
-    /// ```rust
-    /// match ArchivedHashTable::get_seal_with(whole, hash, |item| item.to_native() == old) {
-    ///     Some(mut seal) => {
-    ///         let before = seal.to_native();
-    ///         seal.set(new);
-    ///         Ok(Some((before, seal.to_native())))
-    ///     }
-    ///     None => Ok(None),
-    /// }
-    /// ```
+    /// Looks up as `get_with`, for a seal. `found_with` also specifies the bytes afterwards.
     #[inline]
     pub fn get_seal_with<F: Fn(View<'_, T>) -> bool>(
         this: ArchiveSeal<'a, TableOf<T, W>>,

@@ -25,7 +25,6 @@ use rkyv_scan::simd::lanes;
 use std::alloc::{AllocError, Global};
 use std::marker::PhantomData;
 
-// Returns `cap` empty slots.
 fn empty_slots<X: Drop>(alloc: Global, cap: usize) -> Result<Vec<Option<X>>, AllocError>
     ensures { IfOk result (λ slots. slots.items ≡ replicate cap None) }
 {
@@ -36,8 +35,7 @@ fn empty_slots<X: Drop>(alloc: Global, cap: usize) -> Result<Vec<Option<X>>, All
     Ok(slots)
 }
 
-// The memory for writing a table. It has a slot for each bucket, the control bytes with a buffer
-// of one bucket after them, and room for each resolver.
+// A slot for each bucket, the control bytes and then one bucket's buffer, and the resolvers' room.
 #[derive(Drop)]
 struct Room<X, R> {
     slots: Vec<Option<X>>,
@@ -66,7 +64,6 @@ impl<X: Drop, R: Drop> Room<X, R> {
     }
 }
 
-// Places and writes `len` items, and returns the position of the first control byte.
 fn serialize_nonempty<
     W: Width,
     G: GroupKind,
@@ -99,7 +96,6 @@ fn serialize_nonempty<
     write_table::<W, _, U, _>(alloc, slots, controls, bucket, resolvers, serializer)
 }
 
-// Writes the table of an input, and returns its resolver.
 fn serialize_source<
     W: Width,
     G: GroupKind,
@@ -147,21 +143,11 @@ impl<'a, T: HasSpec, W: Width> ArchivedHashTable<'a, T, W> {
     /// Writes a table of `len` items, each under the next of the hashes, and returns its resolver.
     ///
     /// Each item goes into its home bucket: the first bucket that its hash probes
-    /// and that no earlier item has. The layout is rkyv's:
-    ///
-    /// 1. the parts of the items, in bucket order,
-    /// 2. zeros up to the alignment of the items,
-    /// 3. the buckets from the highest to bucket 0, an empty one as zeros,
-    /// 4. the control bytes.
-    ///
+    /// and that no earlier item has. `docs/FORMAT.md` has the layout, which is rkyv's.
     /// Nothing is written for no items, and the position of the resolver is 0.
     ///
-    /// By tests alone: each iterator is called at most `len + 1` times, and not after it returned
-    /// `None`. No item is taken before an allocation failure of this call.
-    ///
-    /// # Requires
-    ///
-    /// - Both iterators can be called.
+    /// Not proved, only tested: each iterator is called at most `len + 1` times, and not after
+    /// it returned `None`. No item is taken before an allocation failure of this call.
     ///
     /// # Errors
     ///
@@ -173,8 +159,7 @@ impl<'a, T: HasSpec, W: Width> ArchivedHashTable<'a, T, W> {
     /// - The error of the first item or piece that fails.
     ///
     /// If the call itself fails with one of the first four errors, nothing is written. An item
-    /// that fails with the same error may follow bytes that were written. The bytes written
-    /// before the call are unchanged.
+    /// that fails with the same error may follow bytes that were written.
     ///
     /// # Examples
     ///
@@ -217,37 +202,9 @@ impl<'a, T: HasSpec, W: Width> ArchivedHashTable<'a, T, W> {
         )
     }
 
-    /// Writes a table of `len` pairs of hash and item, and returns its resolver.
+    /// Writes a table of `len` pairs of hash and item as `serialize_from_iter` does.
     ///
-    /// The table is written as `serialize_from_iter` does, but the items are placed by groups
-    /// of the kind `G`.
-    ///
-    /// # Requires
-    ///
-    /// - The iterator can be called.
-    ///
-    /// # Errors
-    ///
-    /// The same as for `serialize_from_iter`. The number of `IteratorLengthMismatch`
-    /// is that of pairs.
-    ///
-    /// # Examples
-    ///
-    /// ```rust
-    /// let mut writer = VecWriter::new(alloc);
-    /// let pairs = hashes.iter().copied().zip(items.iter());
-    ///
-    /// match ArchivedHashTable::<U::Archived, Narrow>::serialize_by::<G, VecWriter, U, &U, _>(
-    ///     alloc,
-    ///     pairs,
-    ///     items.len(),
-    ///     load_factor,
-    ///     &mut writer,
-    /// ) {
-    ///     Ok(resolver) => resolver.pos() == pos && writer.bytes() == bytes,
-    ///     Err(_) => false,
-    /// }
-    /// ```
+    /// The items are placed by groups of the kind `G`. An `IteratorLengthMismatch` counts pairs.
     pub fn serialize_by<
         G: GroupKind,
         S: Writer,

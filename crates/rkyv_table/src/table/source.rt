@@ -37,13 +37,11 @@ pub(crate) trait ItemSource<X>: Drop {
             ((input self).yields_other_count 0) };
 }
 
-/// One iterator of pairs of hash and item.
 #[derive(Drop)]
 pub(crate) struct Pairs<I> {
     pub(crate) pairs: I,
 }
 
-/// An iterator of items, and one of their hashes.
 #[derive(Drop)]
 pub(crate) struct ItemsAndHashes<I, J> {
     pub(crate) items: I,

@@ -13,10 +13,6 @@ use crate::controls::reciprocal::Reciprocal;
 use rkyv_scan::GroupKind;
 
 /// Returns the next item of an iterator, which need not end.
-///
-/// # Requires
-///
-/// - The iterator can be called.
 #[inline]
 pub fn next_item<I: Iterator>(rest: &mut I) -> Option<I::Item>
     requires { I.can_next rest.old }
@@ -26,7 +22,6 @@ pub fn next_item<I: Iterator>(rest: &mut I) -> Option<I::Item>
     rest.next()
 }
 
-// Puts an item into a slot.
 #[inline]
 fn put<X: Drop>(slots: &mut [Option<X>], bucket: usize, item: X)
     requires { bucket < length slots.old }
@@ -35,7 +30,7 @@ fn put<X: Drop>(slots: &mut [Option<X>], bucket: usize, item: X)
     slots[bucket] = Some(item);
 }
 
-// Puts an item into the first empty bucket that its hash probes. The hash is `start` modulo `cap`.
+// The hash is `start` modulo `cap`.
 #[inline]
 pub(crate) fn place_item<G: GroupKind, X: Drop>(
     controls: &mut [u8],
@@ -54,8 +49,7 @@ pub(crate) fn place_item<G: GroupKind, X: Drop>(
     put(slots, bucket, item);
 }
 
-// Takes `len` pairs, and puts each item into the first empty bucket that its hash probes. An `Err`
-// has the number of pairs, counted up to `len + 1`.
+// An `Err` has the number of pairs, counted up to `len + 1`.
 pub(crate) fn take_pairs<G: GroupKind, X: Drop, I: Iterator<Item = (u64, X)>>(
     pairs: I,
     len: usize,

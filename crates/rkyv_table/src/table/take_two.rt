@@ -1,6 +1,6 @@
 //! Taking items and their hashes from two iterators, each item into its home bucket.
 //!
-//! The number of items is counted up to one more than claimed, and then that of hashes.
+//! The items are counted up to one more than claimed, and then the hashes.
 
 ghost use Rattle.std.specs.Prelude.{◌≡◌, ◌+◌, ◌<◌, ◌≤◌, ◌^◌, None, replicate};
 ghost use Rattle.rkyv_table.specs.{CountedOn, PlacesInput, fresh_controls, from_both};
@@ -9,7 +9,6 @@ use crate::controls::reciprocal::Reciprocal;
 use crate::table::take::{next_item, place_item};
 use rkyv_scan::GroupKind;
 
-// Counts the items that remain, on from `before` and up to `len + 1`.
 fn count_rest<I: Iterator>(rest: I, before: usize, len: usize) -> usize
 where
     I::Item: Drop,
@@ -27,9 +26,8 @@ where
     len + 1
 }
 
-// Takes `len` items and their hashes, and puts each item into the first empty bucket that its hash
-// probes. An `Err` has the number of items, counted up to `len + 1`. If that is `len`,
-// it has the number of hashes.
+// An `Err` has the number of items, counted up to `len + 1`. If it is `len`, it has the number of
+// hashes.
 pub(crate) fn take_two<G: GroupKind, X: Drop, I: Iterator<Item = X>, J: Iterator<Item = u64>>(
     items: I,
     hashes: J,

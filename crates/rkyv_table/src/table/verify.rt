@@ -4,7 +4,7 @@
 //! 2. The buckets and the control bytes are in the range, and aligned.
 //! 3. The items in the full buckets are valid.
 //! 4. The length is the number of full buckets.
-//! 5. The control bytes after those of the buckets are as they must be.
+//! 5. The control bytes after the buckets' own mirror them, or are empty.
 ghost use Rattle.std.specs.Prelude.{IfErr, IfOk, MatchResult, length, ◌%◌, ◌*◌, ◌+◌, ◌<◌, ◌≡◌, ◌≤◌};
 ghost use Rattle.std.specs.Int.{byte_len};
 ghost use Rattle.rkyv_base.specs.{Fails, Passes};
@@ -17,7 +17,6 @@ use crate::table::header::{bucket_position, decode_begin, part_size, read_header
 use rkyv_base::{Element, PartRange, VerifyError, Width, part_in};
 use rkyv_scan::{GroupKind, Marks};
 
-/// Validates the item in a bucket, and returns the new lower end of the range.
 #[inline]
 fn check_item<T: Element>(
     bytes: &[u8],
@@ -38,7 +37,6 @@ fn check_item<T: Element>(
     Ok(rest.lo)
 }
 
-/// Validates the item in each full bucket, in bucket order, and returns their number.
 fn check_items<G: GroupKind, T: Element>(
     bytes: &[u8],
     controls: &[u8],
@@ -79,7 +77,6 @@ fn check_items<G: GroupKind, T: Element>(
     Ok(count)
 }
 
-/// Validates the buckets and control bytes at `begin`, and returns the position of their end.
 fn check_part<G: GroupKind, T: Element>(
     bytes: &[u8],
     begin: u64,
@@ -111,7 +108,6 @@ fn check_part<G: GroupKind, T: Element>(
     }
 }
 
-/// Validates the table whose header is at `pos`, by groups of the kind `G`.
 pub(crate) fn verify_by<G: GroupKind, W: Width, T: Element>(
     bytes: &[u8],
     pos: u64,

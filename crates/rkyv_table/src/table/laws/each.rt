@@ -5,7 +5,7 @@ use rkyv_base::{Scalar, Seal};
 
 /// States that a scalar that is written once has the value that the closure computes.
 ///
-/// The closure must compute the new value from the old value only.
+/// The closure must compute it only from the old value.
 pub fn writes_once_compute<N: Scalar, F: Fn(&mut Seal<'_, N>)>()
     ensures { OnceComputes N.spec N.encoding F.post }
 {}

@@ -4,8 +4,6 @@ ghost use Rattle.rkyv_table.specs.{LooksUpInBytes};
 use rkyv_base::{Element, View, Width};
 
 /// States that each result of a lookup in a table is one of a lookup in the bytes of the table.
-///
-/// `get_counted` counts the strides of the lookup in the bytes, if its counter begins at 0.
 pub fn lookups_are_in_bytes<T: Element, W: Width, F: Fn(View<'_, T>) -> bool>()
     ensures { (cmp : _) → LooksUpInBytes T.HasSpec W.Word (F.post cmp) }
 {}

@@ -9,16 +9,13 @@ use rkyv_base::{Archive, Lend, Width};
 
 /// States that a written table with its header is valid in any archive that has its bytes.
 ///
-/// The header must be aligned and after the written bytes. It then has the length and the capacity
-/// of the table. The control bytes are those of the hashes, and each item is in its home bucket.
+/// The header must be aligned and after the written bytes.
 pub fn written_tables_represent<W: Width, U: Archive<W>, X: Lend<U>>()
     ensures { (load_factor : ℕ × ℕ) → WrittenTablesRepresent W.word U.Archived.spec
         (RepresentsAs X.lent U.Archived.represents) (written_as X.lent U.format) load_factor }
 {}
 
 /// States that the written table is valid in each range around the written bytes.
-///
-/// Such a range begins at or before the first written byte, and ends at or after the last.
 pub fn written_tables_pass<W: Width, U: Archive<W>, X: Lend<U>>()
     ensures { (load_factor : ℕ × ℕ) →
         WrittenTablesPass W.word U.Archived.spec (written_as X.lent U.format) load_factor }

@@ -12,7 +12,6 @@ use crate::table::ArchivedHashTable;
 use crate::table::raw_iter_seal::RawIterSeal;
 use rkyv_base::{Element, Seal, Width};
 
-/// Calls `write` with a seal at a position of the bytes, and returns its result.
 #[inline]
 fn lend_next<T, R, F: Fn(&mut Seal<'_, T>) -> R>(bytes: &mut [u8], pos: usize, write: &F) -> R
     requires { MaySeal F.pre write.now bytes.old pos }
@@ -24,10 +23,6 @@ fn lend_next<T, R, F: Fn(&mut Seal<'_, T>) -> R>(bytes: &mut [u8], pos: usize, w
 
 impl<'a, T> RawIterSeal<'a, T> {
     /// Calls `write` with a seal of the value at `pos` of the archive.
-    ///
-    /// # Requires
-    ///
-    /// - `write` can be called with it.
     #[inline]
     pub fn seal_with<U, F: Fn(&mut Seal<'_, U>)>(&mut self, pos: u64, write: &F)
         requires { MaySeal F.pre write.now (cursor_bytes self.old) pos }
@@ -40,7 +35,6 @@ impl<'a, T> RawIterSeal<'a, T> {
     }
 }
 
-/// Calls `write` with a seal of each item of the table at `pos` of an archive, in bucket order.
 fn seal_in_turn<T: Element, W: Width, F: Fn(&mut Seal<'_, T>)>(
     archive: &mut [u8],
     pos: u64,
@@ -61,13 +55,7 @@ fn seal_in_turn<T: Element, W: Width, F: Fn(&mut Seal<'_, T>)>(
 impl<'a, T: Element, W: Width> ArchivedHashTable<'a, T, W> {
     /// Calls `write` with a seal of each item of the table at `pos` of an archive, in bucket order.
     ///
-    /// Each item is written once. The table stays valid, with the same header and control bytes.
-    ///
-    /// # Requires
-    ///
-    /// - The archive has a valid table at `pos`.
-    /// - `write` can be called with a seal of each valid item. Such a call writes only the item,
-    ///   and keeps it valid. It keeps the seal's reference.
+    /// Each call must write only its item, keep it valid, and keep the seal's reference.
     ///
     /// # Examples
     ///
