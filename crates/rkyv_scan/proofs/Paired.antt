@@ -7,7 +7,7 @@ use Rattle.std.specs.Int.RustNames.{bit_or}
 use Rattle.std.proofs.lemmas.Bool.{cases_Bool, cases_eq, false_from_ne_true, ne_eqb, true≢false}
 use Rattle.std.proofs.lemmas.Nat.{shr_split}
 use Rattle.std.proofs.lemmas.Option.{none-some}
-use Rattle.std.proofs.lemmas.Nat.Bits.{bit_at-lt, bit_at-suc, bit_at_and, bit_at_cat_low, bit_at_or}
+use Rattle.std.proofs.lemmas.Nat.Bits.{bit_at-lt, bit_at-suc, bit_at-zero, bit_at_and, bit_at_cat_low, bit_at_or}
 use Rattle.rkyv_scan.specs.{MarksEqual, bits_after, chain, half_of, group_lanes, indices_where, is_half_match_at, is_word_match_at, mask_bits, mask_indices, paired_indices}
 use Rattle.rkyv_scan.specs.declared.simd.paired.bitmask.Bitmask.{Bitmask as PairedMask}
 use Rattle.rkyv_scan.specs.Lemmas.Paired.{half_at, half_lower, paired_lawful}
@@ -68,6 +68,14 @@ module _ (xs : List ℕ) (t equal next : ℕ) (marks_byte : MarksEqual xs t equa
   chain_is zero k l h = marks_byte k l ∙ sym (half_first xs t k (omega arith))
   chain_is (suc n) k l h = chain_step n (chain equal next n) (chain_is n) k l h
 
+  -- a mask that a step leaves unchanged has all marks
+  chain_fixed : (m : ℕ) → ((k : ℕ) → k < 16 → bit_at m k ≡ bit_at (bit_or equal (bit_and (bits_after m) next)) k) → (n : ℕ) → Chains xs t n m
+  chain_fixed m e zero k l h = ap (λ x. eqb x 1) (e k l) ∙ chain_base m k l h
+  chain_fixed m e (suc n) k l h = ap (λ x. eqb x 1) (e k l) ∙ chain_step n m (chain_fixed m e n) k l h
+
+  pub chain_equal : bit_and (bits_after equal) next ≡ 0 → Chains xs t 7 equal
+  chain_equal z = grind (arith, common_steps, chain_fixed, bit_at-zero, bit_at_or)
+
 -- a test and a stricter one that the first index with the weaker one passes keep the same first index
 first_agree : (p q : ℕ → Bool) (a n : ℕ) → ((k : ℕ) → k < a + n → q k ≡ true → p k ≡ true)
     → ((k : ℕ) → k < a + n → p k ≡ true → ((l : ℕ) → l < k → p l ≡ false) → q k ≡ true)
@@ -114,11 +122,10 @@ chained_indices xs t m h =
     let at : 1 * k + 0 ≡ k = omega arith in
     ap (λ j. eqb (bit_at m j) 1) at ∙ h k (omega arith) (omega arith))
 
--- the marks after seven steps are all marks of the match
-pub whole_marks : (m : PairedMask) (next : ℕ) → m.is_whole ≡ false → MarksEqual (group_lanes m.both) (bit_xor m.byte 1) next
-    → mask_indices 1 0 16 (chain (mask_bits m.known) next 7) ≡ paired_indices m
-whole_marks m next not_whole marks_next =
+-- bits that mark all of the match are the whole mask
+pub whole_marks : (m : PairedMask) (bits : ℕ) → m.is_whole ≡ false → Chains (group_lanes m.both) m.byte 7 bits
+    → mask_indices 1 0 16 bits ≡ paired_indices m
+whole_marks m bits not_whole chains =
     let xs = group_lanes m.both in
     let marks = λ (b : Bool). cond b (mask_indices 1 0 16 (mask_bits m.known)) (indices_where (is_half_match_at xs m.byte) 16) in
-    chained_indices xs m.byte (chain (mask_bits m.known) next 7) (chain_is xs m.byte (mask_bits m.known) next (m.equal not_whole) marks_next 7)
-    ∙ sym (ap marks not_whole)
+    chained_indices xs m.byte bits chains ∙ sym (ap marks not_whole)

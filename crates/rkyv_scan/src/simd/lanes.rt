@@ -1,7 +1,7 @@
 //! The group of sixteen control bytes in one vector.
 //!
 //! A match marks the equal bytes and no others. The mask has one bit for each index.
-ghost use Rattle.std.specs.Prelude.{◌≡◌, ℕ, length};
+ghost use Rattle.std.specs.Prelude.{◌≡◌, ℕ, bit_xor, length};
 ghost use Rattle.std.specs.Iterator.{YieldsFirst, item_count};
 ghost use Rattle.std.proofs.Common.{arith, refl};
 
@@ -105,6 +105,17 @@ impl Group {
     {
         let byte_lanes = u8x16::splat(byte);
         self.lanes.simd_eq(byte_lanes).to_bitmask() as u16
+    }
+
+    /// Returns the bits of the indices whose control byte differs from `byte` in the lowest bit only.
+    ///
+    /// It flips the bits of the group: a loop over groups would keep a vector of the other byte.
+    #[inline]
+    pub(crate) fn neighbour_bits(self, byte: u8) -> u16
+        ensures { MarksEqual self.lanes (bit_xor byte 1) result }
+    {
+        let flipped = self.lanes ^ u8x16::splat(1);
+        flipped.simd_eq(u8x16::splat(byte)).to_bitmask() as u16
     }
 }
 

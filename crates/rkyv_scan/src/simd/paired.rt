@@ -47,8 +47,12 @@ impl Bitmask {
         if self.is_whole {
             return self.known;
         }
-        let next = self.both.equal_bits(self.byte ^ 1);
-        lanes::Bitmask::of_bits(chained(self.known.bits(), next))
+        let equal = self.known.bits();
+        let next = self.both.neighbour_bits(self.byte);
+        if after(equal) & next == 0 {
+            return self.known;
+        }
+        lanes::Bitmask::of_bits(chained(equal, next))
     }
 }
 
