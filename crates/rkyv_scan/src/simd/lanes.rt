@@ -107,9 +107,9 @@ impl Group {
         self.lanes.simd_eq(byte_lanes).to_bitmask() as u16
     }
 
-    /// Returns the bits of the indices whose control byte differs from `byte` in the lowest bit only.
+    /// Returns the bits of the indices whose control byte is `byte ^ 1`.
     ///
-    /// It flips the bits of the group: a loop over groups would keep a vector of the other byte.
+    /// It flips the bits of the group, so a loop over groups keeps no vector of that byte.
     #[inline]
     pub(crate) fn neighbour_bits(self, byte: u8) -> u16
         ensures { MarksEqual self.lanes (bit_xor byte 1) result }
