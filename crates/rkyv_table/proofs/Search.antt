@@ -1,6 +1,7 @@
 -- The general steps of a search over strides.
 use Rattle.std.proofs.Common.{◌≡◌, ℕ, zero, suc, ◌+◌, ◌*◌, ◌-◌, ◌/◌, ◌%◌, ◌<◌, ◌≤◌, ◌⊎◌, inl, inr, refl, sym, ap, ◌∙◌, arith, List, [], ◌∷◌, Bool, true, false, cond, eqb, ltb, get_or, take, drop, map, filter, Option, Some, None, add-zero}
 use Rattle.std.proofs.lemmas.Grind.{common_steps}
+use Rattle.std.specs.Iterator.{YieldsFirst}
 use Rattle.std.specs.List.{find, flat_map, list_any, range_with_len}
 use Rattle.std.specs.Option.{option_and_then}
 use Rattle.std.proofs.Math.Nat.{mod-eq_of_lt}
@@ -88,3 +89,12 @@ walk_all cap b free accept kind controls t [] good h = absurd (none-some b h)
 walk_all cap b free accept kind controls t (p ∷ ps) good h =
     walk_on cap b free accept kind controls t p ps (good p (or_left (eqb p p) (list_any (eqb p) ps) (eq-eqb p p refl)))
     (λ none h'. walk_all cap b free accept kind controls t ps (λ q m. good q (or_right (eqb q p) (list_any (eqb q) ps) m)) h') h
+
+-- the strides that a search still reads: the next one, if there is one, and those after it
+abbrev pub ahead : Option ℕ → List ℕ → List ℕ
+ahead None rest = []
+ahead (Some p) rest = p ∷ rest
+
+pub ahead_is : (next : Option ℕ) (before after : List ℕ) → YieldsFirst (λ ps. ps) before next after → before ≡ ahead next after
+ahead_is None before after h = h.0
+ahead_is (Some p) before after h = h

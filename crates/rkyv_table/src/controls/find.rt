@@ -177,12 +177,16 @@ pub fn find_from<G: GroupKind, F: Fn(usize) -> bool>(
         return None;
     }
     let tag = tag(hash);
-    for pos in Probe::starting_at(start, cap) {
+    // A `for` would ask the probe in each lookup whether the stride is the first one.
+    let mut rest = Probe::starting_at(start, cap);
+    let mut next = rest.next();
+    while let Some(pos) = next {
         match scan::<G, F>(strides.stride(controls, pos), pos, cap, tag, &cmp) {
             StrideOutcome::Accepted(bucket) => return Some(bucket),
             StrideOutcome::HasEmpty => return None,
             StrideOutcome::Continue => {}
         }
+        next = rest.next();
     }
     None
 }
