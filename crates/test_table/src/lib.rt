@@ -1,4 +1,4 @@
-//! Tests of the tables of `rkyv_table`: worked examples, and one call of each public function.
+//! Tests of `rkyv_table` and `rkyv_end_to_end`: worked examples, and a call of each function.
 #![tactic(auto)]
 
 #[cfg(test)]

@@ -20,9 +20,11 @@ macro_rules! expect_eq {
 mod archives;
 mod capacities;
 mod changes;
+mod controls;
 mod cursors;
 mod distances;
 mod each;
+mod end_to_end;
 mod examples;
 mod headers;
 mod in_place;

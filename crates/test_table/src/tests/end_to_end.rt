@@ -1,4 +1,4 @@
-//! Tests of a list in both widths, and of archives from other sources.
+//! Lists that the calls of `rkyv_end_to_end` write in both widths, and untrusted archives.
 ghost use Rattle.std.specs.Int.{byte_len};
 ghost use Rattle.std.specs.Prelude.{length, ◌%◌, ◌*◌, ◌+◌, ◌≡◌, ◌≤◌};
 ghost use Rattle.rkyv_base.specs.{LiesIn, Viewable};
@@ -16,13 +16,9 @@ use rkyv_end_to_end::{
 use rkyv_table::{ArchivedHashTable, HashTableResolver, TableOf};
 use std::alloc::{AllocError, Global};
 use std::cell::Cell;
-use std::fmt::{Debug, Display};
+use std::fmt::Display;
 use std::process::Abort;
-
-// Fails the test unless the two are equal, and prints both then.
-fn expect_equal<T: PartialEq + Debug + Drop>(rt: &impl Abort, found: T, expected: T) {
-    assert_eq!(*rt; found, expected);
-}
+use test_support::archives::one_number;
 
 // Returns `true` if the walk, the result and the strides of a lookup are these.
 fn is_report(report: &TableReport, walked: &[u64], found: Option<u64>, strides: u64) -> bool {
@@ -63,7 +59,7 @@ fn a_list_is_found_as_it_was_written(rt: HostRuntime) {
         is_looked_over::<Narrow>(alloc, 48),
         is_looked_over::<Wide>(alloc, 64),
     ];
-    expect_equal(&rt, results, [true; 2]);
+    expect_eq!(rt; results, [true; 2]);
 }
 
 // Does the same with a writer of at most `limit` bytes, and looks over its bytes afterwards.
@@ -111,7 +107,7 @@ fn a_list_is_written_by_any_writer(rt: HostRuntime) {
         is_limited::<Wide>(alloc, 64),
         is_limited::<Wide>(alloc, 63),
     ];
-    expect_equal(&rt, results, [Ok(true), Err(true), Ok(true), Err(true)]);
+    expect_eq!(rt; results, [Ok(true), Err(true), Ok(true), Err(true)]);
 }
 
 // Counts a call of a comparison, and returns `accepts`.
@@ -151,7 +147,7 @@ fn compared_in_bytes(alloc: Global, accepts: bool) -> Option<usize> {
     let calls = Cell::new(0usize);
     let result = look_over::<Narrow, Entry<u32, u32>, _>(
         alloc,
-        &ONE_PAIR,
+        &one_number(),
         48,
         range,
         hash,
@@ -161,6 +157,12 @@ fn compared_in_bytes(alloc: Global, accepts: bool) -> Option<usize> {
         Ok(_) => Some(calls.get()),
         Err(_) => None,
     }
+}
+
+// Looks up a hash in that table, with a comparison that accepts every item.
+fn look(alloc: Global, bytes: &[u8; 60], hash: u64) -> Result<TableReport, LookError> {
+    let range = PartRange { lo: 0, hi: 48 };
+    look_over::<Narrow, Entry<u32, u32>, _>(alloc, bytes, 48, range, hash, |_| true)
 }
 
 // The three items have one tag, and are in the buckets 2, 3 and 1 of four. The first stride begins
@@ -175,7 +177,7 @@ fn one_lookup_is_made(rt: HostRuntime) {
         compared_in_bytes(alloc, true),
         compared_in_bytes(alloc, false),
     ];
-    expect_equal(&rt, compared, [Some(1), Some(2), Some(5), Some(1), Some(2)]);
+    expect_eq!(rt; compared, [Some(1), Some(2), Some(5), Some(1), Some(2)]);
 }
 
 // Writes a number over the first item that is accepted under the hash 2. Returns `None` if there
@@ -264,7 +266,7 @@ fn a_changed_list_is_found_with_its_new_item(rt: HostRuntime) {
     finds_listed(|item| item.to_native() > 10);
     let alloc = rt.alloc();
     let results = [is_changed::<Narrow>(alloc), is_changed::<Wide>(alloc)];
-    expect_equal(&rt, results, [true; 2]);
+    expect_eq!(rt; results, [true; 2]);
 }
 
 // The archive of the list of 10, 20 and 30 after a zero. The table has the buckets 3 to 0 and the
@@ -365,26 +367,12 @@ fn a_list_is_found_with_its_header_further_behind(rt: HostRuntime) {
         is_found_behind::<Narrow>(alloc, &NARROW_BEHIND, 60),
         is_found_behind::<Wide>(alloc, &WIDE_BEHIND, 64),
     ];
-    expect_equal(&rt, results, [true; 4]);
+    expect_eq!(rt; results, [true; 4]);
 }
 
-// The archive of a table of one pair of numbers, in the second of two buckets.
-const ONE_PAIR: [u8; 60] = [
-    0x01, 0x00, 0x00, 0x00, 0x02, 0x00, 0x00, 0x00, 0x00, 0x00, 0x00, 0x00, 0x00, 0x00, 0x00, 0x00,
-    0xff, 0x28, 0xff, 0x28, 0xff, 0xff, 0xff, 0xff, 0xff, 0xff, 0xff, 0xff, 0xff, 0xff, 0xff, 0xff,
-    0xff, 0xff, 0xff, 0xff, 0xff, 0xff, 0xff, 0xff, 0xff, 0xff, 0xff, 0xff, 0xff, 0xff, 0xff, 0x00,
-    0xe0, 0xff, 0xff, 0xff, 0x01, 0x00, 0x00, 0x00, 0x02, 0x00, 0x00, 0x00,
-];
-
-// Looks up a hash in that table, with a comparison that accepts every item.
-fn look(alloc: Global, bytes: &[u8; 60], hash: u64) -> Result<TableReport, LookError> {
-    let range = PartRange { lo: 0, hi: 48 };
-    look_over::<Narrow, Entry<u32, u32>, _>(alloc, bytes, 48, range, hash, |_| true)
-}
-
-// Returns `true` if that lookup has this result, and its walk visits the pair.
+// Returns `true` if a lookup in that table has this result, and its walk visits the pair.
 fn finds(alloc: Global, hash: u64, found: Option<u64>) -> bool {
-    match look(alloc, &ONE_PAIR, hash) {
+    match look(alloc, &one_number(), hash) {
         Ok(report) => is_report(&report, &[0], found, 1),
         Err(_) => false,
     }
@@ -393,7 +381,7 @@ fn finds(alloc: Global, hash: u64, found: Option<u64>) -> bool {
 #[test]
 fn untrusted_bytes_are_reported_or_rejected(rt: HostRuntime) {
     let alloc = rt.alloc();
-    let mut bytes = ONE_PAIR;
+    let mut bytes = one_number();
     bytes[52] = 0;
     let failed = matches!(
         look(alloc, &bytes, 1),
@@ -404,7 +392,7 @@ fn untrusted_bytes_are_reported_or_rejected(rt: HostRuntime) {
     );
     let found = finds(alloc, 0x5000_0000_0000_0001, Some(0));
     let none = finds(alloc, 1, None);
-    expect_equal(&rt, [found, none, failed], [true; 3]);
+    expect_eq!(rt; [found, none, failed], [true; 3]);
 }
 
 // Fails the test unless each of these errors is displayed as the text beside it.
@@ -415,7 +403,7 @@ fn expect_texts<E: Display>(
 ) -> Result<(), AllocError> {
     for (error, text) in rows {
         let shown = format!(in alloc; "{error}")?;
-        expect_equal(rt, shown.as_str(), *text);
+        expect_eq!(*rt; shown.as_str(), *text);
     }
     Ok(())
 }
@@ -451,13 +439,12 @@ fn errors_are_converted_into_those_of_their_names(rt: HostRuntime) {
     errors_are_converted();
     let fault = VerifyError::UnwrappedControlByte { index: 3 };
     let looked = [LookError::from(fault), LookError::from(AllocError)];
-    expect_equal(&rt, looked, [LookError::Verify(fault), LookError::Memory]);
+    expect_eq!(rt; looked, [LookError::Verify(fault), LookError::Memory]);
     let listed = [
         ListError::from(WriteError::CapacityTooLarge { len: 7 }),
         ListError::from(LookError::Memory),
     ];
-    expect_equal(
-        &rt,
+    expect_eq!(rt;
         listed,
         [
             ListError::Write(WriteError::CapacityTooLarge { len: 7 }),

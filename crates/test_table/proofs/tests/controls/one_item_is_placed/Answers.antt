@@ -1,6 +1,6 @@
 use Rattle.std.proofs.Common.{lit<}
 use Rattle.rkyv_table.proofs.WrittenStep.{fresh}
-use Rattle.test_controls.proofs.tests.controls.one_item_is_placed.Goals as goal
+use Rattle.test_table.proofs.tests.controls.one_item_is_placed.Goals as goal
 
 pub place_one-bucket-requires-clause-wrapped : goal.place_one-bucket-requires-clause-wrapped
 place_one-bucket-requires-clause-wrapped g c = (fresh 2 (lit< tt)).wrapped

@@ -1,7 +1,7 @@
 use Rattle.std.proofs.Common.{◌≡◌, ◌∙◌, arith, length, take, drop, ◌++◌}
 use Rattle.std.proofs.lemmas.List.{take-append-le, take_all}
 use Rattle.rkyv_table.proofs.WrittenAccepted.{accepted_written}
-use Rattle.test_controls.proofs.tests.controls.Table.written.Goals as goal
+use Rattle.test_table.proofs.tests.controls.Table.written.Goals as goal
 
 pub invariant_of-result : goal.invariant_of-result
 invariant_of-result g c =
