@@ -59,6 +59,22 @@ pub(crate) fn fifteen_archived() -> [u8; 60] {
     bytes
 }
 
+/// Returns the archive of one bucket without an item.
+pub(crate) fn empty_bucket_archived() -> [u8; 44] {
+    archive(&[0], &[0xe1, 0xff, 0xff, 0xff, 0, 0, 0, 0, 1, 0, 0, 0])
+}
+
+/// Returns the wide archive of the table of the number 7 under the hash 1.
+pub(crate) fn wide_seven_archived() -> [u8; 64] {
+    archive(
+        &[7, 0, 0xff, 0, 0xff, 0],
+        &[
+            0, 0, 0, 0, 0, 0, 0, 0xda, 0xff, 0xff, 0xff, 0xff, 0xff, 0xff, 0xff, 1, 0, 0, 0, 0, 0,
+            0, 0, 2, 0, 0, 0, 0, 0, 0, 0,
+        ],
+    )
+}
+
 /// Returns the archive of the table of `true` and `false`, both under the hash 2.
 pub(crate) fn bools_archived() -> [u8; 48] {
     archive(

@@ -10,8 +10,9 @@ use rkyv_table::controls::laws;
 use rkyv_table::controls::numbers::{
     CapacityError, bucket_of, capacity, control_count, modulus, probe_capacity, tag,
 };
-use rkyv_table::controls::place::{place, place_one};
+use rkyv_table::controls::place::{place, place_from, place_one};
 use rkyv_table::controls::probe::Probe;
+use rkyv_table::controls::reciprocal::Reciprocal;
 use rkyv_table::controls::walk::{Walk, next_full};
 use rkyv_table::controls::wrapped::check_wrapped;
 use std::alloc::{AllocError, Global};
@@ -97,7 +98,8 @@ fn expect_capacities(
     rows: &[(usize, (usize, usize), u64, Result<usize, CapacityError>)],
 ) {
     for (len, load_factor, max, expected) in rows {
-        expect_eq!(*rt; capacity(*len, *load_factor, *max), *expected);
+        let found = capacity(*len, *load_factor, *max);
+        expect_eq!(*rt; (*len, *load_factor, found), (*len, *load_factor, *expected));
     }
 }
 
@@ -215,6 +217,27 @@ fn sizes_and_tags_are_computed(rt: HostRuntime) {
             [2, 0, 2]
         )
     );
+}
+
+#[test]
+fn the_rest_of_a_division(rt: HostRuntime) {
+    let rests = [
+        (Reciprocal::new(1).remainder(u64::MAX), 0),
+        (Reciprocal::new(3).remainder(u64::MAX), 0),
+        (Reciprocal::new(5).remainder(5), 0),
+        (Reciprocal::new(7).remainder(6), 6),
+        (Reciprocal::new(10).remainder(u64::MAX), 5),
+        (
+            Reciprocal::new(1 << 63).remainder(u64::MAX),
+            9_223_372_036_854_775_807,
+        ),
+        (
+            Reciprocal::new(u64::MAX).remainder(u64::MAX - 1),
+            18_446_744_073_709_551_614,
+        ),
+        (Reciprocal::new(u64::MAX).remainder(u64::MAX), 0),
+    ];
+    expect_eq!(rt; rests.map(|(found, _)| found), rests.map(|(_, rest)| rest));
 }
 
 // Returns the first four indices of a probe sequence.
@@ -340,12 +363,16 @@ fn items_are_placed(rt: HostRuntime) {
     expect_eq!(rt; right, [true; 8]);
 }
 
+// The second item is placed from the start of its hash, bucket 1, and its tag is 0x29.
 #[test]
 fn one_item_is_placed(rt: HostRuntime) {
     let mut controls = [0xffu8; 31];
     let bucket = place_one::<generic::Group>(&mut controls, 2, hash_of(1));
     let written = controls[..5] == [0xff, 0x28, 0xff, 0x28, 0xff];
-    expect_eq!(rt; (bucket, written), (1, true));
+    let mut others = [0xffu8; 31];
+    let other = place_from::<generic::Group>(&mut others, 3, 1, 0x5200_0000_0000_0000);
+    let other_written = others[..7] == [0xff, 0x29, 0xff, 0xff, 0x29, 0xff, 0xff];
+    expect_eq!(rt; [(bucket, written), (other, other_written)], [(1, true); 2]);
 }
 
 // The buckets that a lookup accepts.

@@ -1,95 +1,136 @@
-//! Headers of written tables.
-ghost use Rattle.std.specs.Prelude.{◌+◌, ◌<◌, ◌^◌};
+//! Headers of written tables, at distances that fit their width and at larger ones.
+ghost use Rattle.std.specs.Prelude.{length, ◌≡◌};
 
 use crate::tests::archives::hash_of_u32;
-use rkyv_base::{Entry, Narrow, NoMemory, VecWriter, Wide, WriteError};
+use rkyv_base::{Narrow, NoMemory, Serialize, VecWriter, Wide, Width, WriteError};
 use rkyv_table::{ArchivedHashTable, HashTableResolver};
 use std::alloc::Global;
+use std::process::Abort;
 
-// Returns the resolver of the table of the pair 1 and 2, which is at position 16.
-fn one_pair(alloc: Global) -> Result<HashTableResolver, WriteError<NoMemory>> {
+// Writes the table of one item under a hash from position 0 on.
+fn write_item<W: Width, U: Serialize<VecWriter, W>>(
+    alloc: Global,
+    item: &[U],
+    hash: u64,
+) -> Result<HashTableResolver<W>, WriteError<NoMemory>> {
     let mut writer = VecWriter::new(alloc);
-    ArchivedHashTable::<_, Narrow>::serialize_from_iter::<VecWriter, (u32, u32), (u32, u32), _, _>(
+    ArchivedHashTable::<U::Archived, W>::serialize_from_iter::<VecWriter, U, &U, _, _>(
         alloc,
-        [(1u32, 2u32)].into_iter(),
-        [hash_of_u32(1)].into_iter(),
-        1,
+        item.iter(),
+        [hash].into_iter(),
+        item.len(),
         (7, 8),
         &mut writer,
     )
 }
 
-// Returns the bytes of that table's header at a position, whether the distance fits,
-// and the position of the table. The header is written over sevens.
-fn header_at(alloc: Global, pos: u32) -> Result<([u8; 12], bool, u64), WriteError<NoMemory>> {
-    let resolver = one_pair(alloc)?;
-    let first_control = resolver.pos();
-    let (len, load_factor) = (resolver.len(), resolver.load_factor());
-    let mut header = [7u8; 12];
-    let fits = ArchivedHashTable::<Entry<u32, u32>, Narrow>::resolve_from_len(
-        len,
-        load_factor,
-        resolver,
-        u64::from(pos),
-        &mut header,
-    ).is_ok();
-    Ok((header, fits, first_control))
+// Writes the table of one item under a hash, and its header at `pos`, by the table and by its
+// resolver. Returns the position of the control bytes, and for each whether the distance fits.
+fn write_headers<W: Width, U: Serialize<VecWriter, W>>(
+    alloc: Global,
+    item: &[U],
+    hash: u64,
+    pos: u64,
+    by_table: &mut [u8],
+    by_resolver: &mut [u8],
+) -> Result<(u64, [bool; 2]), WriteError<NoMemory>>
+    requires first { length by_table.old ≡ W.TABLE_SIZE }
+    requires second { length by_resolver.old ≡ W.TABLE_SIZE }
+{
+    let resolver = write_item::<W, U>(alloc, item, hash)?;
+    let second = write_item::<W, U>(alloc, item, hash)?;
+    let (controls, len, load_factor) = (resolver.pos(), resolver.len(), resolver.load_factor());
+    let fits = [
+        ArchivedHashTable::<U::Archived, W>::resolve_from_len(
+            len,
+            load_factor,
+            resolver,
+            pos,
+            by_table,
+        ).is_ok(),
+        second.resolve(pos, by_resolver).is_ok(),
+    ];
+    Ok((controls, fits))
 }
+
+// Fails the test unless the table of one item has its control bytes at `controls`, and each header
+// is right. A row has the position of a header and its bytes, or `None` if the distance is too
+// large. Then the bytes remain `before`.
+fn expect_headers<W: Width, U: Serialize<VecWriter, W>, const N: usize>(
+    rt: &impl Abort,
+    alloc: Global,
+    item: &[U],
+    hash: u64,
+    controls: u64,
+    before: [u8; N],
+    rows: &[(u64, Option<[u8; N]>)],
+)
+    requires size { N ≡ W.TABLE_SIZE }
+{
+    for (pos, header) in rows {
+        let (mut first, mut second) = (before, before);
+        let written = write_headers::<W, U>(alloc, item, hash, *pos, &mut first, &mut second);
+        let fits = Some((controls, [header.is_some(); 2]));
+        let expected = header.unwrap_or(before);
+        expect_eq!(*rt; (*pos, written.ok(), first, second), (*pos, fits, expected, expected));
+    }
+}
+
+const BEFORE: [u8; 12] = [1, 2, 3, 4, 5, 6, 7, 8, 9, 10, 11, 12];
+
+const NEAR: [u8; 12] = [0xe0, 0xff, 0xff, 0xff, 1, 0, 0, 0, 2, 0, 0, 0];
+
+const FARTHEST: [u8; 12] = [0, 0, 0, 0x80, 1, 0, 0, 0, 2, 0, 0, 0];
+
+const OF_PAIR: &[(u64, Option<[u8; 12]>)] = &[
+    (48, Some(NEAR)),
+    (2_147_483_664, Some(FARTHEST)),
+    (2_147_483_668, None),
+];
+
+const OF_SEVEN: &[(u64, Option<[u8; 12]>)] = &[
+    (2_147_483_650, Some(FARTHEST)),
+    (2_147_483_651, None),
+    (4_294_967_295, None),
+];
 
 #[test]
 fn distances_have_32_bits(rt: HostRuntime) {
     let alloc = rt.alloc();
-    let headers = [
-        header_at(alloc, 48).ok(),
-        header_at(alloc, 2_147_483_664).ok(),
-        header_at(alloc, 2_147_483_668).ok(),
-    ];
-    let near_header = [0xe0, 0xff, 0xff, 0xff, 1, 0, 0, 0, 2, 0, 0, 0];
-    let farthest_header = [0, 0, 0, 0x80, 1, 0, 0, 0, 2, 0, 0, 0];
-    expect_eq!(rt;
-        headers,
-        [
-            Some((near_header, true, 16)),
-            Some((farthest_header, true, 16)),
-            Some(([7; 12], false, 16))
-        ]
+    expect_headers::<Narrow, _, 12>(
+        &rt,
+        alloc,
+        &[(1u32, 2u32)],
+        hash_of_u32(1),
+        16,
+        BEFORE,
+        OF_PAIR,
     );
+    expect_headers::<Narrow, _, 12>(&rt, alloc, &[7u8], 0, 2, BEFORE, OF_SEVEN);
 }
 
-// Returns the header of a table of one byte at position 2 in a wide archive, and whether
-// the distance fits.
-fn wide_header_at(alloc: Global, pos: u64) -> Result<([u8; 24], bool), WriteError<NoMemory>>
-    requires { pos + 24 < 2 ^ 64 }
-{
-    let mut writer = VecWriter::new(alloc);
-    let resolver = ArchivedHashTable::<u8, Wide>::serialize_from_iter::<VecWriter, u8, u8, _, _>(
-        alloc,
-        [7u8].into_iter(),
-        [0u64].into_iter(),
-        1,
-        (7, 8),
-        &mut writer,
-    )?;
-    let (len, load_factor) = (resolver.len(), resolver.load_factor());
-    let mut header = [7u8; 24];
-    let fits = ArchivedHashTable::<u8, Wide>::resolve_from_len(
-        len,
-        load_factor,
-        resolver,
-        pos,
-        &mut header,
-    ).is_ok();
-    Ok((header, fits))
-}
+const BEFORE_WIDE: [u8; 24] = [
+    1, 2, 3, 4, 5, 6, 7, 8, 9, 10, 11, 12, 13, 14, 15, 16, 17, 18, 19, 20, 21, 22, 23, 24,
+];
+
+const WIDE_FAR: [u8; 24] = [
+    2, 0, 0, 0, 0xff, 0xff, 0xff, 0xff, 1, 0, 0, 0, 0, 0, 0, 0, 2, 0, 0, 0, 0, 0, 0, 0,
+];
+
+const WIDE_FARTHEST: [u8; 24] = [
+    0, 0, 0, 0, 0, 0, 0, 0x80, 1, 0, 0, 0, 0, 0, 0, 0, 2, 0, 0, 0, 0, 0, 0, 0,
+];
+
+const OF_WIDE_SEVEN: &[(u64, Option<[u8; 24]>)] = &[
+    (4_294_967_296, Some(WIDE_FAR)),
+    (9_223_372_036_854_775_810, Some(WIDE_FARTHEST)),
+    (9_223_372_036_854_775_811, None),
+    (18_446_744_073_709_551_000, None),
+    (18_446_744_073_709_551_591, None),
+];
 
 #[test]
 fn distances_of_wide_archives_have_64_bits(rt: HostRuntime) {
-    let headers = [
-        wide_header_at(rt.alloc(), 4_294_967_296).ok(),
-        wide_header_at(rt.alloc(), 18_446_744_073_709_551_000).ok(),
-    ];
-    let far_header = [
-        2, 0, 0, 0, 0xff, 0xff, 0xff, 0xff, 1, 0, 0, 0, 0, 0, 0, 0, 2, 0, 0, 0, 0, 0, 0, 0,
-    ];
-    expect_eq!(rt; headers, [Some((far_header, true)), Some(([7; 24], false))]);
+    let alloc = rt.alloc();
+    expect_headers::<Wide, _, 24>(&rt, alloc, &[7u8], 0, 2, BEFORE_WIDE, OF_WIDE_SEVEN);
 }

@@ -1,12 +1,12 @@
 //! Lookups: the found item, and the number of strides and items that are read.
 
 use crate::tests::archives::{
-    EVEN_TAG, archived, fifteen_archived, hash_of_i8, hash_of_u32, hash_of_usize, sixteen_archived,
-    tags_archived, two_archived,
+    EVEN_TAG, archived, empty_bucket_archived, fifteen_archived, hash_of_i8, hash_of_u32,
+    hash_of_usize, sixteen_archived, tags_archived, two_archived, wide_seven_archived,
 };
 use crate::tests::reading::{counts, counts_and_lookup, first_pos, value_of, value_of_small};
 use rkyv_base::access::access;
-use rkyv_base::{Element, Entry, Narrow, VerifyError, Width, access_in};
+use rkyv_base::{Element, Entry, Narrow, VerifyError, Wide, Width, access_in};
 use rkyv_scan::simd::{bytewise, generic, lanes, paired};
 use rkyv_scan::{FxHasher64, FxHasher64Wide, GroupKind};
 use rkyv_table::controls::numbers::start;
@@ -40,13 +40,13 @@ pub(crate) fn is_accepted(number: u8, accepted: Accepted<'_>) -> bool {
     }
 }
 
-/// Returns the number that is found under a hash, and the number of strides that are read.
-pub(crate) fn counted(
+// Returns the number that is found under a hash, and the number of strides that are read.
+fn counted<W: Width>(
     bytes: &[u8],
     hash: u64,
     accepted: Accepted<'_>,
 ) -> Result<(Option<u8>, u64), VerifyError> {
-    let view = access::<TableOf<u8>>(bytes)?;
+    let view = access_in::<W, TableOf<u8, W>>(bytes)?;
     let mut strides = Strides::new();
     let found = ArchivedHashTable::of(view).get_counted(
         hash,
@@ -60,22 +60,17 @@ pub(crate) fn counted(
     Ok((number, strides.count()))
 }
 
-/// Fails the test unless each of these lookups has its result.
-///
-/// A row has the hash, the number that is looked up, and the result: the number that is found, and
-/// the number of strides that are read.
-pub(crate) fn expect_counted(rt: &impl Abort, bytes: &[u8], rows: &[(u64, u8, (Option<u8>, u64))]) {
+// Fails the test unless each of these lookups has its result. A row has the hash, the number that
+// is looked up, and the result: the number that is found, and the number of strides that are read.
+fn expect_counted<W: Width>(rt: &impl Abort, bytes: &[u8], rows: &[(u64, u8, (Option<u8>, u64))]) {
     for (hash, number, expected) in rows {
-        expect_eq!(*rt; counted(bytes, *hash, Accepted::Only(*number)), Ok(*expected));
+        let found = counted::<W>(bytes, *hash, Accepted::Only(*number));
+        expect_eq!(*rt; (*hash, *number, found), (*hash, *number, Ok(*expected)));
     }
 }
 
-/// Returns the number that is found under a hash.
-pub(crate) fn viewed(
-    bytes: &[u8],
-    hash: u64,
-    accepted: Accepted<'_>,
-) -> Result<Option<u8>, VerifyError> {
+// Returns the number that is found under a hash.
+fn viewed(bytes: &[u8], hash: u64, accepted: Accepted<'_>) -> Result<Option<u8>, VerifyError> {
     let view = access::<TableOf<u8>>(bytes)?;
     let table = ArchivedHashTable::of(view);
     match table.get_with(hash, |item| is_accepted(item.to_native(), accepted)) {
@@ -84,15 +79,22 @@ pub(crate) fn viewed(
     }
 }
 
-/// Returns the position of the number that is found under a hash.
-pub(crate) fn placed(
-    bytes: &[u8],
-    hash: u64,
-    accepted: Accepted<'_>,
-) -> Result<Option<u64>, VerifyError> {
+// Returns the position of the number that is found under a hash.
+fn placed(bytes: &[u8], hash: u64, accepted: Accepted<'_>) -> Result<Option<u64>, VerifyError> {
     let view = access::<TableOf<u8>>(bytes)?;
     let table = ArchivedHashTable::of(view);
     Ok(table.get_pos_with(hash, |item| is_accepted(item.to_native(), accepted)))
+}
+
+// Fails the test unless each of these lookups finds its item. A row has the hash, the number that
+// is looked up, and the position of the item.
+fn expect_placed(rt: &impl Abort, bytes: &[u8], rows: &[(u64, u8, Option<u64>)]) {
+    for (hash, number, pos) in rows {
+        let accepted = Accepted::Only(*number);
+        let found = if pos.is_some() { Some(*number) } else { None };
+        expect_eq!(*rt; viewed(bytes, *hash, accepted), Ok(found));
+        expect_eq!(*rt; placed(bytes, *hash, accepted), Ok(*pos));
+    }
 }
 
 // Returns the number that is found under a hash, by groups of the kind `G`.
@@ -207,8 +209,8 @@ fn the_first_of_two_under_one_hash_is_found(rt: HostRuntime) {
     let archive = two_archived();
     let bytes: &[u8] = &archive;
     expect_eq!(rt; found(bytes, 2, Accepted::Each), [Ok(Some(10)); 4]);
-    expect_eq!(rt; counted(bytes, 2, Accepted::Each), Ok((Some(10), 1)));
-    expect_counted(
+    expect_eq!(rt; counted::<Narrow>(bytes, 2, Accepted::Each), Ok((Some(10), 1)));
+    expect_counted::<Narrow>(
         &rt,
         bytes,
         &[
@@ -258,7 +260,7 @@ fn an_item_of_no_bytes_is_found(rt: HostRuntime) {
 fn starts_of_one_stride(bytes: &[u8]) -> usize {
     let mut count = 0usize;
     for start in 0..16 {
-        if counted(bytes, start, Accepted::Only(0)) == Ok((None, 1)) {
+        if counted::<Narrow>(bytes, start, Accepted::Only(0)) == Ok((None, 1)) {
             count = count.wrapping_add(1);
         }
     }
@@ -285,18 +287,26 @@ fn sixteen_buckets_are_one_stride(rt: HostRuntime) {
     expect_eq!(rt; starts_of_one_stride(&fifteen_archived()), 16);
 }
 
+// Of seventeen buckets the last one has the first item, and the first fifteen have the others.
 #[test]
 fn the_second_stride_is_read_where_the_first_is_full(rt: HostRuntime) {
     let archive = sixteen_archived();
     let bytes: &[u8] = &archive;
-    expect_counted(
+    expect_counted::<Narrow>(
         &rt,
         bytes,
         &[
             (16, 1, (Some(1), 1)),
             (16, 16, (Some(16), 1)),
             (16, 17, (None, 2)),
+            (0, 1, (None, 1)),
+            (33, 1, (Some(1), 1)),
         ],
+    );
+    expect_placed(
+        &rt,
+        bytes,
+        &[(16, 1, Some(0)), (16, 2, Some(16)), (16, 17, None)],
     );
     expect_eq!(rt; found(bytes, 16, Accepted::Only(9)), [Ok(Some(9)); 4]);
 }
@@ -353,7 +363,7 @@ fn unsuccessful_lookup_compares_each_item(rt: HostRuntime) {
     let (by_view, by_pos, by_count) = (CallRecord::new(), CallRecord::new(), CallRecord::new());
     expect_eq!(rt; viewed(bytes, 16, Accepted::Nothing(&by_view)), Ok(None));
     expect_eq!(rt; placed(bytes, 16, Accepted::Nothing(&by_pos)), Ok(None));
-    expect_eq!(rt; counted(bytes, 16, Accepted::Nothing(&by_count)), Ok((None, 2)));
+    expect_eq!(rt; counted::<Narrow>(bytes, 16, Accepted::Nothing(&by_count)), Ok((None, 2)));
     expect_eq!(rt; [by_view.are_all(), by_pos.are_all(), by_count.are_all()], [true; 3]);
     let by_kind = [
         compared_by::<bytewise::Group>(bytes),
@@ -371,8 +381,24 @@ fn an_empty_table_is_not_read(rt: HostRuntime) {
     expect_eq!(rt; is_empty_copied::<u8>(bytes), Some(true));
     expect_eq!(rt; counts_and_lookup::<u8>(bytes, 2), Ok((true, 0, 0, true)));
     expect_eq!(rt; first_pos::<u8, Narrow>(bytes, 2), Ok(None));
-    expect_eq!(rt; counted(bytes, 2, Accepted::Each), Ok((None, 0)));
+    expect_eq!(rt; counted::<Narrow>(bytes, 2, Accepted::Each), Ok((None, 0)));
     expect_eq!(rt; found(bytes, 2, Accepted::Each), [Ok(None); 4]);
+    expect_counted::<Narrow>(&rt, bytes, &[(3, 0, (None, 0))]);
+    expect_counted::<Narrow>(&rt, &empty_bucket_archived(), &[(3, 0, (None, 0))]);
+    expect_placed(&rt, bytes, &[(3, 0, None)]);
+}
+
+#[test]
+fn a_wide_table_is_looked_up(rt: HostRuntime) {
+    expect_counted::<Wide>(
+        &rt,
+        &wide_seven_archived(),
+        &[
+            (1, 7, (Some(7), 1)),
+            (0, 7, (Some(7), 1)),
+            (1, 8, (None, 1)),
+        ],
+    );
 }
 
 // A group of one word marks a tag that differs in the lowest bit right above an equal one.
@@ -386,13 +412,13 @@ fn items_of_another_hash_may_be_compared(rt: HostRuntime) {
         found(bytes, EVEN_TAG, second),
         [Ok(None), Ok(Some(20)), Ok(None), Ok(Some(20))]
     );
-    expect_counted(&rt, bytes, &[(EVEN_TAG, 20, (Some(20), 1))]);
+    expect_counted::<Narrow>(&rt, bytes, &[(EVEN_TAG, 20, (Some(20), 1))]);
 }
 
 #[test]
 fn comparison_may_change_its_result(rt: HostRuntime) {
     let called = Cell::new(false);
-    let found = counted(&two_archived(), 2, Accepted::AfterFirst(&called));
+    let found = counted::<Narrow>(&two_archived(), 2, Accepted::AfterFirst(&called));
     expect_eq!(rt; found, Ok((Some(20), 1)));
 }
 
