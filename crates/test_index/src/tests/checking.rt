@@ -1,6 +1,6 @@
 //! Tests of valid and invalid archives of index maps.
 
-use crate::tests::archives::{no_pairs, no_wide_pairs, one_pair, wide_pair};
+use crate::tests::archives::{no_pairs, no_wide_pairs, one_pair};
 use crate::tests::forms::expect_found;
 use crate::tests::lookups::counts;
 use crate::tests::opened::{map_in, small_map};
@@ -93,9 +93,4 @@ fn the_row_of_no_entries_is_validated(rt: HostRuntime) {
             Err(VerifyError::Unaligned { pos: 1, align: 4 })
         )
     );
-}
-
-#[test]
-fn a_wide_map_is_accepted(rt: HostRuntime) {
-    expect_found::<Wide>(&rt, &wide_pair(), &[(1, Some((0, 1, 2)))]);
 }

@@ -38,7 +38,7 @@ pub(crate) fn counts(bytes: &[u8]) -> Result<(usize, usize), VerifyError> {
 }
 
 #[test]
-fn a_key_is_found_with_its_index(rt: HostRuntime) {
+fn a_pair_is_found_by_its_index(rt: HostRuntime) {
     index_maps_are_laid_out::<Narrow, FxHasher64, i8, i8, i8, i8>();
     items_are_yielded::<i8, i8>();
     pairs_at_are_listed::<i8, i8, i8, i8, FxHasher64, Narrow>();
@@ -49,7 +49,6 @@ fn a_key_is_found_with_its_index(rt: HostRuntime) {
     scalars_found_are_listed::<i8, i8, i8, i8, FxHasher64, Narrow>();
     texts_found_are_listed::<i8, i8, i8, FxHasher64, Narrow>();
     let four = four_entries();
-    expect_found::<Narrow>(&rt, &four, &[(7, Some((3, 7, 8))), (9, None)]);
     expect_eq!(rt; [pair_at(&four, 1), pair_at(&four, 4)], [Ok(Some((3, 4))), Ok(None)]);
 }
 
@@ -80,11 +79,6 @@ fn found_by_all_bits(bytes: &[u8], key: i8) -> Result<Option<(usize, i8, i8)>, V
 #[test]
 fn lookup_under_the_hasher_that_feeds_all_bits(rt: HostRuntime) {
     expect_eq!(rt; found_by_all_bits(&one_pair(), 1), Ok(Some((0, 1, 2))));
-}
-
-#[test]
-fn every_form_finds_the_same(rt: HostRuntime) {
-    expect_found::<Narrow>(&rt, &four_entries(), &[(5, Some((2, 5, 6)))]);
 }
 
 // Accepts each key.
@@ -177,56 +171,30 @@ fn next_value(rest: &mut Values<'_, i8, i8>) -> Option<i8> {
     }
 }
 
-// Walks over the pairs of a map. Returns the results of the first six steps. Then come `len` and
+// Takes six steps of an iterator by a function. Returns their results, and then `len` and
 // `size_hint` before the steps, after two of them and after all.
+macro_rules! six_steps {
+    ($rest:expr, $next:path) => {{
+        let mut rest = $rest;
+        let before = (rest.len(), rest.size_hint());
+        let (first, second) = ($next(&mut rest), $next(&mut rest));
+        let after_two = (rest.len(), rest.size_hint());
+        let (third, fourth) = ($next(&mut rest), $next(&mut rest));
+        let steps = [first, second, third, fourth, $next(&mut rest), $next(&mut rest)];
+        (steps, [before, after_two, (rest.len(), rest.size_hint())])
+    }};
+}
+
 fn pairs_of(bytes: &[u8]) -> Result<([Option<(i8, i8)>; 6], Lengths), VerifyError> {
-    let mut rest = small_map(bytes)?.iter();
-    let before = (rest.len(), rest.size_hint());
-    let (first, second) = (next_pair(&mut rest), next_pair(&mut rest));
-    let after_two = (rest.len(), rest.size_hint());
-    let steps = [
-        first,
-        second,
-        next_pair(&mut rest),
-        next_pair(&mut rest),
-        next_pair(&mut rest),
-        next_pair(&mut rest),
-    ];
-    Ok((steps, [before, after_two, (rest.len(), rest.size_hint())]))
+    Ok(six_steps!(small_map(bytes)?.iter(), next_pair))
 }
 
-// Does the same with keys.
 fn keys_of(bytes: &[u8]) -> Result<([Option<i8>; 6], Lengths), VerifyError> {
-    let mut rest = small_map(bytes)?.keys();
-    let before = (rest.len(), rest.size_hint());
-    let (first, second) = (next_key(&mut rest), next_key(&mut rest));
-    let after_two = (rest.len(), rest.size_hint());
-    let steps = [
-        first,
-        second,
-        next_key(&mut rest),
-        next_key(&mut rest),
-        next_key(&mut rest),
-        next_key(&mut rest),
-    ];
-    Ok((steps, [before, after_two, (rest.len(), rest.size_hint())]))
+    Ok(six_steps!(small_map(bytes)?.keys(), next_key))
 }
 
-// Does the same with values.
 fn values_of(bytes: &[u8]) -> Result<([Option<i8>; 6], Lengths), VerifyError> {
-    let mut rest = small_map(bytes)?.values();
-    let before = (rest.len(), rest.size_hint());
-    let (first, second) = (next_value(&mut rest), next_value(&mut rest));
-    let after_two = (rest.len(), rest.size_hint());
-    let steps = [
-        first,
-        second,
-        next_value(&mut rest),
-        next_value(&mut rest),
-        next_value(&mut rest),
-        next_value(&mut rest),
-    ];
-    Ok((steps, [before, after_two, (rest.len(), rest.size_hint())]))
+    Ok(six_steps!(small_map(bytes)?.values(), next_value))
 }
 
 #[test]
@@ -248,11 +216,15 @@ fn lengths_of_walks_are_exact(rt: HostRuntime) {
     expect_eq!(rt; values_of(&bytes), Ok((values, left)));
 }
 
+// In the changed archive, the buckets of both keys have the index 0.
 #[test]
 fn of_equal_keys_the_first_is_found(rt: HostRuntime) {
     let bytes = one_key_twice();
-    expect_found::<Narrow>(&rt, &bytes, &[(1, Some((0, 1, 2)))]);
-    expect_eq!(rt; (counts(&bytes), pair_at(&bytes, 1)), (Ok((2, 1)), Ok(Some((1, 9)))));
+    let mut changed = bytes;
+    changed[4] = 0;
+    expect_found::<Narrow>(&rt, &changed, &[(1, Some((0, 1, 2)))]);
+    expect_eq!(rt; [counts(&bytes), counts(&changed)], [Ok((2, 1)); 2]);
+    expect_eq!(rt; pair_at(&bytes, 1), Ok(Some((1, 9))));
 }
 
 #[test]
@@ -310,14 +282,7 @@ fn strides_of_seventeen_keys_under_one_hash(rt: HostRuntime) -> Result<(), Fail>
     Ok(())
 }
 
-#[test]
-fn an_index_in_two_buckets(rt: HostRuntime) {
-    let mut bytes = one_key_twice();
-    bytes[4] = 0;
-    expect_found::<Narrow>(&rt, &bytes, &[(1, Some((0, 1, 2)))]);
-    expect_eq!(rt; counts(&bytes), Ok((2, 1)));
-}
-
+// The hash of 5 doesn't lead to the bucket of the key that was changed to 5.
 #[test]
 fn a_key_that_was_changed_is_misplaced(rt: HostRuntime) {
     let mut bytes = one_pair();
