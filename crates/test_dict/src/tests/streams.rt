@@ -5,7 +5,6 @@ use rkyv_dict::run::{RunError, exit_status, run};
 use std::alloc::{AllocError, Global};
 use std::io;
 use std::io::{Read, Write};
-use std::process::Abort;
 
 /// A reader of at most `most` bytes at a time. It fails once with `kind`, at `fails_at` bytes left.
 #[derive(Drop)]
@@ -113,46 +112,35 @@ fn messages(alloc: Global) -> Result<String, AllocError> {
     format!(in alloc; "{read}, {write}, {memory}")
 }
 
-// Fails the test unless each of these outcomes has this exit status.
-fn expect_statuses(rt: &impl Abort, rows: &[(Result<(), RunError>, u8)]) {
-    for (outcome, status) in rows {
-        expect_eq!(*rt; exit_status(outcome), *status);
-    }
-}
-
 #[test]
 fn outcomes_have_messages_and_exit_statuses(rt: HostRuntime) -> Result<(), AllocError> {
     let text = messages(rt.alloc())?;
     expect_eq!(rt; text.as_str(), "read fault, write fault, no memory");
-    expect_statuses(
-        &rt,
-        &[
-            (Ok(()), 0),
-            (Err(RunError::Read), 2),
-            (Err(RunError::Write), 3),
-            (Err(RunError::Memory), 4),
-        ],
-    );
+    let (read, write, memory) = (RunError::Read, RunError::Write, RunError::Memory);
+    for (outcome, status) in [
+        (Ok(()), 0),
+        (Err(read), 2),
+        (Err(write), 3),
+        (Err(memory), 4),
+    ] {
+        expect_eq!(rt; exit_status(&outcome), status);
+    }
     Ok(())
 }
 
+// A row has the error, the greatest number of bytes of a read, and the number of bytes left.
 #[test]
 fn a_read_that_fails_ends_the_run(rt: HostRuntime) {
-    let (alloc, kind) = (rt.alloc(), io::ErrorKind::Other);
-    let (at_the_end, nothing) = read_fails(alloc, kind, 1, 0);
-    let (in_the_middle, none_then) = read_fails(alloc, kind, 1, 20);
-    let (at_once, none_still) = read_fails(alloc, kind, 100, SCRIPT.len());
-    let written = [nothing.len(), none_then.len(), none_still.len()];
-    expect_eq!(rt;
-        ((at_the_end, in_the_middle, at_once), written),
-        ((2, 2, 2), [0, 0, 0])
-    );
-}
-
-#[test]
-fn an_interrupted_read_ends_the_run(rt: HostRuntime) {
-    let (status, written) = read_fails(rt.alloc(), io::ErrorKind::Interrupted, 1, 20);
-    expect_eq!(rt; (status, written.len()), (2, 0));
+    let rows = [
+        (io::ErrorKind::Other, 1, 0),
+        (io::ErrorKind::Other, 1, 20),
+        (io::ErrorKind::Other, 100, SCRIPT.len()),
+        (io::ErrorKind::Interrupted, 1, 20),
+    ];
+    for (kind, most, left) in rows {
+        let (status, written) = read_fails(rt.alloc(), kind, most, left);
+        expect_eq!(rt; (kind, left, status, written.len()), (kind, left, 2, 0));
+    }
 }
 
 #[test]
@@ -171,18 +159,19 @@ fn many_reads_are_made(rt: HostRuntime) -> Result<(), AllocError> {
     Ok(())
 }
 
+// A row has the greatest number of bytes of a write, the number of bytes after which it fails, the
+// exit status and the written text.
 #[test]
 fn failed_write_leaves_a_prefix(rt: HostRuntime) {
     expect_eq!(rt; first_wrong_prefix(rt.alloc(), 7), None);
-    let (whole, all) = write_fails(rt.alloc(), 1, EXPECTED_OUTPUT.len());
-    expect_eq!(rt; whole, 0);
-    expect_eq!(rt; all.as_slice(), EXPECTED_OUTPUT.as_bytes());
-}
-
-#[test]
-fn a_write_that_takes_nothing_fails(rt: HostRuntime) {
-    let (status, taken) = write_fails(rt.alloc(), 0, 9);
-    expect_eq!(rt; (status, taken.as_slice()), (3, b"".as_slice()));
+    let rows = [
+        (1, EXPECTED_OUTPUT.len(), 0, EXPECTED_OUTPUT),
+        (0, 9, 3, ""),
+    ];
+    for (most, left, status, output) in rows {
+        let (found, taken) = write_fails(rt.alloc(), most, left);
+        expect_eq!(rt; (most, found, taken.as_slice()), (most, status, output.as_bytes()));
+    }
 }
 
 #[test]
