@@ -12,6 +12,7 @@ use rkyv_base::{Narrow, NoMemory, Text, VerifyError, WriteError, to_bytes};
 use rkyv_collections::map::laws::list_archives::scalars_found_are_listed;
 use rkyv_collections::{ArchivedHashMap, FxHasher64, HashMapOf, MapPairs};
 use std::alloc::Global;
+use std::test::Fail;
 
 /// Writes the archive of the symbols, each a name with its address.
 ///
@@ -46,4 +47,16 @@ pub fn look_up(table: &[u8], name: &str) -> Result<Option<u64>, VerifyError>
         Some(address) => Ok(Some(address.to_native())),
         None => Ok(None),
     }
+}
+
+/// Writes the symbols, and looks up a name in their table.
+///
+/// # Errors
+///
+/// - The errors of `write` and of `look_up`.
+pub fn round_trip(alloc: Global, symbols: &[(&str, u64)], name: &str) -> Result<Option<u64>, Fail>
+    ensures { IfOk result (λ address. address ≡ first_of_text name.now symbols.now) }
+{
+    let table = write(alloc, symbols)?;
+    Ok(look_up(table.as_slice(), name)?)
 }
