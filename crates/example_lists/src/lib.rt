@@ -6,6 +6,7 @@
 //! fault of other bytes.
 #![tactic(auto)]
 
+pub mod containers;
 pub mod in_place;
 pub mod index_maps;
 pub mod maps;
