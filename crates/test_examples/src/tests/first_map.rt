@@ -1,6 +1,6 @@
 //! The first map, which the pages print.
 
-use example_first_map::{look_up, write};
+use example_first_map::{look_up, round_trip, write};
 use std::alloc::Global;
 use std::test::Fail;
 
@@ -18,5 +18,14 @@ fn looked_up(alloc: Global) -> Result<(Option<u64>, Option<u64>, bool), Fail> {
 fn the_first_address_is_looked_up(rt: HostRuntime) -> Result<(), Fail> {
     let found = looked_up(rt.alloc())?;
     expect_eq!(rt; found, (Some(0x1139), None, true));
+    Ok(())
+}
+
+#[test]
+fn a_round_trip_finds_the_first_address(rt: HostRuntime) -> Result<(), Fail> {
+    let symbols = [("main", 0x1139), ("top", u64::MAX), ("main", 1)];
+    let main = round_trip(rt.alloc(), &symbols, "main")?;
+    let puts = round_trip(rt.alloc(), &symbols, "puts")?;
+    expect_eq!(rt; (main, puts), (Some(0x1139), None));
     Ok(())
 }

@@ -1,5 +1,6 @@
 //! Tests of `example_lists`.
 
+mod containers;
 mod in_place;
 mod index_maps;
 mod maps;
