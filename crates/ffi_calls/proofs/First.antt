@@ -2,7 +2,7 @@
 use Rattle.rkyv_base.specs.declared.element.HasSpec.{Ghosts as Specs}
 use Rattle.rkyv_base.specs.declared.width.Word.{Ghosts as Words}
 use mir.Val.{bits}
-use Rattle.std.proofs.Common.{◌≡◌, ◌∙◌, ℕ, ◌-◌, ◌<◌, ◌^◌, Bool, List, None, Option, Some, ap, false, inr, length, subst, sym, true}
+use Rattle.std.proofs.Common.{◌≡◌, ◌∙◌, ℕ, ◌-◌, ◌<◌, ◌^◌, Bool, List, None, Option, Some, ap, false, inr, length, refl, subst, sym, true}
 use Rattle.std.specs.Option.{is_some}
 use Rattle.std.specs.Borrow.{Bor}
 use Rattle.std.specs.Prelude.{IfSome, MatchOption}
@@ -42,6 +42,20 @@ module _ {X B : Type 0} (At : ℕ → B → Type 0) (IsValue : X → B → Type 
   pub none_returned : (o : Option B) → target ≡ None → status ≡ 1 → after ≡ before → Placed o → ReturnsValue o
   none_returned None p z e h = (z, e)
   none_returned (Some x) p z e h = absurd (let wrong = h.1 in cc)
+
+-- the first pair's value, by its position `target`. `At`: the value at a position
+module _ {B : Type 0} (At : ℕ → B → Type 0) (target : Option ℕ) where
+  abbrev IsAtTarget : Option B → Type 0
+  IsAtTarget o = MatchOption o (target ≡ None) (λ x. (q : ℕ) × (target ≡ Some q) × At q x)
+
+  pub first_found : {X : Type 0} (IsValue : X → B → Type 0) (pos : ℕ) (stored : X) (o : Option B) → target ≡ Some pos → ((x : B) → At pos x → IsValue stored x) → IsAtTarget o
+      → (x : B) × (o ≡ Some x) × IsValue stored x
+  first_found IsValue pos stored None p shows h = absurd cc
+  first_found IsValue pos stored (Some x) p shows h = (x, refl, shows x (subst (λ q. At q x) (sym (same_Some pos h.0 (sym p ∙ h.1))) h.2))
+
+  pub none_found : (o : Option B) → target ≡ None → IsAtTarget o → o ≡ None
+  none_found None p h = refl
+  none_found (Some x) p h = absurd (let wrong = h.1 in cc)
 
 -- the status of an overwrite, by the pair that it changes
 pub first_set : {P : Type 0} (o : Option P) (found : Bool) (status : ℕ) → found ≡ is_some o → (found ≡ true → status ≡ 0) → (found ≡ false → status ≡ 1) → MatchOption o (status ≡ 1) (λ pair. status ≡ 0)

@@ -9,6 +9,6 @@ pub mod Codes
 pub mod Together
 pub mod IndexPairs
 pub mod IndexFound
-pub mod FoundIndexed
+pub mod Found
 pub mod IndexWriting
 pub mod StoredArchive

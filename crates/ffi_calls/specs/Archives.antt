@@ -1,6 +1,6 @@
 -- The archives of maps: forms, validity, lookups and overwrites.
 use Rattle.std.specs.Prelude.{◌≡◌, ℕ, ◌<◌, ◌^◌, ◌≤◌, ◌⊎◌, Bool, true, false, List}
-use Rattle.std.specs.Prelude.{MatchOption, Option}
+use Rattle.std.specs.Prelude.{MatchOption, None, Option, Some}
 use Rattle.std.specs.Int.{Width, w32, w64}
 use Rattle.std.specs.Option.{option_map}
 use mir.Val.{bits}
@@ -13,6 +13,8 @@ use Rattle.rkyv_table.specs.{IsDecoded, pos_found}
 use Rattle.rkyv_table.specs.declared.table.decoded.Decoded.{Decoded}
 use Rattle.ffi_calls.specs.Keys.{NumberKey}
 use Rattle.ffi_calls.specs.Status.{verify_status}
+use Rattle.ffi_calls.specs.declared.any_value.AnyValue.{AnyValue}
+use Rattle.ffi_calls.specs.declared.any_value.IndexedValue.{IndexedValue}
 use Rattle.ffi_calls.specs.declared.form.Form.{Form}
 
 -- `shorter` if the flag is `false`, `longer` if it is `true`
@@ -110,6 +112,12 @@ value_found m calls fits =
 abbrev pub ReturnsAt : {X : Type 0} → (ℕ → X → Type 0) → Option ℕ → X → ℕ → X → Type 0
 ReturnsAt IsAt target before status after = MatchOption target ((status ≡ 1) × (after ≡ before))
     (λ q. (status ≡ 0) × IsAt q after)
+
+-- `result` has the value at `target` and the index 0, or both are `None`.
+-- `IsAt`: the stored value at a position
+abbrev pub FindsValue : (ℕ → AnyValue → Type 0) → Option ℕ → Option IndexedValue → Type 0
+FindsValue IsAt target result = MatchOption result (target ≡ None) (λ found.
+    (found.index ≡ 0) × ((q : ℕ) × (target ≡ Some q) × IsAt q found.value))
 
 -- `c` is `b` with the value of `number` at `target`, and the status is 0.
 -- If `number` has too many bits, or at `None`, no byte is changed.

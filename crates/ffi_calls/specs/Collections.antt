@@ -33,7 +33,7 @@ key_type code = cond (code == 0x11) (Some key.U8) (cond (code == 0x21) (Some key
     (cond (code == 0x03) (Some key.Char) (cond (code == 0x04) (Some key.Text) None)))))))))
 
 -- the type of values with the code, or `None` if no collection of the kind has such values.
--- The values of sets are units.
+-- The values of sets are units. Floating-point numbers go by their bits.
 abbrev pub value_type : ℕ → ℕ → Option ValueType
 value_type kind code = let unit = cond (code == 0x01) (Some value.Unit) None in
     cond (kind == 2) unit (cond (kind == 4) unit
@@ -41,9 +41,10 @@ value_type kind code = let unit = cond (code == 0x01) (Some value.Unit) None in
     (cond (code == 0x12) (Some value.U16) (cond (code == 0x22) (Some value.U16)
     (cond (code == 0x14) (Some value.U32) (cond (code == 0x24) (Some value.U32)
     (cond (code == 0x18) (Some value.U64) (cond (code == 0x28) (Some value.U64)
+    (cond (code == 0x34) (Some value.U32) (cond (code == 0x38) (Some value.U64)
     (cond (code == 0x02) (Some value.Bool) (cond (code == 0x03) (Some value.Char)
     (cond (code == 0x04) (Some value.Text) (cond (code == 0x05) (Some value.Bytes)
-    None)))))))))))))
+    None)))))))))))))))
 
 -- whether the width with the code is wide, or `None` if no width has it
 abbrev pub wide_flag : ℕ → Option Bool

@@ -18,7 +18,7 @@ pub mod IndexInPlace
 pub mod AnyValues
 pub mod TypesOf
 pub mod Iteration
-pub mod IndexLookup
+pub mod Lookup
 pub mod Collections
 pub mod Building
 pub mod Overwrite
@@ -28,14 +28,14 @@ unfoldable pub use Status.{container_status, verify_status, write_status}
 unfoldable pub use Reading.{Agrees, HasBytesOf, IsNumberOf, IsSame, ReadsText, ReadsWord}
 unfoldable pub use Keys.{NumberKey, NumberKeysAt, NumbersAt, key_by, long_key, number_keys_at}
 unfoldable pub use Keys.{numbers_at, short_key}
-unfoldable pub use Archives.{IsHeaderOf, IsMapArchive, IsNumberArchive, IsTextArchive, KeepsHeader}
-unfoldable pub use Archives.{Opens, Overwrites, ReturnsAt, by_flag, form_of, hash_by, limit_of}
-unfoldable pub use Archives.{map_in, most_of, number_map, numbers_in, text_key, text_map, texts_in}
-unfoldable pub use Archives.{value_encoding, value_found, value_spec, word_of}
-unfoldable pub use Lists.{ArchiveFails, ArchivesRepresent, IsArchiveOf, IsWritten, PairsRepresent}
-unfoldable pub use Lists.{PosOfFirst, ReturnsFirst, SetsFirstOf, SetsFirstPair, WalksVisitListed}
-unfoldable pub use Lists.{archive_width, fx_hash_at, fx_pairs, header_spec, pairs_format}
-unfoldable pub use Lists.{query_of_key, query_pairs, width_by}
+unfoldable pub use Archives.{FindsValue, IsHeaderOf, IsMapArchive, IsNumberArchive, IsTextArchive}
+unfoldable pub use Archives.{KeepsHeader, Opens, Overwrites, ReturnsAt, by_flag, form_of, hash_by}
+unfoldable pub use Archives.{limit_of, map_in, most_of, number_map, numbers_in, text_key, text_map}
+unfoldable pub use Archives.{texts_in, value_encoding, value_found, value_spec, word_of}
+unfoldable pub use Lists.{ArchiveFails, ArchivesRepresent, FindsFirstValue, IsArchiveOf, IsWritten}
+unfoldable pub use Lists.{PairsRepresent, PosOfFirst, ReturnsFirst, SetsFirstOf, SetsFirstPair}
+unfoldable pub use Lists.{WalksVisitListed, archive_width, fx_hash_at, fx_pairs, header_spec}
+unfoldable pub use Lists.{pairs_format, query_of_key, query_pairs, width_by}
 pub use Lists.{ArchiveWidth}
 unfoldable pub use Listed.{FindsFirst, ReturnsFirstNumber, ReturnsFirstText, TextRepresents}
 unfoldable pub use Listed.{query_of_number, query_of_text}
@@ -76,9 +76,8 @@ pub use TypesOf.{KeyTypes, Types, ValueTypes}
 unfoldable pub use Iteration.{IsArchiveOfTypes, StoresItems, StoresItemsByCodes, StoresItemsIn}
 unfoldable pub use Iteration.{types_in, types_spec}
 pub use Iteration.{CanIterate, StoresFromIndex}
-unfoldable pub use IndexLookup.{FindsShown, LooksUpIn, LooksUpIndexed, ReturnsIndexedByCodes}
-unfoldable pub use IndexLookup.{ReturnsIndexedIn}
-pub use IndexLookup.{CanLookUp, FindsKey}
+unfoldable pub use Lookup.{FindsKey, FindsShown, LooksUp, LooksUpIn, ReturnsByCodes, ReturnsIn}
+pub use Lookup.{CanLookUp, FindsInIndex, FindsInMap}
 unfoldable pub use Collections.{ExplainsByCodes, IsHeaderByCodes, IsValidByCodes, OpensByCodes}
 unfoldable pub use Collections.{collection_by, collection_in, collection_of, collection_spec}
 unfoldable pub use Collections.{index_flag, key_type, key_type_spec, root_in, root_spec, value_type}

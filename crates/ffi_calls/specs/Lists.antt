@@ -13,6 +13,8 @@ use Rattle.rkyv_collections.specs.{pairs_under, query_of_value}
 use Rattle.rkyv_keys.specs.{NativePairs, PairFormat, first_pair, first_value, with_first}
 use Rattle.rkyv_keys.specs.{native_pairs}
 use Rattle.ffi_calls.specs.Archives.{limit_of, map_in, most_of, word_of}
+use Rattle.ffi_calls.specs.declared.any_value.AnyValue.{AnyValue}
+use Rattle.ffi_calls.specs.declared.any_value.IndexedValue.{IndexedValue}
 
 -- the pairs that bytes represent. `key` and `value`: what represents the keys and the values,
 -- `key_calls`: hasher calls of the key at a position
@@ -47,6 +49,15 @@ module _ {A B : Type 0} (m : MapAt) (a : ValueQuery A) (value : List ℕ → ℕ
       → PairsRepresent m query_pairs factor pairs
       → MatchOption (first_value a.accept_value pairs) (target ≡ None)
       (λ x. (q : ℕ) × (target ≡ Some q) × value m.bytes q x)
+
+  -- `result` has the value of the first pair whose key is accepted, and the index 0. Without one
+  -- it is `None`. `IsValue`: a stored value is that of a native one
+  abbrev pub FindsFirstValue : (AnyValue → B → Type 0) → Option IndexedValue → Type 0
+  FindsFirstValue IsValue result = (factor : ℕ × ℕ) (pairs : List (A × B))
+      → PairsRepresent m query_pairs factor pairs
+      → MatchOption result (first_value a.accept_value pairs ≡ None) (λ found.
+      (found.index ≡ 0) × ((x : B) × (first_value a.accept_value pairs ≡ Some x)
+      × IsValue found.value x))
 
   -- The result of a lookup is the value of the first pair whose key is accepted, by `IsValue`.
   -- Without one the status is 1 and `after` is `before`.

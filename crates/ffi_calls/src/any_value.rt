@@ -45,11 +45,11 @@ pub struct AnyPair<'a> {
     pub value: AnyValue<'a>,
 }
 
-/// The index of a pair in insertion order, and its value, which is the unit in an index set.
+/// The value of a pair, which is the unit in a set, and the index of the pair.
 #[repr(C)]
 #[derive(Clone, Copy)]
 pub struct IndexedValue<'a> {
-    /// The index of the pair.
+    /// The index of the pair in insertion order. It is 0 in a hash map and in a hash set.
     pub index: usize,
     /// The value of the pair.
     pub value: AnyValue<'a>,

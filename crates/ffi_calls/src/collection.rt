@@ -49,9 +49,9 @@ pub enum ValueType {
     U8,
     /// Integers of 16 bits, by their bits if they are signed.
     U16,
-    /// Integers of 32 bits, by their bits if they are signed.
+    /// Integers of 32 bits, by their bits if they are signed, and `f32` by its bits.
     U32,
-    /// Integers of 64 bits, by their bits if they are signed.
+    /// Integers of 64 bits, by their bits if they are signed, and `f64` by its bits.
     U64,
     /// `false` or `true`.
     Bool,
@@ -116,8 +116,8 @@ fn value_type(kind: u8, code: u8) -> Option<ValueType>
         (2 | 4, _) => None,
         (_, 0x11 | 0x21) => Some(ValueType::U8),
         (_, 0x12 | 0x22) => Some(ValueType::U16),
-        (_, 0x14 | 0x24) => Some(ValueType::U32),
-        (_, 0x18 | 0x28) => Some(ValueType::U64),
+        (_, 0x14 | 0x24 | 0x34) => Some(ValueType::U32),
+        (_, 0x18 | 0x28 | 0x38) => Some(ValueType::U64),
         (_, 0x02) => Some(ValueType::Bool),
         (_, 0x03) => Some(ValueType::Char),
         (_, 0x04) => Some(ValueType::Text),

@@ -4,7 +4,7 @@ ghost use Rattle.ffi_calls.specs.{IsIndexArchive, KeepsHeader, Overwrites, SetsF
 ghost use Rattle.ffi_calls.specs.{index_in, query_of_key, value_found_in};
 
 use crate::archives::root_of;
-use crate::lookup::status_of;
+use crate::map_lookup::status_of;
 use crate::status::VALUE_TOO_LARGE;
 use crate::value::Value;
 use rkyv_base::Represents;

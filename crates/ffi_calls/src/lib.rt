@@ -2,9 +2,9 @@
 //!
 //! - `collection` validates archives and decodes their headers, by the codes of their contents.
 //!   `misplaced` counts the keys that a lookup of the key itself doesn't find.
+//! - `lookup` looks up keys in any collection, by the codes of its contents.
 //! - `numbers` and `texts` look up in maps to numbers, `numbers_to_texts` and `texts_to_texts` in
 //!   maps to texts, and `number_sets` and `text_sets` in sets.
-//! - `index_lookup` looks up in any index map and index set.
 //! - `overwrite` overwrites values that are numbers, in any map.
 //! - `iteration` stores the items of any collection, by the codes of its contents.
 //! - `building` writes the archive of a list of items as any collection, and leaks its bytes to the
@@ -28,10 +28,10 @@ pub mod form;
 pub mod from_any;
 mod index;
 mod index_in_place;
-pub mod index_lookup;
 pub mod iteration;
 pub mod laws;
-mod lookup;
+pub mod lookup;
+mod map_lookup;
 pub mod misplaced;
 pub mod number_sets;
 pub mod numbers;

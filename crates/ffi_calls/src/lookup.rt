@@ -1,111 +1,113 @@
-//! Lookup of a key's value, and its overwrite in place.
+//! Lookups of keys in any collection, by the codes of its contents.
 
-ghost use Rattle.std.specs.Prelude.{IfSome, false, true, ◌≡◌};
-ghost use Rattle.rkyv_base.specs.{Viewable};
-ghost use Rattle.ffi_calls.specs.{IsHeaderOf, IsMapArchive, KeepsHeader, Overwrites, PosOfFirst};
-ghost use Rattle.ffi_calls.specs.{ReturnsAt, ReturnsFirst, SetsFirstOf, map_in, query_of_key};
-ghost use Rattle.ffi_calls.specs.{value_found};
+ghost use Rattle.ffi_calls.specs.{CanLookUp, IsArchiveOfTypes, IsHeaderByCodes, IsHeaderOf};
+ghost use Rattle.ffi_calls.specs.{IsValidByCodes, LooksUp, LooksUpIn, ReturnsByCodes, types_in};
+ghost use Rattle.ffi_calls.specs.{types_of};
 
-use crate::archives::{map_of, root_of};
-use crate::reading::{ReadAs, StoresNative};
-use crate::status::{DONE, NOT_FOUND, VALUE_TOO_LARGE};
-use crate::value::Value;
-use rkyv_base::{Represents, View, Width, found_pos};
-use rkyv_collections::map::in_place::set_value_of;
-use rkyv_collections::map::laws::lookups_find_listed;
-use rkyv_collections::{FxHasher64, HashMapOf, KeyElement, NativeKey};
+use crate::any_value::{AnyValue, IndexedValue};
+use crate::collection::{Collection, collection_of};
+use crate::containers::Codes;
+use crate::status::{DONE, NOT_FOUND};
+use crate::types::{KeyFrom, Operation, StoredKey, StoredValue, ValueFrom, dispatch};
+use crate::{index, map_lookup};
+use rkyv_index::IndexWidth;
 use rkyv_table::table::decoded::Decoded;
 
-/// Returns the position of the value that a lookup of the key finds in a valid archive.
-#[inline]
-pub(crate) fn value_pos_in<
-    A: NativeKey<K>,
-    B,
-    K: KeyElement + Represents<A>,
-    V: Represents<B>,
-    W: Width,
->(archive: &[u8], header: &Decoded, key: &A) -> Option<u64>
-    requires archive { IsMapArchive W.word W.LIMIT K.spec V.spec archive.now }
-    requires header { IsHeaderOf (map_in W.word K.spec V.spec archive.now) header.now }
-    ensures viewable { IfSome result (Viewable V.spec archive.now) }
-    ensures found { result ≡ value_found (map_in W.word K.spec V.spec archive.now)
-        (A.calls key.now) (A.fits key.now archive.now) }
-    ensures listed { PosOfFirst (map_in W.word K.spec V.spec archive.now)
-        (query_of_key K.represents K.key_calls (A.eq key.now)) V.represents result }
-{
-    lookups_find_listed::<A, B, K, V, FxHasher64, W>();
-    found_pos(map_of::<K, V, W>(archive, header).get(key))
+/// A lookup of a key.
+#[derive(Clone, Copy)]
+pub(crate) struct Lookup<'a, 'b> {
+    archive: &'a [u8],
+    header: &'b Decoded,
+    key: AnyValue<'b>,
 }
 
-/// Looks up a key in a valid archive, by its decoded header, and stores its value in `value`.
-///
-/// # Errors
-///
-/// - `NOT_FOUND`: the lookup doesn't find the key; `value` is unchanged then.
-#[inline]
-pub(crate) fn get_in<
-    'a,
-    A: NativeKey<K>,
-    X: Copy,
-    B,
-    K: KeyElement + Represents<A>,
-    V: ReadAs<'a, X> + StoresNative<X, B>,
-    W: Width,
->(archive: &'a [u8], header: &Decoded, key: &A, value: &mut X) -> u32
-    requires archive { IsMapArchive W.word W.LIMIT K.spec V.spec archive.now }
-    requires header { IsHeaderOf (map_in W.word K.spec V.spec archive.now) header.now }
-    ensures outcome { ReturnsAt (V.reads archive.now)
-        (value_found (map_in W.word K.spec V.spec archive.now) (A.calls key.now)
-        (A.fits key.now archive.now)) value.old result value.new }
-    ensures listed { ReturnsFirst (map_in W.word K.spec V.spec archive.now)
-        (query_of_key K.represents K.key_calls (A.eq key.now)) V.represents V.is_of value.old result
-        value.new }
-{
-    match value_pos_in::<A, B, K, V, W>(archive, header, key) {
-        Some(pos) => {
-            *value = V::read_as(View::new(archive, pos));
-            DONE
+impl<'a, 'b> Operation<AnyValue<'b>, u8> for Lookup<'a, 'b> {
+    type Out = Result<Option<IndexedValue<'a>>, u32>;
+
+    ghost pre = { CanLookUp };
+
+    ghost post = { LooksUp };
+
+    #[inline]
+    fn run<
+        A: KeyFrom<AnyValue<'b>, K, W>,
+        B: ValueFrom<AnyValue<'b>, V, W>,
+        K: StoredKey<A>,
+        V: StoredValue<B>,
+        W: IndexWidth,
+    >(self, indexed: bool, _out: &mut [u8]) -> Result<Option<IndexedValue<'a>>, u32> {
+        let key = match A::from_any(self.key) {
+            Ok(key) => key,
+            Err(status) => return Err(status),
+        };
+        if indexed {
+            Ok(index::find_in::<A, B, K, V, W>(self.archive, self.header, &key))
+        } else {
+            Ok(map_lookup::find_in::<A, B, K, V, W>(self.archive, self.header, &key))
         }
-        None => NOT_FOUND,
     }
 }
 
-/// Returns `DONE` if a key is found, and `NOT_FOUND` if it isn't.
-#[inline]
-pub(crate) fn status_of(found: bool) -> u32
-    ensures yes { found ≡ true → result ≡ 0 }
-    ensures no { found ≡ false → result ≡ 1 }
-{
-    if found { DONE } else { NOT_FOUND }
-}
-
-/// Looks up a key in a valid archive, and overwrites its value in place.
+/// Returns the value of a key and its index, or `None` if the lookup doesn't find the key.
+///
+/// The index is 0 in a hash map and in a hash set.
 ///
 /// # Errors
 ///
-/// - `VALUE_TOO_LARGE`: the value has more bits than the values of the map.
+/// - `VALUE_TOO_LARGE`: the keys are numbers or characters, and none has the number of `key`.
+/// - `NOT_TEXT`: the keys are texts, and the bytes of `key` aren't UTF-8.
+fn find_of<'a>(
+    archive: &'a [u8],
+    of: Collection,
+    header: &Decoded,
+    key: AnyValue<'_>,
+) -> Result<Option<IndexedValue<'a>>, u32>
+    requires archive { IsArchiveOfTypes (types_of of) archive.now }
+    requires header { IsHeaderOf (types_in (types_of of) archive.now) header.now }
+    ensures { LooksUpIn (types_of of) archive.now key.entry result }
+{
+    let lookup = Lookup {
+        archive,
+        header,
+        key,
+    };
+    dispatch(of, lookup, &mut [])
+}
+
+/// Looks up a key of a collection, and stores its value and its index in `found`.
+///
+/// A set has the unit value. The index is that of the pair in an index map and in an index set. It
+/// is 0 in a hash map and in a hash set.
+///
+/// # Requires
+///
+/// - The archive is valid: `open_archive` returned `DONE` for these codes.
+/// - `header` is its decoded header.
+///
+/// # Errors
+///
+/// - `VALUE_TOO_LARGE`: the keys are numbers or characters, and none has the number of `key`.
+/// - `NOT_TEXT`: the keys are texts, and the bytes of `key` aren't UTF-8.
 /// - `NOT_FOUND`: the lookup doesn't find the key.
 ///
-/// After an error no byte is changed.
-pub(crate) fn set_in<A: NativeKey<K>, K: KeyElement + Represents<A>, V: Value, W: Width>(
-    archive: &mut [u8],
-    key: &A,
-    value: u64,
+/// After an error `found` is unchanged.
+pub fn get<'a>(
+    archive: &'a [u8],
+    codes: Codes,
+    header: &Decoded,
+    key: AnyValue<'_>,
+    found: &mut IndexedValue<'a>,
 ) -> u32
-    requires { IsMapArchive W.word W.LIMIT K.spec V.spec archive.old }
-    ensures kept { IsMapArchive W.word W.LIMIT K.spec V.spec archive.new }
-    ensures header { KeepsHeader (map_in W.word K.spec V.spec archive.old)
-        (map_in W.word K.spec V.spec archive.new) }
-    ensures sets { Overwrites V.encoding archive.old
-        (value_found (map_in W.word K.spec V.spec archive.old) (A.calls key.now)
-        (A.fits key.now archive.old)) value result archive.new }
-    ensures listed { SetsFirstOf (map_in W.word K.spec V.spec archive.old)
-        (query_of_key K.represents K.key_calls (A.eq key.now)) V.encoding value result archive.new }
+    requires archive { IsValidByCodes codes archive.now }
+    requires header { IsHeaderByCodes codes archive.now header.now }
+    ensures { ReturnsByCodes codes archive.now key.entry found.old result found.new }
 {
-    let Some(number) = V::of_number(value) else {
-        return VALUE_TOO_LARGE;
-    };
-    let root = root_of::<HashMapOf<K, V, FxHasher64, W>, W>(&*archive);
-    let found = set_value_of::<A, K, V, FxHasher64, W>(archive, root, key, number);
-    status_of(found)
+    match find_of(archive, collection_of(codes).unwrap(), header, key) {
+        Ok(Some(indexed)) => {
+            *found = indexed;
+            DONE
+        }
+        Ok(None) => NOT_FOUND,
+        Err(status) => status,
+    }
 }

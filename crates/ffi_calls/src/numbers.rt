@@ -7,7 +7,7 @@ ghost use Rattle.ffi_calls.specs.{numbers_at, numbers_in};
 
 use crate::archives::typed_header;
 use crate::form::Form;
-use crate::lookup::get_in;
+use crate::map_lookup::get_in;
 use crate::reading::NumberKey;
 use rkyv_base::{Narrow, Wide};
 use rkyv_table::table::decoded::Decoded;

@@ -7,7 +7,7 @@ ghost use Rattle.ffi_calls.specs.{ReturnsTextOfNumber, number_keys_at};
 ghost use Rattle.ffi_calls.specs.{number_texts_in};
 
 use crate::archives::typed_header;
-use crate::lookup::get_in;
+use crate::map_lookup::get_in;
 use crate::reading::NumberKey;
 use rkyv_base::{Narrow, Text, Wide};
 use rkyv_table::table::decoded::Decoded;

@@ -10,7 +10,7 @@ use crate::any_value::AnyValue;
 use crate::collection::{Collection, KeyType, ValueType, collection_of};
 use crate::containers::Codes;
 use crate::index_in_place::set_indexed_in;
-use crate::lookup::set_in;
+use crate::map_lookup::set_in;
 use crate::status::UNKNOWN_CODES;
 use crate::types::{KeyFrom, StoredKey};
 use crate::value::Value;

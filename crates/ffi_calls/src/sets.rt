@@ -4,7 +4,7 @@ ghost use Rattle.rkyv_base.specs.{unit_spec};
 ghost use Rattle.ffi_calls.specs.{FindsItem, IsFoundStatus, IsHeaderOf, IsMapArchive};
 ghost use Rattle.ffi_calls.specs.{query_of_key, set_in, value_found};
 
-use crate::lookup::value_pos_in;
+use crate::map_lookup::value_pos_in;
 use crate::status::{DONE, NOT_FOUND};
 use rkyv_base::{Represents, Width};
 use rkyv_collections::{KeyElement, NativeKey};

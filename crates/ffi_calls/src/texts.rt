@@ -9,7 +9,7 @@ ghost use Rattle.ffi_calls.specs.{ReturnsFirstText, ReturnsText, text_found, tex
 
 use crate::archives::typed_header;
 use crate::form::Form;
-use crate::lookup::get_in;
+use crate::map_lookup::get_in;
 use crate::status::NOT_TEXT;
 use rkyv_base::{Narrow, Text, Wide};
 use rkyv_table::table::decoded::Decoded;

@@ -8,7 +8,7 @@ ghost use Rattle.ffi_calls.specs.{ReturnsTextAt, ReturnsTextOfText};
 ghost use Rattle.ffi_calls.specs.{text_of_text_found, text_texts_in};
 
 use crate::archives::typed_header;
-use crate::lookup::get_in;
+use crate::map_lookup::get_in;
 use crate::status::NOT_TEXT;
 use crate::texts::text_of;
 use rkyv_base::{Narrow, Text, Wide};

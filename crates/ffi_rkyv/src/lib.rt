@@ -9,9 +9,9 @@
 
 mod archives;
 mod containers;
-mod index_lookup;
 mod interface;
 mod long_lookups;
+mod lookup;
 mod lookups;
 mod overwrite;
 mod set_lookups;

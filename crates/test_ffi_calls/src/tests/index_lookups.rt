@@ -15,7 +15,7 @@ use crate::tests::opened::{
 use crate::tests::support::GREAT;
 use crate::tests::{archives, expect_equal, index_text_archives};
 use ffi_calls::any_value::{AnyValue, IndexedValue};
-use ffi_calls::index_lookup::get_indexed;
+use ffi_calls::lookup::get;
 use std::process::Abort;
 
 // A key or a value: its number and its bytes.
@@ -43,7 +43,7 @@ fn lookup(
         index: 8,
         value: any(OTHER),
     };
-    let status = get_indexed(archive, codes, &header, any(key), &mut found);
+    let status = get(archive, codes, &header, any(key), &mut found);
     let is_expected = found.value.number == expected.0 && found.value.bytes == expected.1;
     is_expected.then_some((header.len(), status, found.index))
 }
@@ -775,7 +775,7 @@ fn lookups_read_one_member_of_the_key(rt: HostRuntime) {
 }
 
 #[test]
-fn lookups_in_hash_maps_and_sets_have_an_error(rt: HostRuntime) {
+fn lookups_in_hash_maps_and_sets_have_the_index_0(rt: HostRuntime) {
     expect_lookups(
         &rt,
         &[
@@ -783,29 +783,29 @@ fn lookups_in_hash_maps_and_sets_have_an_error(rt: HostRuntime) {
                 archives::ONE_NUMBER,
                 (MAP, U32, U32, 4),
                 (1, b""),
-                OTHER,
-                (1, 7, 8),
+                (2, b""),
+                (1, 0, 0),
             ),
             (
                 archives::ONE_NUMBER,
                 (MAP, U32, U32, 4),
                 (GREAT, b""),
                 OTHER,
-                (1, 7, 8),
+                (1, 3, 8),
             ),
             (
                 archives::ONE_SYMBOL,
                 (MAP, TEXT, U64, 4),
                 (0, &[0xff]),
                 OTHER,
-                (1, 7, 8),
+                (1, 4, 8),
             ),
             (
                 archives::NO_ITEMS,
                 (SET, U32, UNIT, 4),
                 (1, b""),
                 OTHER,
-                (0, 7, 8),
+                (0, 1, 8),
             ),
         ],
     );

@@ -15,7 +15,7 @@ use crate::tests::{archives, expect_equal};
 use ffi_calls::any_value::{AnyValue, IndexedValue};
 use ffi_calls::containers::Codes;
 use ffi_calls::form::{Form, LONG, SHORT, WIDE, WIDE_LONG};
-use ffi_calls::index_lookup::get_indexed;
+use ffi_calls::lookup::get;
 use ffi_calls::overwrite::set_value;
 use std::process::Abort;
 
@@ -51,7 +51,7 @@ fn overwrite_and_get(
             bytes: b"?",
         },
     };
-    let again = get_indexed(&*archive, codes, &header, key, &mut found);
+    let again = get(&*archive, codes, &header, key, &mut found);
     Some((status, again, found.index, found.value.number))
 }
 

@@ -1,15 +1,16 @@
-//! The lookup of a key in an index map or an index set, by the codes of the contents.
+//! The lookup of a key in any collection, by the codes of the contents.
 
-ghost use Rattle.ffi_calls.specs.{IsHeaderByCodes, IsValidByCodes, ReturnsIndexedByCodes, codes_of};
+ghost use Rattle.ffi_calls.specs.{IsHeaderByCodes, IsValidByCodes, ReturnsByCodes, codes_of};
 
 use ffi_calls::any_value::{AnyValue, IndexedValue};
 use ffi_calls::containers::Codes;
-use ffi_calls::index_lookup::get_indexed;
+use ffi_calls::lookup::get;
 use rkyv_table::table::decoded::Decoded;
 
-/// Looks up a key of the index map or the index set with the codes.
+/// Looks up a key of the collection with the codes, and stores its value and its index in `found`.
 ///
-/// Stores the index and the value of its pair in `found`.
+/// A set has the unit value. The index is that of the pair in an index map and in an index set. It
+/// is 0 in a hash map and in a hash set.
 ///
 /// # Requires
 ///
@@ -18,14 +19,13 @@ use rkyv_table::table::decoded::Decoded;
 ///
 /// # Errors
 ///
-/// - 7: the codes are of a hash map or a hash set.
 /// - 3: the keys are numbers or characters, and none has the number of `key`.
 /// - 4: the keys are texts, and the bytes of `key` aren't UTF-8.
 /// - 1: the lookup doesn't find the key.
 ///
 /// After an error `found` is unchanged.
 #[unsafe(no_mangle)]
-pub extern "C" fn hk_c_index_get<'a>(
+pub extern "C" fn hk_c_get<'a>(
     archive: &'a [u8],
     kind: u8,
     key: u8,
@@ -37,8 +37,8 @@ pub extern "C" fn hk_c_index_get<'a>(
 ) -> u32
     requires archive { IsValidByCodes (codes_of kind key value width) archive.now }
     requires header { IsHeaderByCodes (codes_of kind key value width) archive.now header.now }
-    ensures { ReturnsIndexedByCodes (codes_of kind key value width) archive.now of.now found.old
-        result found.new }
+    ensures { ReturnsByCodes (codes_of kind key value width) archive.now of.now found.old result
+        found.new }
 {
     let codes = Codes {
         kind,
@@ -46,5 +46,5 @@ pub extern "C" fn hk_c_index_get<'a>(
         value,
         width,
     };
-    get_indexed(archive, codes, header, *of, found)
+    get(archive, codes, header, *of, found)
 }

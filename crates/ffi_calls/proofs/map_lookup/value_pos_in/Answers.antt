@@ -9,7 +9,7 @@ use Rattle.rkyv_keys.specs.{first_value, hash_at}
 use Rattle.rkyv_collections.specs.{MapRepresents, map_bytes, map_pos, map_root}
 use Rattle.ffi_calls.specs.{hash_by}
 use Rattle.ffi_calls.proofs.First.{found_placed}
-use Rattle.ffi_calls.proofs.lookup.value_pos_in.Goals as goal
+use Rattle.ffi_calls.proofs.map_lookup.value_pos_in.Goals as goal
 
 pub returns-clause-viewable : goal.returns-clause-viewable
 returns-clause-viewable g c =

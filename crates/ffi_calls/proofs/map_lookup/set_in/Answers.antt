@@ -5,7 +5,7 @@ use Rattle.rkyv_keys.specs.{hash_at}
 use Rattle.rkyv_collections.specs.{MapRepresents, map_spec}
 use Rattle.ffi_calls.proofs.Writing.{overwrite_status, set_keeps_header, set_kept}
 use Rattle.ffi_calls.proofs.First.{first_pair_set}
-use Rattle.ffi_calls.proofs.lookup.set_in.Goals as goal
+use Rattle.ffi_calls.proofs.map_lookup.set_in.Goals as goal
 
 pub returns-in_default-clause-sets : goal.returns-in_default-clause-sets
 returns-in_default-clause-sets g c = inl (c.in_default.ensures.exact, refl, refl)

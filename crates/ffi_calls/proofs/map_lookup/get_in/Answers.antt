@@ -2,7 +2,7 @@ use Rattle.std.proofs.Common.{None, Some, refl, subst}
 use Rattle.ffi_calls.specs.{ReturnsAt}
 use Rattle.ffi_calls.proofs.AtViews.{there}
 use Rattle.ffi_calls.proofs.First.{first_returned, none_returned}
-use Rattle.ffi_calls.proofs.lookup.get_in.Goals as goal
+use Rattle.ffi_calls.proofs.map_lookup.get_in.Goals as goal
 
 pub returns-in-Some-clause-outcome : goal.returns-in-Some-clause-outcome
 returns-in-Some-clause-outcome g c =

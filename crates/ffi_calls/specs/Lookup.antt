@@ -1,0 +1,72 @@
+-- Lookups of keys in collections of any types.
+use Rattle.std.specs.Prelude.{◌≡◌, ℕ, ◌⊎◌, Bool, true, false, IfSome, List, MatchResult, None}
+use Rattle.std.specs.Prelude.{Option, Result, Some}
+use Rattle.ffi_calls.specs.Archives.{FindsValue, IsHeaderOf, value_found}
+use Rattle.ffi_calls.specs.Collections.{collection_of}
+use Rattle.ffi_calls.specs.IndexArchives.{FindsIndexed, found_index}
+use Rattle.ffi_calls.specs.IndexLists.{FindsFirstIndexed}
+use Rattle.ffi_calls.specs.Iteration.{IsArchiveOfTypes, types_in}
+use Rattle.ffi_calls.specs.Lists.{FindsFirstValue, query_of_key}
+use Rattle.ffi_calls.specs.TypesOf.{Types, types_of}
+use Rattle.ffi_calls.specs.declared.any_value.AnyValue.{AnyValue}
+use Rattle.ffi_calls.specs.declared.any_value.IndexedValue.{IndexedValue}
+use Rattle.ffi_calls.specs.declared.containers.Codes.{Codes}
+use Rattle.ffi_calls.specs.declared.lookup.Lookup.{Lookup}
+
+-- the condition of a lookup: the archive is valid, and the header is its own
+pub record CanLookUp {P X : Type 0} (op : Lookup) (before : List X) (t : Types P) : Type 0 where
+  pub archive : IsArchiveOfTypes t op.archive.now
+  pub header : IsHeaderOf (types_in t op.archive.now) op.header.now
+
+module _ {P : Type 0} (t : Types P) (b : List ℕ) where
+  -- in a hash map, `result` has the value that the lookup of `key` finds and the index 0, or is
+  -- `None` without one: by the bytes, and in terms of each list that the map represents
+  pub record FindsInMap (key : t.key.Native) (result : Option IndexedValue) : Type 0 where
+    pub finds : FindsValue (t.value.any b)
+        (value_found (types_in t b) (t.key.calls key) (t.key.fits key b)) result
+    pub first : FindsFirstValue (types_in t b)
+        (query_of_key t.key.represents t.key.key_calls (t.key.eq key)) t.value.represents
+        t.value.is_of result
+
+  -- in an index map, `result` has the value and the index of the pair that the lookup of `key`
+  -- finds, or is `None` without one: by the bytes, and in terms of each list that the map
+  -- represents
+  pub record FindsInIndex (key : t.key.Native) (result : Option IndexedValue) : Type 0 where
+    pub finds : FindsIndexed (types_in t b) t.value.any
+        (found_index (types_in t b) (t.key.calls key) (t.key.fits key b)) result
+    pub first : FindsFirstIndexed (types_in t b)
+        (query_of_key t.key.represents t.key.key_calls (t.key.eq key)) t.value.represents
+        t.value.is_of result
+
+  -- `result` is that of the lookup of `key` in an index map if the flag is `true`, and in a hash
+  -- map if it is `false`
+  abbrev pub FindsKey : Bool → t.key.Native → Option IndexedValue → Type 0
+  FindsKey false key result = FindsInMap key result
+  FindsKey true key result = FindsInIndex key result
+
+  -- `key` is a native key in the form of calls, and the lookup of the native key finds `result`
+  abbrev pub FindsShown : P → Option IndexedValue → Type 0
+  FindsShown key result = (native : t.key.Native) × t.key.is_value key × t.key.shows key native
+      × FindsKey t.indexed native result
+
+  -- the result of a lookup of `key`: the found value and its index, or the status if no native key
+  -- has the form
+  abbrev pub LooksUpIn : P → Result (Option IndexedValue) ℕ → Type 0
+  LooksUpIn key result = MatchResult result (FindsShown key) (t.key.is_none key)
+
+  -- The status is 0 and the lookup of `key` finds `after`. Otherwise `after` is `before`: the
+  -- status is 1 and the lookup finds none, or it is that of a key that no native key has as its
+  -- form.
+  abbrev pub ReturnsIn : P → IndexedValue → ℕ → IndexedValue → Type 0
+  ReturnsIn key before status after = ((status ≡ 0) × FindsShown key (Some after))
+      ⊎ ((after ≡ before) × (((status ≡ 1) × FindsShown key None) ⊎ t.key.is_none key status))
+
+-- the result of a lookup
+abbrev pub LooksUp : {X : Type 0} → Lookup → List X → Types AnyValue
+    → Result (Option IndexedValue) ℕ → List X → Type 0
+LooksUp op before t result after = LooksUpIn t op.archive.now op.key result
+
+-- the result of a lookup in the collection with the codes
+abbrev pub ReturnsByCodes : Codes → List ℕ → AnyValue → IndexedValue → ℕ → IndexedValue → Type 0
+ReturnsByCodes codes b key before status after = IfSome (collection_of codes) (λ c.
+    ReturnsIn (types_of c) b key before status after)
