@@ -27,22 +27,6 @@ module _ {K V H W : Type 0} {ks : Specs K} {vs : Specs V} {wt : Words W} (m : Ar
   found_placed represents (Some value) target None e within h = absurd h
   found_placed represents (Some value) target (Some x) e within h = (value.pos, e, subst (λ d. represents d value.pos x) (ap (λ (a : Bor (List ℕ)). a.now) within.at.0 ∙ same) h)
 
--- the value at `target`, and at `None` the one before. `At`: the value at a position
-module _ {X B : Type 0} (At : ℕ → B → Type 0) (IsValue : X → B → Type 0) (target : Option ℕ) (status : ℕ) (after before : X) where
-  abbrev ReturnsValue : Option B → Type 0
-  ReturnsValue o = MatchOption o ((status ≡ 1) × (after ≡ before)) (λ x. (status ≡ 0) × IsValue after x)
-
-  abbrev Placed : Option B → Type 0
-  Placed o = MatchOption o (target ≡ None) (λ x. (q : ℕ) × (target ≡ Some q) × At q x)
-
-  pub first_returned : (pos : ℕ) (o : Option B) → target ≡ Some pos → status ≡ 0 → ((x : B) → At pos x → IsValue after x) → Placed o → ReturnsValue o
-  first_returned pos None p z shows h = absurd cc
-  first_returned pos (Some x) p z shows h = (z, shows x (subst (λ q. At q x) (sym (same_Some pos h.0 (sym p ∙ h.1))) h.2))
-
-  pub none_returned : (o : Option B) → target ≡ None → status ≡ 1 → after ≡ before → Placed o → ReturnsValue o
-  none_returned None p z e h = (z, e)
-  none_returned (Some x) p z e h = absurd (let wrong = h.1 in cc)
-
 -- the first pair's value, by its position `target`. `At`: the value at a position
 module _ {B : Type 0} (At : ℕ → B → Type 0) (target : Option ℕ) where
   abbrev IsAtTarget : Option B → Type 0

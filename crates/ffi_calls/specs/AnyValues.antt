@@ -4,8 +4,19 @@ use Rattle.std.specs.Borrow.{Bor}
 use Rattle.std.specs.Int.{Width}
 use Rattle.std.specs.Str.{IsUtf8}
 use mir.Val.{bits}
-use Rattle.rkyv_base.specs.{Encoding, byte_string_at, text_at, value_at}
+use Rattle.rkyv_base.specs.{Encoding, IsTextOf, byte_string_at, text_at, value_at}
 use Rattle.ffi_calls.specs.declared.any_value.AnyValue.{AnyValue}
+
+-- A stored value at a position is that of the native value that the bytes there represent.
+-- `reads`: the stored value at a position, `is_of`: a stored value is that of a native value
+abbrev pub Agrees : {X B : Type 0} → (List ℕ → ℕ → X → Type 0) → (List ℕ → ℕ → B → Type 0)
+    → (X → B → Type 0) → Type 0
+Agrees {X} {B} reads represents is_of = (b : List ℕ) (p : ℕ) (out : X) (value : B)
+    → reads b p out → represents b p value → is_of out value
+
+-- the text at a position is equal to the given one
+abbrev pub TextRepresents : Width → List ℕ → ℕ → Bor (List ℕ) → Type 0
+TextRepresents w = IsTextOf w (λ text. text.now)
 
 -- a value with the encoding has the number
 abbrev pub IsCodeNumber : {N : Type 0} → Encoding N → ℕ → Type 0

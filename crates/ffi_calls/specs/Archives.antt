@@ -1,4 +1,4 @@
--- The archives of maps: forms, validity, lookups and overwrites.
+-- The archives of maps: validity, lookups and overwrites.
 use Rattle.std.specs.Prelude.{◌≡◌, ℕ, ◌<◌, ◌^◌, ◌≤◌, ◌⊎◌, Bool, true, false, List}
 use Rattle.std.specs.Prelude.{MatchOption, None, Option, Some}
 use Rattle.std.specs.Int.{Width, w32, w64}
@@ -6,16 +6,14 @@ use Rattle.std.specs.Option.{option_map}
 use mir.Val.{bits}
 use Rattle.rkyv_scan.specs.{HasherCall, fx_hash, generic_kind, low_halves}
 use Rattle.rkyv_base.specs.{AccessFails, ElementSpec, Encoding, IsValidArchive, entry_spec}
-use Rattle.rkyv_base.specs.{scalar_spec, text_spec, unsigned, value_pos, with_value}
+use Rattle.rkyv_base.specs.{value_pos, with_value}
 use Rattle.rkyv_base.specs.declared.errors.VerifyError.{VerifyError}
 use Rattle.rkyv_collections.specs.{MapAt, map_root, map_spec}
 use Rattle.rkyv_table.specs.{IsDecoded, pos_found}
 use Rattle.rkyv_table.specs.declared.table.decoded.Decoded.{Decoded}
-use Rattle.ffi_calls.specs.Keys.{NumberKey}
 use Rattle.ffi_calls.specs.Status.{verify_status}
 use Rattle.ffi_calls.specs.declared.any_value.AnyValue.{AnyValue}
 use Rattle.ffi_calls.specs.declared.any_value.IndexedValue.{IndexedValue}
-use Rattle.ffi_calls.specs.declared.form.Form.{Form}
 
 -- `shorter` if the flag is `false`, `longer` if it is `true`
 abbrev pub by_flag : {A : Type 0} → A → A → Bool → A
@@ -34,41 +32,9 @@ limit_of = by_flag 4_294_967_295 9_223_372_036_854_775_807
 abbrev pub most_of : Bool → ℕ
 most_of = by_flag 4_294_967_295 4_611_686_018_427_387_904
 
--- the form of the two flags
-abbrev pub form_of : Bool → Bool → Form
-form_of long_values wide = record { long_values = long_values; wide = wide }
-
--- the spec of a key that is a text
-abbrev pub text_key : Form → ElementSpec
-text_key form = text_spec (word_of form.wide)
-
--- the encoding of a value, a number of 32 or of 64 bits
-abbrev pub value_encoding : Form → Encoding ℕ
-value_encoding form = unsigned (word_of form.long_values)
-
--- the spec of a value
-abbrev pub value_spec : Form → ElementSpec
-value_spec form = scalar_spec (value_encoding form)
-
--- the spec of the header of a map of numbers
-abbrev pub number_map : {A : Type 0} → NumberKey A → Form → ElementSpec
-number_map k form = map_spec (word_of form.wide) k.spec (value_spec form)
-
--- the spec of the header of a map of texts
-abbrev pub text_map : Form → ElementSpec
-text_map form = map_spec (word_of form.wide) (text_key form) (value_spec form)
-
 -- `b` is the valid archive of a map with keys of spec `k` and values of spec `v`
 abbrev pub IsMapArchive : Width → ℕ → ElementSpec → ElementSpec → List ℕ → Type 0
 IsMapArchive w limit k v b = IsValidArchive limit (map_spec w k v) b
-
--- `b` is the valid archive of a map of numbers in the form
-abbrev pub IsNumberArchive : {A : Type 0} → NumberKey A → Form → List ℕ → Type 0
-IsNumberArchive k form b = IsValidArchive (limit_of form.wide) (number_map k form) b
-
--- `b` is the valid archive of a map of texts in the form
-abbrev pub IsTextArchive : Form → List ℕ → Type 0
-IsTextArchive form b = IsValidArchive (limit_of form.wide) (text_map form) b
 
 -- `b` is valid and the status is 0, or the status is that of the first validation error
 abbrev pub Opens : ℕ → ElementSpec → List ℕ → ℕ → Type 0
@@ -82,14 +48,6 @@ hash_by calls = fx_hash low_halves calls
 -- the map at the root of the archive `b`
 abbrev pub map_in : Width → ElementSpec → ElementSpec → List ℕ → MapAt
 map_in w k v b = record { word = w; key = k; value = v; bytes = b; pos = map_root w k v b }
-
--- the map of numbers, in the form, at the root of an archive
-abbrev pub numbers_in : {A : Type 0} → NumberKey A → Form → List ℕ → MapAt
-numbers_in k form = map_in (word_of form.wide) k.spec (value_spec form)
-
--- the map of texts, in the form, at the root of an archive
-abbrev pub texts_in : Form → List ℕ → MapAt
-texts_in form = map_in (word_of form.wide) (text_key form) (value_spec form)
 
 -- the decoded header of the map
 abbrev pub IsHeaderOf : MapAt → Decoded → Type 0
@@ -106,12 +64,6 @@ value_found m calls fits =
     option_map (value_pos m.key m.value)
     (pos_found generic_kind m.word (entry_spec m.key m.value).size m.bytes m.pos (hash_by calls)
     fits)
-
--- the status is 0 and `after` has the value at `target`, by `IsAt`.
--- At `None` the status is 1 and `after` is `before`.
-abbrev pub ReturnsAt : {X : Type 0} → (ℕ → X → Type 0) → Option ℕ → X → ℕ → X → Type 0
-ReturnsAt IsAt target before status after = MatchOption target ((status ≡ 1) × (after ≡ before))
-    (λ q. (status ≡ 0) × IsAt q after)
 
 -- `result` has the value at `target` and the index 0, or both are `None`.
 -- `IsAt`: the stored value at a position

@@ -1,2 +1,1 @@
 pub mod AnyValues
-pub mod Reading

@@ -59,14 +59,6 @@ module _ {A B : Type 0} (m : MapAt) (a : ValueQuery A) (value : List ℕ → ℕ
       (found.index ≡ 0) × ((x : B) × (first_value a.accept_value pairs ≡ Some x)
       × IsValue found.value x))
 
-  -- The result of a lookup is the value of the first pair whose key is accepted, by `IsValue`.
-  -- Without one the status is 1 and `after` is `before`.
-  abbrev pub ReturnsFirst : {X : Type 0} → (X → B → Type 0) → X → ℕ → X → Type 0
-  ReturnsFirst IsValue before status after = (factor : ℕ × ℕ) (pairs : List (A × B))
-      → PairsRepresent m query_pairs factor pairs
-      → MatchOption (first_value a.accept_value pairs) ((status ≡ 1) × (after ≡ before))
-      (λ x. (status ≡ 0) × IsValue after x)
-
 -- After an overwrite, what represented a list represents it with the value of `number` in the first
 -- pair whose key is accepted. Without one the status is 1; if `number` has too many bits it is 3.
 -- `Before` and `After`: the list is represented, under the load factor

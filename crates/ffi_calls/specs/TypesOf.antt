@@ -14,9 +14,9 @@ use Rattle.rkyv_keys.specs.{Comparison, one_call, same_bytes, scalar_calls, scal
 use Rattle.rkyv_keys.specs.{scalar_same, text_calls, text_fits, text_key_calls, text_same}
 use Rattle.ffi_calls.specs.AnyValues.{HasNumber, IsAny, IsCodeNumber, IsNoCode, IsNoText, IsTextFor}
 use Rattle.ffi_calls.specs.AnyValues.{Never, ReadsByteString, ReadsBytes, ReadsNumber, ReadsUnit}
+use Rattle.ffi_calls.specs.AnyValues.{TextRepresents}
 use Rattle.ffi_calls.specs.Archives.{word_of}
 use Rattle.ffi_calls.specs.IndexItems.{IndexWidth, index_width_by}
-use Rattle.ffi_calls.specs.Listed.{TextRepresents}
 use Rattle.ffi_calls.specs.declared.any_value.AnyValue.{AnyValue}
 use Rattle.ffi_calls.specs.declared.collection.Collection.{Collection}
 use Rattle.ffi_calls.specs.declared.collection.KeyType.{KeyType}

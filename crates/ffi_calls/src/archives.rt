@@ -40,22 +40,6 @@ pub(crate) fn header_of<K: Element, V: Element, W: Width>(archive: &[u8]) -> Dec
     ArchivedHashMap::of(access_unchecked::<HashMapOf<K, V, FxHasher64, W>>(archive)).header()
 }
 
-/// Returns the header of a map of these types, as it is.
-///
-/// Its clauses are the conditions of calls that read values. A caller then has them as facts.
-#[inline]
-pub(crate) fn typed_header<K: Element, V: Element, W: Width>(
-    archive: &[u8],
-    header: &Decoded,
-) -> Decoded
-    requires { IsMapArchive W.word W.LIMIT K.spec V.spec archive.now
-        × IsHeaderOf (map_in W.word K.spec V.spec archive.now) header.now }
-    ensures archive { IsMapArchive W.word W.LIMIT K.spec V.spec archive.now }
-    ensures header { IsHeaderOf (map_in W.word K.spec V.spec archive.now) result }
-{
-    *header
-}
-
 /// Returns the map in a valid archive, by its decoded header.
 #[inline]
 pub(crate) fn map_of<'a, K: Element, V: Element, W: Width>(

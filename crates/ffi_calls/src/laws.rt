@@ -11,7 +11,6 @@ use crate::any_value::{AnyItem, AnyPair, AnyValue, IndexedValue};
 use crate::collection::{Collection, KeyType, ValueType};
 use crate::containers::Codes;
 use crate::explanation::Explanation;
-use crate::form::Form;
 use rkyv_base::{Archive, Represents, Width};
 use rkyv_collections::map::laws::walks_visit_each;
 use rkyv_collections::{FxHasher64, KeyElement, NativeKey};
@@ -60,13 +59,11 @@ where
         (fx_pairs K.represents V.represents K.key_calls) }
 {}
 
-/// States that a clone of codes, forms, collections, explanations, values and items is the value
-/// itself.
+/// States that a clone of codes, collections, explanations, values and items is the value itself.
 ///
 /// Cloning them can't fail.
 pub fn clones_are_the_same<'a>()
     ensures codes { (a clone : Codes) → ⟦<Codes as Clone>⟧.is_clone a clone ↔ (clone ≡ a) }
-    ensures form { (a clone : Form) → ⟦<Form as Clone>⟧.is_clone a clone ↔ (clone ≡ a) }
     ensures key { (a clone : KeyType) → ⟦<KeyType as Clone>⟧.is_clone a clone ↔ (clone ≡ a) }
     ensures value { (a clone : ValueType) → ⟦<ValueType as Clone>⟧.is_clone a clone ↔ (clone ≡ a) }
     ensures collection { (a clone : Collection) → ⟦<Collection as Clone>⟧.is_clone a clone
@@ -80,7 +77,6 @@ pub fn clones_are_the_same<'a>()
     ensures indexed { (a clone : _) → ⟦<IndexedValue<'a> as Clone>⟧.is_clone a clone
         ↔ (clone ≡ a) }
     ensures infallible_codes { (a : Codes) → ⟦<Codes as Clone>⟧.is_infallible a }
-    ensures infallible_form { (a : Form) → ⟦<Form as Clone>⟧.is_infallible a }
     ensures infallible_key { (a : KeyType) → ⟦<KeyType as Clone>⟧.is_infallible a }
     ensures infallible_value { (a : ValueType) → ⟦<ValueType as Clone>⟧.is_infallible a }
     ensures infallible_collection { (a : Collection) → ⟦<Collection as Clone>⟧.is_infallible a }

@@ -3,17 +3,14 @@
 //! - `collection` validates archives and decodes their headers, by the codes of their contents.
 //!   `misplaced` counts the keys that a lookup of the key itself doesn't find.
 //! - `lookup` looks up keys in any collection, by the codes of its contents.
-//! - `numbers` and `texts` look up in maps to numbers, `numbers_to_texts` and `texts_to_texts` in
-//!   maps to texts, and `number_sets` and `text_sets` in sets.
 //! - `overwrite` overwrites values that are numbers, in any map.
 //! - `iteration` stores the items of any collection, by the codes of its contents.
 //! - `building` writes the archive of a list of items as any collection, and leaks its bytes to the
 //!   caller.
 //! - `containers` writes the headers of containers, opens containers, and updates their checksums.
-//! - `any_value` and `from_any` have keys and values of any type, and `reading` has the form of
-//!   keys and values.
+//! - `any_value` and `from_any` have keys and values of any type. `texts` validates texts.
 //! - `explanation` explains the first error of an archive or of a container, with its numbers.
-//! - `form` has the two flags of a map's form, and `status` the statuses that calls return.
+//! - `status` has the statuses that calls return.
 //! - `laws` states that archives represent their lists, that walks visit each pair once, and that
 //!   clones are equal to their values.
 #![tactic(auto)]
@@ -24,7 +21,6 @@ pub mod building;
 pub mod collection;
 pub mod containers;
 pub mod explanation;
-pub mod form;
 pub mod from_any;
 mod index;
 mod index_in_place;
@@ -33,16 +29,9 @@ pub mod laws;
 pub mod lookup;
 mod map_lookup;
 pub mod misplaced;
-pub mod number_sets;
-pub mod numbers;
-pub mod numbers_to_texts;
 pub mod overwrite;
-pub mod reading;
-mod sets;
 pub mod status;
-pub mod text_sets;
 pub mod texts;
-pub mod texts_to_texts;
 pub mod types;
 mod value;
 mod walk;

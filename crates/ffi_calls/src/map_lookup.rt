@@ -3,12 +3,11 @@
 ghost use Rattle.std.specs.Prelude.{IfSome, false, true, ◌≡◌};
 ghost use Rattle.rkyv_base.specs.{Viewable};
 ghost use Rattle.ffi_calls.specs.{FindsFirstValue, FindsValue, IsHeaderOf, IsMapArchive};
-ghost use Rattle.ffi_calls.specs.{KeepsHeader, Overwrites, PosOfFirst, ReturnsAt, ReturnsFirst};
-ghost use Rattle.ffi_calls.specs.{SetsFirstOf, map_in, query_of_key, value_found};
+ghost use Rattle.ffi_calls.specs.{KeepsHeader, Overwrites, PosOfFirst, SetsFirstOf, map_in};
+ghost use Rattle.ffi_calls.specs.{query_of_key, value_found};
 
 use crate::any_value::IndexedValue;
 use crate::archives::{map_of, root_of};
-use crate::reading::{ReadAs, StoresNative};
 use crate::status::{DONE, NOT_FOUND, VALUE_TOO_LARGE};
 use crate::types::StoredValue;
 use crate::value::Value;
@@ -65,39 +64,6 @@ pub(crate) fn find_in<
             value: V::to_any(View::new(archive, pos)),
         }),
         None => None,
-    }
-}
-
-/// Looks up a key in a valid archive, by its decoded header, and stores its value in `value`.
-///
-/// # Errors
-///
-/// - `NOT_FOUND`: the lookup doesn't find the key; `value` is unchanged then.
-#[inline]
-pub(crate) fn get_in<
-    'a,
-    A: NativeKey<K>,
-    X: Copy,
-    B,
-    K: KeyElement + Represents<A>,
-    V: ReadAs<'a, X> + StoresNative<X, B>,
-    W: Width,
->(archive: &'a [u8], header: &Decoded, key: &A, value: &mut X) -> u32
-    requires archive { IsMapArchive W.word W.LIMIT K.spec V.spec archive.now }
-    requires header { IsHeaderOf (map_in W.word K.spec V.spec archive.now) header.now }
-    ensures outcome { ReturnsAt (V.reads archive.now)
-        (value_found (map_in W.word K.spec V.spec archive.now) (A.calls key.now)
-        (A.fits key.now archive.now)) value.old result value.new }
-    ensures listed { ReturnsFirst (map_in W.word K.spec V.spec archive.now)
-        (query_of_key K.represents K.key_calls (A.eq key.now)) V.represents V.is_of value.old result
-        value.new }
-{
-    match value_pos_in::<A, B, K, V, W>(archive, header, key) {
-        Some(pos) => {
-            *value = V::read_as(View::new(archive, pos));
-            DONE
-        }
-        None => NOT_FOUND,
     }
 }
 

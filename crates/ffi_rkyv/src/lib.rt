@@ -10,11 +10,6 @@
 mod archives;
 mod containers;
 mod interface;
-mod long_lookups;
 mod lookup;
-mod lookups;
 mod overwrite;
-mod set_lookups;
-mod text_value;
-mod text_value_lookups;
 mod texts;

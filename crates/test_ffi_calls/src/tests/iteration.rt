@@ -13,7 +13,7 @@ use crate::tests::text_archives::{
     empty_to_two_texts, empty_to_wide_text, great_to_wide_text, long_to_two_texts, one_to_tea,
     one_to_two_texts, one_to_wide_text,
 };
-use crate::tests::{expect_equal, index_archives, index_text_archives, number_sets, text_sets};
+use crate::tests::{expect_equal, index_archives, index_text_archives, set_archives};
 use ffi_calls::any_value::{AnyItem, AnyValue};
 use ffi_calls::iteration::next_items;
 use ffi_calls::laws;
@@ -334,56 +334,56 @@ fn values_that_are_texts_are_visited(rt: HostRuntime) {
 fn sets_are_visited(rt: HostRuntime) {
     expect_stored(
         &rt,
-        &number_sets::one(),
+        &set_archives::one(),
         (SET, U32, UNIT, 4),
         0,
         (1, (2, 1, b"", 0, b""), NINE),
     );
     expect_stored(
         &rt,
-        &number_sets::one_twice(),
+        &set_archives::one_twice(),
         (SET, U32, UNIT, 4),
         0,
         (2, (1, 1, b"", 0, b""), (2, 1, b"", 0, b"")),
     );
     expect_stored(
         &rt,
-        &number_sets::wide_one(),
+        &set_archives::wide_one(),
         (SET, U32, UNIT, 8),
         2,
         (0, NINE, NINE),
     );
     expect_stored(
         &rt,
-        &number_sets::great(),
+        &set_archives::great(),
         (SET, U64, UNIT, 4),
         0,
         (1, (2, GREAT, b"", 0, b""), NINE),
     );
     expect_stored(
         &rt,
-        &number_sets::wide_long_one(),
+        &set_archives::wide_long_one(),
         (SET, U64, UNIT, 8),
         1,
         (1, (2, 1, b"", 0, b""), NINE),
     );
     expect_stored(
         &rt,
-        &text_sets::empty_text(),
+        &set_archives::empty_text(),
         (SET, TEXT, UNIT, 4),
         0,
         (1, (2, 0, b"", 0, b""), NINE),
     );
     expect_stored(
         &rt,
-        &text_sets::wide_empty_text(),
+        &set_archives::wide_empty_text(),
         (SET, TEXT, UNIT, 8),
         2,
         (0, NINE, NINE),
     );
     expect_stored(
         &rt,
-        &text_sets::empty_text_twice(),
+        &set_archives::empty_text_twice(),
         (SET, TEXT, UNIT, 4),
         0,
         (2, (1, 0, b"", 0, b""), (2, 0, b"", 0, b"")),

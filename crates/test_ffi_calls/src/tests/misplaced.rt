@@ -16,13 +16,14 @@ use crate::tests::index_archives::{
     TWO_TEXTS,
 };
 use crate::tests::index_text_archives::{LONG_TO_TWO_TEXTS, ONE_TO_WIDE_TEXT};
-use crate::tests::number_sets::{one, one_twice, wide_long_one, wide_one};
 use crate::tests::opened::{Contents, INDEX_MAP, MAP, SET, TEXT, U32, U64, UNIT, codes, header_in};
+use crate::tests::set_archives::{
+    empty_text, empty_text_twice as items_twice, one, one_twice, wide_long_one, wide_one,
+};
 use crate::tests::support::{with_byte, with_bytes};
 use crate::tests::text_archives::{
     empty_to_two_texts, great_to_wide_text, long_to_two_texts, one_to_two_texts,
 };
-use crate::tests::text_sets::{empty_text, empty_text_twice as items_twice};
 use ffi_calls::misplaced::misplaced_up_to;
 use std::process::Abort;
 use test_support::archives::archive;

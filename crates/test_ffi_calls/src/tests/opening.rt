@@ -6,16 +6,15 @@ use crate::tests::archives::{
 };
 use crate::tests::expect_equal;
 use crate::tests::index_archives::{NO_PAIRS, NO_WIDE_PAIRS};
-use crate::tests::number_sets::{one, wide_long_one, wide_one};
 use crate::tests::opened::{
     BOOL, BYTES, Contents, INDEX_MAP, INDEX_SET, MAP, SET, TEXT, U32, U64, UNIT, codes,
 };
+use crate::tests::set_archives::{empty_text, one, wide_long_one, wide_one};
 use crate::tests::support::{Numbers, numbers_of, with_byte};
 use crate::tests::text_archives::{
     empty_to_text, empty_to_wide_text, long_to_tea, long_to_two_texts, one_to_tea,
     one_to_two_texts, one_to_wide_text,
 };
-use crate::tests::text_sets::empty_text;
 use ffi_calls::collection::{explain_archive, open_archive};
 use std::process::Abort;
 

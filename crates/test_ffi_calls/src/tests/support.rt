@@ -1,6 +1,7 @@
 //! Helpers of several tests.
 
 use crate::tests::expect_equal;
+use ffi_calls::any_value::AnyValue;
 use ffi_calls::building::Built;
 use ffi_calls::explanation::Explanation;
 use ffi_calls::status::DONE;
@@ -8,6 +9,17 @@ use std::process::Abort;
 
 /// The number whose low 32 bits are 1, and whose high 32 bits are 1.
 pub(crate) const GREAT: u64 = 0x1_0000_0001;
+
+/// A key or a value: its number and its bytes.
+pub(crate) type Part<'a> = (u64, &'a [u8]);
+
+/// A value that no archive has.
+pub(crate) const OTHER: Part<'_> = (9, b"?");
+
+/// Returns the key or the value with these parts.
+pub(crate) fn any((number, bytes): Part<'_>) -> AnyValue<'_> {
+    AnyValue { number, bytes }
+}
 
 /// The status, the position and the two numbers of an explanation.
 pub(crate) type Numbers = (u32, i64, u64, u64);

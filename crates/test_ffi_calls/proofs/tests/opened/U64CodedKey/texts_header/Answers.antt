@@ -1,7 +1,0 @@
-use Rattle.std.proofs.Common.{false}
-use Rattle.ffi_calls.specs.declared.collection.KeyType.TheVariants.{U64}
-use Rattle.test_ffi_calls.proofs.ByCodes.{of_texts}
-use Rattle.test_ffi_calls.proofs.tests.opened.U64CodedKey.texts_header.Goals as goal
-
-pub returns : goal.returns
-returns c = of_texts c.args.archive.now c.header_in.result false U64 c.args.wide c.to_others.result c.to_others.ensures c.header_in.ensures
