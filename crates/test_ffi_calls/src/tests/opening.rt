@@ -7,7 +7,7 @@ use crate::tests::archives::{
 use crate::tests::expect_equal;
 use crate::tests::index_archives::{NO_PAIRS, NO_WIDE_PAIRS};
 use crate::tests::opened::{
-    BOOL, BYTES, Contents, INDEX_MAP, INDEX_SET, MAP, SET, TEXT, U32, U64, UNIT, codes,
+    BOOL, BYTES, Contents, F32, F64, INDEX_MAP, INDEX_SET, MAP, SET, TEXT, U32, U64, UNIT, codes,
 };
 use crate::tests::set_archives::{empty_text, one, wide_long_one, wide_one};
 use crate::tests::support::{Numbers, numbers_of, with_byte};
@@ -133,6 +133,10 @@ fn codes_without_a_collection_are_unknown(rt: HostRuntime) {
             (NO_ITEMS, (MAP, BOOL, U32, 4), UNKNOWN),
             (NO_ITEMS, (MAP, BYTES, U32, 4), UNKNOWN),
             (NO_ITEMS, (MAP, 0x23, U32, 4), UNKNOWN),
+            (NO_ITEMS, (MAP, F32, U32, 4), UNKNOWN),
+            (NO_ITEMS, (SET, F64, UNIT, 4), UNKNOWN),
+            (NO_ITEMS, (SET, U32, F32, 4), UNKNOWN),
+            (NO_ITEMS, (MAP, U32, 0x32, 4), UNKNOWN),
             (NO_ITEMS, (MAP, U32, 6, 4), UNKNOWN),
             (NO_ITEMS, (MAP, U32, U32, 0), UNKNOWN),
             (NO_ITEMS, (MAP, U32, U32, 5), UNKNOWN),

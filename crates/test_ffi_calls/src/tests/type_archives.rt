@@ -1,8 +1,8 @@
 //! Archives of known bytes of collections whose keys or values are of other types.
 //!
-//! The other tests have numbers of 32 and 64 bits, texts and units. Those that rkyv's
-//! table code did not write have the bytes that `docs/FORMAT.md` states. A floating-point number is its bits: 1.5 of
-//! 32 bits is 3fc00000, -0.0 is 80000000, and 0.1 of 64 bits is 3fb999999999999a.
+//! The other tests have numbers of 32 and 64 bits, texts and units. Archives that rkyv's table code
+//! did not write have the bytes that `docs/FORMAT.md` states. A floating-point number is its bits:
+//! 1.5 of 32 bits is 3fc00000, -0.0 is 80000000, and 0.1 of 64 bits is 3fb999999999999a.
 
 /// The map of 86 to 7 and of 31,996 to 109, of 16 and 8 bits, as rkyv's table code wrote it.
 pub(crate) const SIXTEEN_TO_EIGHT: &[u8; 56] = &[

@@ -2,12 +2,13 @@
 
 use crate::tests::iteration::{NINE, expect_items};
 use crate::tests::opened::{
-    BOOL, BYTES, CHAR, I8, I16, I32, I64, INDEX_MAP, MAP, SET, U8, U16, U32, U64, UNIT,
+    BOOL, BYTES, CHAR, F32, F64, I8, I16, I32, I64, INDEX_MAP, MAP, SET, U8, U16, U32, U64, UNIT,
 };
 use crate::tests::opening::{VALID, expect_errors, expect_errors_with};
 use crate::tests::type_archives::{
-    INDEXED_SIXTEEN, SET_OF_SEVEN, SEVEN_TO_BYTES, SEVEN_TO_CHAR, SEVEN_TO_TRUE, SIXTEEN_TO_EIGHT,
-    SIXTY_FOUR_TO_32, WIDE_INDEXED_64, WIDE_SIXTEEN_TO_EIGHT,
+    INDEXED_SIXTEEN, MINUS_ONE_TO_F32, SET_OF_SEVEN, SEVEN_TO_BYTES, SEVEN_TO_CHAR, SEVEN_TO_TRUE,
+    SIXTEEN_TO_EIGHT, SIXTY_FOUR_TO_32, TWO_TO_F64, WIDE_INDEXED_64, WIDE_MINUS_ONE_TO_F32,
+    WIDE_SIXTEEN_TO_EIGHT, WIDE_TWO_TO_F64,
 };
 
 #[test]
@@ -107,6 +108,22 @@ fn other_types_are_visited(rt: HostRuntime) {
                 (2, 7, b"", 0, b""),
                 NINE,
             ),
+            (
+                MINUS_ONE_TO_F32,
+                (MAP, I32, F32, 4),
+                0,
+                2,
+                (1, 5, b"", 0x8000_0000, b""),
+                (3, 0xffff_ffff, b"", 0x3fc0_0000, b""),
+            ),
+            (
+                WIDE_TWO_TO_F64,
+                (MAP, U16, F64, 8),
+                0,
+                1,
+                (1, 2, b"", 0x3fb9_9999_9999_999a, b""),
+                NINE,
+            ),
         ],
     );
 }
@@ -123,6 +140,10 @@ fn values_of_other_types_are_validated(rt: HostRuntime) {
             (SEVEN_TO_CHAR, (MAP, U32, I32, 4), VALID),
             (SIXTY_FOUR_TO_32, (MAP, U64, U32, 4), VALID),
             (SET_OF_SEVEN, (SET, U8, UNIT, 4), VALID),
+            (MINUS_ONE_TO_F32, (MAP, I32, F32, 4), VALID),
+            (WIDE_MINUS_ONE_TO_F32, (MAP, I32, F32, 8), VALID),
+            (TWO_TO_F64, (MAP, U16, F64, 4), VALID),
+            (WIDE_TWO_TO_F64, (MAP, I16, F64, 8), VALID),
         ],
     );
     // A `bool` is 0 or 1.

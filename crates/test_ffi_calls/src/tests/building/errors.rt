@@ -3,7 +3,7 @@
 use crate::tests::building::{
     ANY, LARGE, NOT_TEXT, TOO_LARGE, expect_ones, expect_twos, write_three,
 };
-use crate::tests::opened::{INDEX_MAP, INDEX_SET, MAP, SET, TEXT, U32, U64, UNIT};
+use crate::tests::opened::{F32, INDEX_MAP, INDEX_SET, MAP, SET, TEXT, U32, U64, UNIT};
 use crate::tests::support::{GREAT, Part, expect_outcome};
 
 #[test]
@@ -219,7 +219,7 @@ fn unknown_codes_are_an_error(rt: HostRuntime) {
         &[
             ((0, U32, U32, 4), (1, b""), (2, b""), &[], (7, true)),
             ((5, U32, U32, 4), (1, b""), (2, b""), &[], (7, true)),
-            ((MAP, 0x34, U32, 4), (1, b""), (2, b""), &[], (7, true)),
+            ((MAP, F32, U32, 4), (1, b""), (2, b""), &[], (7, true)),
             ((MAP, U32, UNIT, 4), (1, b""), (2, b""), &[], (7, true)),
             ((SET, U32, U32, 4), (1, b""), (2, b""), &[], (7, true)),
             ((MAP, U32, U32, 2), (1, b""), (2, b""), &[], (7, true)),

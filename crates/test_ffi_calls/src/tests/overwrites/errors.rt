@@ -7,9 +7,12 @@ use crate::tests::archives::{
 use crate::tests::index_archives;
 use crate::tests::index_archives::{NO_PAIRS, ONE_ITEM};
 use crate::tests::index_text_archives::ONE_TO_TEA;
-use crate::tests::opened::{INDEX_MAP, INDEX_SET, MAP, SET, TEXT, U32, U64, UNIT};
+use crate::tests::opened::{
+    BOOL, F32, I16, I32, INDEX_MAP, INDEX_SET, MAP, SET, TEXT, U8, U32, U64, UNIT,
+};
 use crate::tests::overwrites::expect_errors;
 use crate::tests::support::GREAT;
+use crate::tests::type_archives::{MINUS_ONE_TO_F32, SEVEN_TO_TRUE, SIXTEEN_TO_EIGHT};
 
 #[test]
 fn numbers_of_hash_maps_have_their_errors(rt: HostRuntime) {
@@ -138,6 +141,28 @@ fn texts_of_index_maps_have_their_errors(rt: HostRuntime) {
             ((INDEX_MAP, TEXT, U64, 8), (0, &[0x80]), 8, 4),
         ],
     );
+}
+
+#[test]
+fn other_types_of_numbers_have_their_errors(rt: HostRuntime) {
+    expect_errors(
+        &rt,
+        SIXTEEN_TO_EIGHT,
+        &[
+            ((MAP, I16, U8, 4), (86, b""), 256, 3),
+            ((MAP, I16, U8, 4), (0x1_0056, b""), 7, 3),
+            ((MAP, I16, U8, 4), (87, b""), 7, 1),
+        ],
+    );
+    expect_errors(
+        &rt,
+        MINUS_ONE_TO_F32,
+        &[
+            ((MAP, I32, F32, 4), (5, b""), 0x1_0000_0000, 3),
+            ((MAP, I32, F32, 4), (6, b""), 0, 1),
+        ],
+    );
+    expect_errors(&rt, SEVEN_TO_TRUE, &[((MAP, U8, BOOL, 4), (7, b""), 0, 7)]);
 }
 
 #[test]

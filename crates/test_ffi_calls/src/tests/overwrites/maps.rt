@@ -4,9 +4,10 @@ use crate::tests::archives::{
     EMPTY_TEXT, EMPTY_WIDE_TEXT, ONE_GREAT_NUMBER, ONE_LONG_NUMBER, ONE_NUMBER, ONE_NUMBER_TWICE,
     ONE_SYMBOL, ONE_WIDE_GREAT_NUMBER, ONE_WIDE_LONG_NUMBER, ONE_WIDE_NUMBER,
 };
-use crate::tests::opened::{MAP, TEXT, U32, U64};
+use crate::tests::opened::{F32, F64, I32, MAP, TEXT, U16, U32, U64};
 use crate::tests::overwrites::{expect_changed, expect_overwrite_and_get};
 use crate::tests::support::GREAT;
+use crate::tests::type_archives::{MINUS_ONE_TO_F32, WIDE_TWO_TO_F64};
 
 #[test]
 fn headers_serve_after_overwrites(rt: HostRuntime) {
@@ -177,5 +178,26 @@ fn overwrites_under_texts_change_the_value_alone(rt: HostRuntime) {
         (0, b""),
         u64::MAX,
         (16, &[0xff; 8]),
+    );
+}
+
+#[test]
+fn overwrites_of_floating_point_numbers_take_their_bits(rt: HostRuntime) {
+    // 1.0 of 32 bits, and -2.0 of 64 bits.
+    expect_changed(
+        &rt,
+        MINUS_ONE_TO_F32,
+        (MAP, I32, F32, 4),
+        (5, b""),
+        0x3f80_0000,
+        (20, &[0, 0, 0x80, 0x3f]),
+    );
+    expect_changed(
+        &rt,
+        WIDE_TWO_TO_F64,
+        (MAP, U16, F64, 8),
+        (2, b""),
+        0xc000_0000_0000_0000,
+        (24, &[0, 0, 0, 0, 0, 0, 0, 0xc0]),
     );
 }
