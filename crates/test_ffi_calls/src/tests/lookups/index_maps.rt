@@ -1,4 +1,4 @@
-//! Tests of lookups in index maps: they find the value and the index of the first pair with the key.
+//! Tests of lookups in index maps: they find the value and the index of the first such pair.
 
 use crate::tests::index_archives::{
     EMPTY_TEXT, EMPTY_WIDE_TEXT, LONG_NUMBER_TWICE, NO_PAIRS, NO_WIDE_PAIRS, ONE_LONG_NUMBER,
