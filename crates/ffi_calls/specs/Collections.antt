@@ -9,10 +9,13 @@ use Rattle.rkyv_table.specs.declared.table.decoded.Decoded.{Decoded}
 use Rattle.ffi_calls.specs.Archives.{IsHeaderOf, Opens, limit_of, word_of}
 use Rattle.ffi_calls.specs.Explanation.{Explains, explained}
 use Rattle.ffi_calls.specs.IndexArchives.{index_map}
-use Rattle.ffi_calls.specs.TypesOf.{key_type_of, value_type_of}
+use Rattle.ffi_calls.specs.TypesOf.{Types, key_type_of, value_type_of}
+use Rattle.ffi_calls.specs.declared.any_value.AnyValue.{AnyValue}
 use Rattle.ffi_calls.specs.declared.collection.Collection.{Collection}
+use Rattle.ffi_calls.specs.declared.collection.Decoding.{Decoding}
 use Rattle.ffi_calls.specs.declared.collection.KeyType.{KeyType}
 use Rattle.ffi_calls.specs.declared.collection.KeyType.TheVariants as key
+use Rattle.ffi_calls.specs.declared.collection.Validation.{Validation}
 use Rattle.ffi_calls.specs.declared.collection.ValueType.{ValueType}
 use Rattle.ffi_calls.specs.declared.collection.ValueType.TheVariants as value
 use Rattle.ffi_calls.specs.declared.containers.Codes.{Codes}
@@ -93,6 +96,35 @@ collection_spec c = let w = word_of c.wide in
 abbrev pub collection_in : Collection → List ℕ → MapAt
 collection_in c = let w = word_of c.wide in
     root_in c.indexed w (key_type_spec w c.key) (value_type_spec w c.value)
+
+-- the spec of the header of a collection of these types
+abbrev pub types_spec : {P : Type 0} → Types P → ElementSpec
+types_spec t = root_spec t.indexed t.width.archive.word t.key.spec t.value.spec
+
+-- `b` is the valid archive of a collection of these types
+abbrev pub IsArchiveOfTypes : {P : Type 0} → Types P → List ℕ → Type 0
+IsArchiveOfTypes t b = IsValidArchive t.width.archive.limit (types_spec t) b
+
+-- the collection of these types at the root of an archive
+abbrev pub types_in : {P : Type 0} → Types P → List ℕ → MapAt
+types_in t b = root_in t.indexed t.width.archive.word t.key.spec t.value.spec b
+
+-- validation has no condition
+abbrev pub CanValidate : Validation → List ℕ → Types AnyValue → Type 0
+CanValidate op before t = Unit
+
+-- the result of validation
+abbrev pub ExplainsTypes : Validation → List ℕ → Types AnyValue → Explanation → List ℕ → Type 0
+ExplainsTypes op before t result after =
+    Explains t.width.archive.limit (types_spec t) op.archive.now result
+
+-- the condition of decoding: the archive is valid
+abbrev pub CanDecode : Decoding → List ℕ → Types AnyValue → Type 0
+CanDecode op before t = IsArchiveOfTypes t op.archive.now
+
+-- the result of decoding
+abbrev pub DecodesTypes : Decoding → List ℕ → Types AnyValue → Decoded → List ℕ → Type 0
+DecodesTypes op before t result after = IsHeaderOf (types_in t op.archive.now) result
 
 -- `b` is the valid archive of the collection with the codes
 abbrev pub IsValidByCodes : Codes → List ℕ → Type 0

@@ -1,9 +1,7 @@
 -- Iteration over the items of any collection.
 use Rattle.std.specs.Prelude.{ℕ, Bool, true, false, IfSome, List}
-use Rattle.rkyv_base.specs.{ElementSpec, IsValidArchive}
-use Rattle.rkyv_collections.specs.{MapAt}
 use Rattle.ffi_calls.specs.Archives.{IsHeaderOf}
-use Rattle.ffi_calls.specs.Collections.{collection_of, root_in, root_spec}
+use Rattle.ffi_calls.specs.Collections.{IsArchiveOfTypes, collection_of, types_in}
 use Rattle.ffi_calls.specs.IndexArchives.{StoresItemsFrom}
 use Rattle.ffi_calls.specs.IndexLists.{StoresListed}
 use Rattle.ffi_calls.specs.Lists.{fx_pairs}
@@ -12,18 +10,6 @@ use Rattle.ffi_calls.specs.Walking.{StoresNextItems}
 use Rattle.ffi_calls.specs.declared.any_value.AnyItem.{AnyItem}
 use Rattle.ffi_calls.specs.declared.containers.Codes.{Codes}
 use Rattle.ffi_calls.specs.declared.iteration.Iteration.{Iteration}
-
--- the spec of the header of a collection of these types
-abbrev pub types_spec : {P : Type 0} → Types P → ElementSpec
-types_spec t = root_spec t.indexed t.width.archive.word t.key.spec t.value.spec
-
--- `b` is the valid archive of a collection of these types
-abbrev pub IsArchiveOfTypes : {P : Type 0} → Types P → List ℕ → Type 0
-IsArchiveOfTypes t b = IsValidArchive t.width.archive.limit (types_spec t) b
-
--- the collection of these types at the root of an archive
-abbrev pub types_in : {P : Type 0} → Types P → List ℕ → MapAt
-types_in t b = root_in t.indexed t.width.archive.word t.key.spec t.value.spec b
 
 -- the condition of iteration: the archive is valid, and the header is its own
 pub record CanIterate {P : Type 0} (op : Iteration) (before : List AnyItem) (t : Types P) : Type 0

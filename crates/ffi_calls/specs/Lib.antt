@@ -52,15 +52,16 @@ unfoldable pub use TypesOf.{StoredValueMembers, byte_string_values, key_members,
 unfoldable pub use TypesOf.{scalar_keys, scalar_values, text_keys, text_values, types_by, types_of}
 unfoldable pub use TypesOf.{unit_values, value_members, value_type_of}
 pub use TypesOf.{KeyTypes, Types, ValueTypes}
-unfoldable pub use Iteration.{IsArchiveOfTypes, StoresItems, StoresItemsByCodes, StoresItemsIn}
-unfoldable pub use Iteration.{types_in, types_spec}
+unfoldable pub use Iteration.{StoresItems, StoresItemsByCodes, StoresItemsIn}
 pub use Iteration.{CanIterate, StoresFromIndex}
 unfoldable pub use Lookup.{FindsKey, FindsShown, LooksUp, LooksUpIn, ReturnsByCodes, ReturnsIn}
 pub use Lookup.{CanLookUp, FindsInIndex, FindsInMap}
-unfoldable pub use Collections.{ExplainsByCodes, IsHeaderByCodes, IsValidByCodes, OpensByCodes}
-unfoldable pub use Collections.{collection_by, collection_in, collection_of, collection_spec}
-unfoldable pub use Collections.{index_flag, key_type, key_type_spec, root_in, root_spec, value_type}
-unfoldable pub use Collections.{value_type_spec, wide_flag}
+unfoldable pub use Collections.{CanDecode, CanValidate, DecodesTypes, ExplainsByCodes}
+unfoldable pub use Collections.{ExplainsTypes, IsArchiveOfTypes, IsHeaderByCodes, IsValidByCodes}
+unfoldable pub use Collections.{OpensByCodes, collection_by, collection_in, collection_of}
+unfoldable pub use Collections.{collection_spec, index_flag, key_type, key_type_spec, root_in}
+unfoldable pub use Collections.{root_spec, types_in, types_spec, value_type, value_type_spec}
+unfoldable pub use Collections.{wide_flag}
 unfoldable pub use Building.{ArchiveOfItemsFails, ArchiveOfPairsFails, ArePairsOf, BuildsByCodes}
 unfoldable pub use Building.{CanBuild, FirstUnfit, HasNoPair, HasPair, IsArchiveOfItems}
 unfoldable pub use Building.{IsArchiveOfPairs, IsPairOf, Outputs, PairsFail, SetArchivesRepresent}
@@ -69,6 +70,7 @@ unfoldable pub use Building.{types_natives}
 unfoldable pub use Overwrite.{KeepsHeaderByCodes, RepresentsBy, SetsByCodes, SetsKeyOf, SetsShown}
 unfoldable pub use Overwrite.{value_found_by}
 pub use Overwrite.{KeepsRoot, SetsKey}
-unfoldable pub use Misplaced.{CountsIn, CountsMisplaced, StoresMisplaced, index_with_keys}
-unfoldable pub use Misplaced.{key_type_calls, key_type_same, misplaced_in, misplaced_of, strides_in}
-unfoldable pub use Misplaced.{strides_of}
+unfoldable pub use Misplaced.{CountsIn, CountsMisplaced, CountsTypes, StoresMisplaced}
+unfoldable pub use Misplaced.{index_with_keys, key_type_calls, key_type_same, misplaced_in}
+unfoldable pub use Misplaced.{misplaced_of, strides_in, strides_of}
+pub use Misplaced.{CanCount}

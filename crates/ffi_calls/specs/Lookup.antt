@@ -2,10 +2,9 @@
 use Rattle.std.specs.Prelude.{◌≡◌, ℕ, ◌⊎◌, Bool, true, false, IfSome, List, MatchResult, None}
 use Rattle.std.specs.Prelude.{Option, Result, Some}
 use Rattle.ffi_calls.specs.Archives.{FindsValue, IsHeaderOf, value_found}
-use Rattle.ffi_calls.specs.Collections.{collection_of}
+use Rattle.ffi_calls.specs.Collections.{IsArchiveOfTypes, collection_of, types_in}
 use Rattle.ffi_calls.specs.IndexArchives.{FindsIndexed, found_index}
 use Rattle.ffi_calls.specs.IndexLists.{FindsFirstIndexed}
-use Rattle.ffi_calls.specs.Iteration.{IsArchiveOfTypes, types_in}
 use Rattle.ffi_calls.specs.Lists.{FindsFirstValue, query_of_key}
 use Rattle.ffi_calls.specs.TypesOf.{Types, types_of}
 use Rattle.ffi_calls.specs.declared.any_value.AnyValue.{AnyValue}

@@ -6,13 +6,15 @@ use Rattle.rkyv_scan.specs.{HasherCall}
 use Rattle.rkyv_keys.specs.{Comparison}
 use Rattle.rkyv_collections.specs.{MapAt, map_misplaced, map_strides}
 use Rattle.rkyv_index.specs.{Index, index_misplaced, keys_strides}
-use Rattle.ffi_calls.specs.Archives.{word_of}
-use Rattle.ffi_calls.specs.Collections.{collection_in, collection_of}
+use Rattle.ffi_calls.specs.Archives.{IsHeaderOf, word_of}
+use Rattle.ffi_calls.specs.Collections.{IsArchiveOfTypes, collection_in, collection_of, types_in}
 use Rattle.ffi_calls.specs.Lists.{fx_hash_at}
-use Rattle.ffi_calls.specs.TypesOf.{key_type_of}
+use Rattle.ffi_calls.specs.TypesOf.{Types, key_type_of}
+use Rattle.ffi_calls.specs.declared.any_value.AnyValue.{AnyValue}
 use Rattle.ffi_calls.specs.declared.collection.Collection.{Collection}
 use Rattle.ffi_calls.specs.declared.collection.KeyType.{KeyType}
 use Rattle.ffi_calls.specs.declared.containers.Codes.{Codes}
+use Rattle.ffi_calls.specs.declared.misplaced.Counting.{Counting}
 
 -- the comparison of keys of the type in an archive of the word
 abbrev pub key_type_same : Width → KeyType → Comparison
@@ -54,6 +56,16 @@ module _ (m : MapAt) (same : Comparison) (calls : List ℕ → ℕ → List Hash
   CountsIn indexed limit result =
       MatchOption result (limit < strides_in indexed)
       (λ n. (strides_in indexed ≤ limit) × (n ≡ misplaced_in indexed))
+
+-- the condition of a count: the archive is valid, and the header is its own
+pub record CanCount (op : Counting) (before : List ℕ) (t : Types AnyValue) : Type 0 where
+  pub archive : IsArchiveOfTypes t op.archive.now
+  pub header : IsHeaderOf (types_in t op.archive.now) op.header.now
+
+-- the result of a count
+abbrev pub CountsTypes : Counting → List ℕ → Types AnyValue → Option ℕ → List ℕ → Type 0
+CountsTypes op before t result after =
+    CountsIn (types_in t op.archive.now) t.key.same t.key.key_calls t.indexed op.limit result
 
 -- the number of misplaced keys of the collection at the root of an archive
 abbrev pub misplaced_of : Collection → List ℕ → ℕ

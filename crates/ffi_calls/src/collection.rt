@@ -10,17 +10,20 @@
 
 ghost use Rattle.std.specs.Prelude.{◌≡◌};
 ghost use Rattle.rkyv_base.specs.{IsValidArchive};
-ghost use Rattle.ffi_calls.specs.{Explains, ExplainsByCodes, IsHeaderByCodes, IsHeaderOf};
-ghost use Rattle.ffi_calls.specs.{IsValidByCodes, OpensByCodes, collection_in, collection_of};
-ghost use Rattle.ffi_calls.specs.{collection_spec, index_flag, key_type, key_type_spec, limit_of};
-ghost use Rattle.ffi_calls.specs.{root_in, root_spec, value_type, value_type_spec, wide_flag};
+ghost use Rattle.ffi_calls.specs.{CanDecode, CanValidate, DecodesTypes, Explains, ExplainsByCodes};
+ghost use Rattle.ffi_calls.specs.{ExplainsTypes, IsHeaderByCodes, IsHeaderOf, IsValidByCodes};
+ghost use Rattle.ffi_calls.specs.{OpensByCodes, collection_in, collection_of, collection_spec};
+ghost use Rattle.ffi_calls.specs.{index_flag, key_type, limit_of, root_in, root_spec, value_type};
+ghost use Rattle.ffi_calls.specs.{wide_flag};
 
+use crate::any_value::AnyValue;
 use crate::archives::{explain_root, header_of};
 use crate::containers::Codes;
 use crate::explanation::{Explanation, explained};
 use crate::index::index_header_of;
 use crate::status::UNKNOWN_CODES;
-use rkyv_base::{Bytes, Element, Narrow, Text, Wide};
+use crate::types::{KeyFrom, Operation, StoredKey, StoredValue, ValueFrom, dispatch};
+use rkyv_base::Element;
 use rkyv_collections::{FxHasher64, HashMapOf};
 use rkyv_index::{IndexMapOf, IndexWidth};
 use rkyv_table::table::decoded::Decoded;
@@ -160,40 +163,28 @@ fn explain_kind<K: Element, V: Element, W: IndexWidth>(archive: &[u8], indexed: 
     }
 }
 
-/// Validates an archive, by the type of its values too.
-fn explain_values<K: Element, W: IndexWidth>(
-    archive: &[u8],
-    indexed: bool,
-    value: ValueType,
-) -> Explanation
-    ensures { Explains W.LIMIT (root_spec indexed W.word K.spec (value_type_spec W.word value))
-        archive.now result }
-{
-    match value {
-        ValueType::U8 => explain_kind::<K, u8, W>(archive, indexed),
-        ValueType::U16 => explain_kind::<K, u16, W>(archive, indexed),
-        ValueType::U32 => explain_kind::<K, u32, W>(archive, indexed),
-        ValueType::U64 => explain_kind::<K, u64, W>(archive, indexed),
-        ValueType::Bool => explain_kind::<K, bool, W>(archive, indexed),
-        ValueType::Char => explain_kind::<K, char, W>(archive, indexed),
-        ValueType::Text => explain_kind::<K, Text<W>, W>(archive, indexed),
-        ValueType::Bytes => explain_kind::<K, Bytes<W>, W>(archive, indexed),
-        ValueType::Unit => explain_kind::<K, (), W>(archive, indexed),
-    }
+/// The validation of an archive.
+#[derive(Clone, Copy)]
+pub(crate) struct Validation<'a> {
+    archive: &'a [u8],
 }
 
-/// Validates an archive, by the type of its keys too.
-fn explain_keys<W: IndexWidth>(archive: &[u8], of: Collection) -> Explanation
-    ensures { Explains W.LIMIT (root_spec of.indexed W.word (key_type_spec W.word of.key)
-        (value_type_spec W.word of.value)) archive.now result }
-{
-    match of.key {
-        KeyType::U8 => explain_values::<u8, W>(archive, of.indexed, of.value),
-        KeyType::U16 => explain_values::<u16, W>(archive, of.indexed, of.value),
-        KeyType::U32 => explain_values::<u32, W>(archive, of.indexed, of.value),
-        KeyType::U64 => explain_values::<u64, W>(archive, of.indexed, of.value),
-        KeyType::Char => explain_values::<char, W>(archive, of.indexed, of.value),
-        KeyType::Text => explain_values::<Text<W>, W>(archive, of.indexed, of.value),
+impl<'a, 'b> Operation<AnyValue<'b>, u8> for Validation<'a> {
+    type Out = Explanation;
+
+    ghost pre = { CanValidate };
+
+    ghost post = { ExplainsTypes };
+
+    #[inline]
+    fn run<
+        A: KeyFrom<AnyValue<'b>, K, W>,
+        B: ValueFrom<AnyValue<'b>, V, W>,
+        K: StoredKey<A>,
+        V: StoredValue<B>,
+        W: IndexWidth,
+    >(self, indexed: bool, _out: &mut [u8]) -> Explanation {
+        explain_kind::<K, V, W>(self.archive, indexed)
     }
 }
 
@@ -201,11 +192,7 @@ fn explain_keys<W: IndexWidth>(archive: &[u8], of: Collection) -> Explanation
 fn explain_collection(archive: &[u8], of: Collection) -> Explanation
     ensures { Explains (limit_of of.wide) (collection_spec of) archive.now result }
 {
-    if of.wide {
-        explain_keys::<Wide>(archive, of)
-    } else {
-        explain_keys::<Narrow>(archive, of)
-    }
+    dispatch(of, Validation { archive }, &mut [])
 }
 
 /// Validates the archive of the collection with the codes, and returns the first error with its
@@ -248,44 +235,28 @@ fn decode_kind<K: Element, V: Element, W: IndexWidth>(archive: &[u8], indexed: b
     }
 }
 
-/// Returns the decoded header of a valid archive, by the type of its values too.
-fn decode_values<K: Element, W: IndexWidth>(
-    archive: &[u8],
-    indexed: bool,
-    value: ValueType,
-) -> Decoded
-    requires { IsValidArchive W.LIMIT (root_spec indexed W.word K.spec
-        (value_type_spec W.word value)) archive.now }
-    ensures { IsHeaderOf (root_in indexed W.word K.spec (value_type_spec W.word value) archive.now)
-        result }
-{
-    match value {
-        ValueType::U8 => decode_kind::<K, u8, W>(archive, indexed),
-        ValueType::U16 => decode_kind::<K, u16, W>(archive, indexed),
-        ValueType::U32 => decode_kind::<K, u32, W>(archive, indexed),
-        ValueType::U64 => decode_kind::<K, u64, W>(archive, indexed),
-        ValueType::Bool => decode_kind::<K, bool, W>(archive, indexed),
-        ValueType::Char => decode_kind::<K, char, W>(archive, indexed),
-        ValueType::Text => decode_kind::<K, Text<W>, W>(archive, indexed),
-        ValueType::Bytes => decode_kind::<K, Bytes<W>, W>(archive, indexed),
-        ValueType::Unit => decode_kind::<K, (), W>(archive, indexed),
-    }
+/// The decoding of a header.
+#[derive(Clone, Copy)]
+pub(crate) struct Decoding<'a> {
+    archive: &'a [u8],
 }
 
-/// Returns the decoded header of a valid archive, by the type of its keys too.
-fn decode_keys<W: IndexWidth>(archive: &[u8], of: Collection) -> Decoded
-    requires { IsValidArchive W.LIMIT (root_spec of.indexed W.word (key_type_spec W.word of.key)
-        (value_type_spec W.word of.value)) archive.now }
-    ensures { IsHeaderOf (root_in of.indexed W.word (key_type_spec W.word of.key)
-        (value_type_spec W.word of.value) archive.now) result }
-{
-    match of.key {
-        KeyType::U8 => decode_values::<u8, W>(archive, of.indexed, of.value),
-        KeyType::U16 => decode_values::<u16, W>(archive, of.indexed, of.value),
-        KeyType::U32 => decode_values::<u32, W>(archive, of.indexed, of.value),
-        KeyType::U64 => decode_values::<u64, W>(archive, of.indexed, of.value),
-        KeyType::Char => decode_values::<char, W>(archive, of.indexed, of.value),
-        KeyType::Text => decode_values::<Text<W>, W>(archive, of.indexed, of.value),
+impl<'a, 'b> Operation<AnyValue<'b>, u8> for Decoding<'a> {
+    type Out = Decoded;
+
+    ghost pre = { CanDecode };
+
+    ghost post = { DecodesTypes };
+
+    #[inline]
+    fn run<
+        A: KeyFrom<AnyValue<'b>, K, W>,
+        B: ValueFrom<AnyValue<'b>, V, W>,
+        K: StoredKey<A>,
+        V: StoredValue<B>,
+        W: IndexWidth,
+    >(self, indexed: bool, _out: &mut [u8]) -> Decoded {
+        decode_kind::<K, V, W>(self.archive, indexed)
     }
 }
 
@@ -294,11 +265,7 @@ fn decode_collection(archive: &[u8], of: Collection) -> Decoded
     requires { IsValidArchive (limit_of of.wide) (collection_spec of) archive.now }
     ensures { IsHeaderOf (collection_in of archive.now) result }
 {
-    if of.wide {
-        decode_keys::<Wide>(archive, of)
-    } else {
-        decode_keys::<Narrow>(archive, of)
-    }
+    dispatch(of, Decoding { archive }, &mut [])
 }
 
 /// Returns the decoded header of the collection with the codes, for lookups and iteration.

@@ -6,18 +6,20 @@
 
 ghost use Rattle.std.specs.Prelude.{false, true};
 ghost use Rattle.rkyv_base.specs.{IsValidArchive};
-ghost use Rattle.ffi_calls.specs.{CountsIn, CountsMisplaced, IsHeaderByCodes, IsHeaderOf};
-ghost use Rattle.ffi_calls.specs.{IsIndexArchive, IsMapArchive, IsValidByCodes, collection_in};
-ghost use Rattle.ffi_calls.specs.{collection_of, collection_spec, index_in, key_type_calls};
-ghost use Rattle.ffi_calls.specs.{key_type_same, key_type_spec, limit_of, map_in, root_in};
-ghost use Rattle.ffi_calls.specs.{root_spec, value_type_spec, word_of};
+ghost use Rattle.ffi_calls.specs.{CanCount, CountsIn, CountsMisplaced, CountsTypes};
+ghost use Rattle.ffi_calls.specs.{IsHeaderByCodes, IsHeaderOf, IsIndexArchive, IsMapArchive};
+ghost use Rattle.ffi_calls.specs.{IsValidByCodes, collection_in, collection_spec, index_in};
+ghost use Rattle.ffi_calls.specs.{key_type_calls, key_type_same, limit_of, map_in, root_in};
+ghost use Rattle.ffi_calls.specs.{root_spec, word_of};
 
+use crate::any_value::AnyValue;
 use crate::archives::map_of;
-use crate::collection::{Collection, KeyType, ValueType, collection_of};
+use crate::collection::{Collection, collection_of};
 use crate::containers::Codes;
 use crate::index::index_of;
 use crate::status::{DONE, LIMIT_REACHED};
-use rkyv_base::{Bytes, Element, Narrow, Text, Wide, Width};
+use crate::types::{KeyFrom, Operation, StoredKey, StoredValue, ValueFrom, dispatch};
+use rkyv_base::{Element, Width};
 use rkyv_index::IndexWidth;
 use rkyv_keys::KeyElement;
 use rkyv_table::table::decoded::Decoded;
@@ -70,58 +72,30 @@ fn misplaced_kind<K: KeyElement, V: Element, W: IndexWidth>(
     }
 }
 
-/// Returns the number of misplaced keys, by the type of the values too.
-fn misplaced_values<K: KeyElement, W: IndexWidth>(
-    archive: &[u8],
-    indexed: bool,
-    value: ValueType,
-    header: &Decoded,
+/// A count of misplaced keys.
+#[derive(Clone, Copy)]
+pub(crate) struct Counting<'a> {
+    archive: &'a [u8],
+    header: &'a Decoded,
     limit: u64,
-) -> Option<usize>
-    requires archive { IsValidArchive W.LIMIT (root_spec indexed W.word K.spec
-        (value_type_spec W.word value)) archive.now }
-    requires header { IsHeaderOf (root_in indexed W.word K.spec (value_type_spec W.word value)
-        archive.now) header.now }
-    ensures { CountsIn (root_in indexed W.word K.spec (value_type_spec W.word value) archive.now)
-        K.same K.key_calls indexed limit result }
-{
-    match value {
-        ValueType::U8 => misplaced_kind::<K, u8, W>(archive, indexed, header, limit),
-        ValueType::U16 => misplaced_kind::<K, u16, W>(archive, indexed, header, limit),
-        ValueType::U32 => misplaced_kind::<K, u32, W>(archive, indexed, header, limit),
-        ValueType::U64 => misplaced_kind::<K, u64, W>(archive, indexed, header, limit),
-        ValueType::Bool => misplaced_kind::<K, bool, W>(archive, indexed, header, limit),
-        ValueType::Char => misplaced_kind::<K, char, W>(archive, indexed, header, limit),
-        ValueType::Text => misplaced_kind::<K, Text<W>, W>(archive, indexed, header, limit),
-        ValueType::Bytes => misplaced_kind::<K, Bytes<W>, W>(archive, indexed, header, limit),
-        ValueType::Unit => misplaced_kind::<K, (), W>(archive, indexed, header, limit),
-    }
 }
 
-/// Returns the number of misplaced keys, by the type of the keys too.
-fn misplaced_keys<W: IndexWidth>(
-    archive: &[u8],
-    of: Collection,
-    header: &Decoded,
-    limit: u64,
-) -> Option<usize>
-    requires archive { IsValidArchive W.LIMIT (root_spec of.indexed W.word
-        (key_type_spec W.word of.key) (value_type_spec W.word of.value)) archive.now }
-    requires header { IsHeaderOf (root_in of.indexed W.word (key_type_spec W.word of.key)
-        (value_type_spec W.word of.value) archive.now) header.now }
-    ensures { CountsIn (root_in of.indexed W.word (key_type_spec W.word of.key)
-        (value_type_spec W.word of.value) archive.now) (key_type_same W.word of.key)
-        (key_type_calls W.word of.key) of.indexed limit result }
-{
-    match of.key {
-        KeyType::U8 => misplaced_values::<u8, W>(archive, of.indexed, of.value, header, limit),
-        KeyType::U16 => misplaced_values::<u16, W>(archive, of.indexed, of.value, header, limit),
-        KeyType::U32 => misplaced_values::<u32, W>(archive, of.indexed, of.value, header, limit),
-        KeyType::U64 => misplaced_values::<u64, W>(archive, of.indexed, of.value, header, limit),
-        KeyType::Char => misplaced_values::<char, W>(archive, of.indexed, of.value, header, limit),
-        KeyType::Text => {
-            misplaced_values::<Text<W>, W>(archive, of.indexed, of.value, header, limit)
-        }
+impl<'a, 'b> Operation<AnyValue<'b>, u8> for Counting<'a> {
+    type Out = Option<usize>;
+
+    ghost pre = { CanCount };
+
+    ghost post = { CountsTypes };
+
+    #[inline]
+    fn run<
+        A: KeyFrom<AnyValue<'b>, K, W>,
+        B: ValueFrom<AnyValue<'b>, V, W>,
+        K: StoredKey<A>,
+        V: StoredValue<B>,
+        W: IndexWidth,
+    >(self, indexed: bool, _out: &mut [u8]) -> Option<usize> {
+        misplaced_kind::<K, V, W>(self.archive, indexed, self.header, self.limit)
     }
 }
 
@@ -137,11 +111,12 @@ fn misplaced_in_collection(
     ensures { CountsIn (collection_in of archive.now) (key_type_same (word_of of.wide) of.key)
         (key_type_calls (word_of of.wide) of.key) of.indexed limit result }
 {
-    if of.wide {
-        misplaced_keys::<Wide>(archive, of, header, limit)
-    } else {
-        misplaced_keys::<Narrow>(archive, of, header, limit)
-    }
+    let counting = Counting {
+        archive,
+        header,
+        limit,
+    };
+    dispatch(of, counting, &mut [])
 }
 
 /// Stores the number of misplaced keys of the collection with the codes in `count`.
