@@ -55,6 +55,7 @@ pub use TypesOf.{KeyTypes, Types, ValueTypes}
 unfoldable pub use Iteration.{StoresItems, StoresItemsByCodes, StoresItemsIn}
 pub use Iteration.{CanIterate, StoresFromIndex}
 unfoldable pub use Lookup.{FindsKey, FindsShown, LooksUp, LooksUpIn, ReturnsByCodes, ReturnsIn}
+unfoldable pub use Lookup.{SetLookupsFindListed}
 pub use Lookup.{CanLookUp, FindsInIndex, FindsInMap}
 unfoldable pub use Collections.{CanDecode, CanValidate, DecodesTypes, ExplainsByCodes}
 unfoldable pub use Collections.{ExplainsTypes, IsArchiveOfTypes, IsHeaderByCodes, IsValidByCodes}

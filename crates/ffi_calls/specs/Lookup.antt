@@ -1,11 +1,18 @@
 -- Lookups of keys in collections of any types.
 use Rattle.std.specs.Prelude.{◌≡◌, ℕ, ◌⊎◌, Bool, true, false, IfSome, List, MatchResult, None}
 use Rattle.std.specs.Prelude.{Option, Result, Some}
-use Rattle.ffi_calls.specs.Archives.{FindsValue, IsHeaderOf, value_found}
+use Rattle.std.specs.Int.{Width}
+use Rattle.std.specs.List.{find}
+use Rattle.std.specs.Option.{is_some}
+use Rattle.rkyv_scan.specs.{HasherCall}
+use Rattle.rkyv_base.specs.{ElementSpec, unit_represents, unit_spec}
+use Rattle.rkyv_collections.specs.{SetRepresents, map_root}
+use Rattle.ffi_calls.specs.AnyValues.{IsAny}
+use Rattle.ffi_calls.specs.Archives.{FindsValue, IsHeaderOf, map_in, value_found}
 use Rattle.ffi_calls.specs.Collections.{IsArchiveOfTypes, collection_of, types_in}
 use Rattle.ffi_calls.specs.IndexArchives.{FindsIndexed, found_index}
 use Rattle.ffi_calls.specs.IndexLists.{FindsFirstIndexed}
-use Rattle.ffi_calls.specs.Lists.{FindsFirstValue, query_of_key}
+use Rattle.ffi_calls.specs.Lists.{FindsFirstValue, fx_hash_at, query_of_key}
 use Rattle.ffi_calls.specs.TypesOf.{Types, types_of}
 use Rattle.ffi_calls.specs.declared.any_value.AnyValue.{AnyValue}
 use Rattle.ffi_calls.specs.declared.any_value.IndexedValue.{IndexedValue}
@@ -69,3 +76,15 @@ LooksUp op before t result after = LooksUpIn t op.archive.now op.key result
 abbrev pub ReturnsByCodes : Codes → List ℕ → AnyValue → IndexedValue → ℕ → IndexedValue → Type 0
 ReturnsByCodes codes b key before status after = IfSome (collection_of codes) (λ c.
     ReturnsIn (types_of c) b key before status after)
+
+-- a lookup in a set finds a key if and only if a key of its list is accepted.
+-- `represents` and `key_calls`: what represents a key, and its hasher calls at a position
+abbrev pub SetLookupsFindListed : {A : Type 0} → Width → ElementSpec → (List ℕ → ℕ → A → Type 0)
+    → (List ℕ → ℕ → List HasherCall) → Type 0
+SetLookupsFindListed {A} w k represents key_calls =
+    (accepts : A → Bool) (b : List ℕ) (result : Option IndexedValue)
+    → FindsFirstValue (map_in w k unit_spec b) (query_of_key represents key_calls accepts)
+    unit_represents IsAny result
+    → (factor : ℕ × ℕ) (keys : List A)
+    → SetRepresents w k represents (fx_hash_at key_calls) factor b (map_root w k unit_spec b) keys
+    → is_some result ≡ is_some (find accepts keys)

@@ -5,7 +5,8 @@
 ghost use Rattle.std.specs.Prelude.{◌↔◌, ◌≡◌};
 ghost use Rattle.rkyv_keys.specs.{fx_format};
 ghost use Rattle.ffi_calls.specs.{ArchivesRepresent, IndexesRepresent, SetArchivesRepresent};
-ghost use Rattle.ffi_calls.specs.{WalksVisitListed, archive_width, fx_pairs, index_width};
+ghost use Rattle.ffi_calls.specs.{SetLookupsFindListed, WalksVisitListed, archive_width, fx_pairs};
+ghost use Rattle.ffi_calls.specs.{index_width};
 
 use crate::any_value::{AnyItem, AnyPair, AnyValue, IndexedValue};
 use crate::collection::{Collection, KeyType, ValueType};
@@ -45,6 +46,13 @@ where
     A::Archived: KeyElement,
     ensures { SetArchivesRepresent (archive_width W.Width)
         A.Archived.spec A.format A.calls A.Archived.represents A.Archived.key_calls }
+{}
+
+/// States that a lookup in a set finds a key if and only if a key of the set's list is accepted.
+///
+/// The contract of `lookup::get` has the condition: the result in terms of lists of pairs.
+pub fn set_lookups_find_listed<A, K: KeyElement + Represents<A>, W: Width>()
+    ensures { SetLookupsFindListed W.word K.spec K.represents K.key_calls }
 {}
 
 /// States that an index map that is written from a list of pairs is valid, and represents the list.
