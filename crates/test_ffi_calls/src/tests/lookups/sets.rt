@@ -9,9 +9,12 @@ use crate::tests::set_archives::{
     wide_one,
 };
 use crate::tests::support::{GREAT, OTHER};
+use ffi_calls::laws;
+use rkyv_base::Narrow;
 
 #[test]
 fn items_of_hash_sets_are_found(rt: HostRuntime) {
+    laws::set_lookups_find_listed::<u32, u32, Narrow>();
     expect_lookups(
         &rt,
         (SET, U32, UNIT, 4),
