@@ -121,7 +121,7 @@ void rattle_dealloc(void *block) {
 #define NONE {0, "", 0}
 
 /* An archive that is written out by hand, of items in the order of an iteration. In `digits`, which are
- * hexadecimal, a byte and `*27` are 27 of the byte. Two blanks are between buckets, control bytes,
+ * hexadecimal, a byte and `*27` are 27 of the byte. Two blanks are between parts, buckets, control bytes,
  * mirrored control bytes, padding, entries and the words of the header.
  *
  * The hash of 1 is 517cc1b727220a95: it is odd, so in a table of two buckets the item is in bucket 1,
@@ -141,7 +141,7 @@ static const struct row {
      "ff*16 0700*7  00*24  ff15  ff15ff*27  00  e0ff*7  0100*7  0200*7",
      104, 1, {{T(""), N(7)}}},
     {{HK_MAP, HK_U32, HK_TEXT, HK_NARROW},
-     "776f6e64657266756c000000  00*12  0100000078ff*7  0100000089000000d8ffffff  2828ff "
+     "776f6e64657266756c000000  00*12  0100000078ff*7  0100000089000000d8ffffff  2828ff  "
      "2828ff*26  00  e0ffffff  02000000  03000000",
      92, 2, {{N(1), T("wonderful")}, {N(1), T("x")}}},
     {{HK_MAP, HK_TEXT, HK_TEXT, HK_WIDE},
@@ -160,31 +160,31 @@ static const struct row {
      "01000000010000000200*7  00*16  ff3c  ff3cff*27  00  e0ffffff  01000000  02000000",
      76, 1, {{N(0x100000001), N(2)}}},
     {{HK_MAP, HK_U64, HK_TEXT, HK_NARROW},
-     "776f6e64657266756c00*7  010000000100000089000000e8ffffff  00*16  ff3c  ff3cff*27 "
+     "776f6e64657266756c00*7  010000000100000089000000e8ffffff  00*16  ff3c  ff3cff*27  "
      "00  e0ffffff  01000000  02000000",
      92, 1, {{N(0x100000001), T("wonderful")}}},
     {{HK_INDEX_MAP, HK_U32, HK_U32, HK_NARROW},
-     "02000000  01000000  00000000  00000000  ff284b28  ff284b28ff*23  00 "
-     "0100000002000000  0500000006000000  0100000009000000  c8ffffff  03000000  04000000 "
+     "02000000  01000000  00000000  00000000  ff284b28  ff284b28ff*23  00  "
+     "0100000002000000  0500000006000000  0100000009000000  c8ffffff  03000000  04000000  "
      "dcffffff",
      88, 3, {{N(1), N(2)}, {N(5), N(6)}, {N(1), N(9)}}},
     {{HK_INDEX_MAP, HK_TEXT, HK_U64, HK_WIDE},
      "00*8  00*8  ff15  ff15ff*27  00  ff*16 0700*7  c8ff*7  0100*7  0200*7  d0ff*7",
      104, 1, {{T(""), N(7)}}},
     {{HK_INDEX_MAP, HK_U64, HK_U32, HK_NARROW},
-     "00000000  00000000  ff3c  ff3cff*27  00  01000000010000000200*7  d0ffffff "
+     "00000000  00000000  ff3c  ff3cff*27  00  01000000010000000200*7  d0ffffff  "
      "01000000  02000000  e4ffffff",
      72, 1, {{N(0x100000001), N(2)}}},
     {{HK_INDEX_MAP, HK_U32, HK_TEXT, HK_NARROW},
-     "00000000  00000000  ff28  ff28ff*27  776f6e64657266756c  0100000089000000f3ffffff "
+     "00000000  00000000  ff28  ff28ff*27  776f6e64657266756c  0100000089000000f3ffffff  "
      "ccffffff  01000000  02000000  e8ffffff",
      76, 1, {{N(1), T("wonderful")}}},
     {{HK_INDEX_MAP, HK_U64, HK_TEXT, HK_NARROW},
-     "00000000  00000000  ff3c  ff3cff*27  776f6e64657266756c "
+     "00000000  00000000  ff3c  ff3cff*27  776f6e64657266756c  "
      "010000000100000089000000efffffff  c8ffffff  01000000  02000000  e4ffffff",
      80, 1, {{N(0x100000001), T("wonderful")}}},
     {{HK_INDEX_MAP, HK_TEXT, HK_TEXT, HK_WIDE},
-     "00*8  00*8  ff15  ff15ff*27  00  ff*16 776f6e64657266756cff*7  c0ff*7  0100*7 "
+     "00*8  00*8  ff15  ff15ff*27  00  ff*16 776f6e64657266756cff*7  c0ff*7  0100*7  "
      "0200*7  c8ff*7",
      112, 1, {{T(""), T("wonderful")}}},
     {{HK_MAP, HK_U8, HK_BOOL, HK_NARROW},
@@ -194,37 +194,37 @@ static const struct row {
      "00000000  fefffd00  0fff  0fff*28  00  e0ff*7  0100*7  0200*7",
      64, 1, {{N(0xfffe), N(253)}}},
     {{HK_MAP, HK_CHAR, HK_BYTES, HK_NARROW},
-     "ff000000  00*12  ac200000ecffffff02000000  2cff  2cff*28  00  e0ffffff  01000000 "
+     "ff000000  00*12  ac200000ecffffff02000000  2cff  2cff*28  00  e0ffffff  01000000  "
      "02000000",
      72, 1, {{N(0x20ac), T("\xff\0")}}},
     {{HK_MAP, HK_I64, HK_F64, HK_NARROW},
      "ff*8 00*6 f83f  00*16  ff57  ff57ff*27  00  e0ffffff  01000000  02000000",
      76, 1, {{N(0xffffffffffffffff), N(0x3ff8000000000000)}}},
     {{HK_MAP, HK_TEXT, HK_BYTES, HK_WIDE},
-     "776f6e64657266756cff*7 f0ff*7 00*8  00*32  ff65  ff65ff*27  00  e0ff*7  0100*7 "
+     "776f6e64657266756cff*7 f0ff*7 00*8  00*32  ff65  ff65ff*27  00  e0ff*7  0100*7  "
      "0200*7",
      120, 1, {{T("wonderful"), T("")}}},
     {{HK_INDEX_MAP, HK_I32, HK_F32, HK_NARROW},
-     "00000000  00000000  ff76  ff76ff*27  00  f9ffffff000000bf  d8ffffff  01000000 "
+     "00000000  00000000  ff76  ff76ff*27  00  f9ffffff000000bf  d8ffffff  01000000  "
      "02000000  ecffffff",
      64, 1, {{N(0xfffffff9), N(0xbf000000)}}},
     {{HK_INDEX_MAP, HK_U16, HK_CHAR, HK_WIDE},
      "00*8  00*8  ff28  ff28ff*27  00  01000000ffff1000  d8ff*7  0100*7  0200*7  e0ff*7",
      88, 1, {{N(1), N(0x10ffff)}}},
     {{HK_INDEX_MAP, HK_I8, HK_I16, HK_NARROW},
-     "00000000  00000000  ff15  ff15ff*27  00  ff00feff  dcffffff  01000000  02000000 "
+     "00000000  00000000  ff15  ff15ff*27  00  ff00feff  dcffffff  01000000  02000000  "
      "f0ffffff",
      60, 1, {{N(255), N(0xfffe)}}},
     {{HK_INDEX_SET, HK_U32, HK_UNIT, HK_NARROW},
-     "00000000  00000000  01000000  28ff4b  28ff4bff*25  00  05000000  01000000 "
+     "00000000  00000000  01000000  28ff4b  28ff4bff*25  00  05000000  01000000  "
      "d8ffffff  02000000  03000000  ecffffff",
      68, 2, {{N(5), NONE}, {N(1), NONE}}},
     {{HK_INDEX_SET, HK_TEXT, HK_UNIT, HK_WIDE},
-     "0100*7  00*8  00*8  41ff44  41ff44ff*25  612074657874206f7574206f66206c696e6500*7 "
+     "0100*7  00*8  00*8  41ff44  41ff44ff*25  612074657874206f7574206f66206c696e6500*7  "
      "78ff*15  9200*7 d7ff*7  a8ff*7  0200*7  0300*7  c8ff*7",
      144, 2, {{T("x"), NONE}, {T("a text out of line"), NONE}}},
     {{HK_INDEX_SET, HK_CHAR, HK_UNIT, HK_NARROW},
-     "00000000  00000000  ff70  ff70ff*27  00  61000000  dcffffff  01000000  02000000 "
+     "00000000  00000000  ff70  ff70ff*27  00  61000000  dcffffff  01000000  02000000  "
      "f0ffffff",
      60, 1, {{N(97), NONE}}},
 };
