@@ -1,26 +1,25 @@
 use std::borrow::Borrow;
 use std::collections::{BTreeMap, HashMap};
 use std::fmt;
-use std::ptr::NonNull;
+use std::ptr;
 
-use crate::archive::Built;
+use crate::container::header_of;
 use crate::error::check;
 use crate::indices::Indices;
 use crate::item::from_collections;
-use crate::raw::Pair;
-use crate::types::sealed::Store;
-use crate::types::{index_kind, kind};
-use crate::{Archive, AsItem, Error, ErrorKind, IndexArchive, Key, Value, Width};
+use crate::open::types;
+use crate::raw::{self, RawPair, RawTypes};
+use crate::store::Store;
+use crate::{AsItem, Checksum, Error, ErrorKind, IndexMapBuf, Key, Kind, MapBuf, Value, Width};
 #[cfg(doc)]
 use crate::{IndexMap, Map};
 
 /// The pairs of a map that is to be archived.
 ///
 /// [`build`](Builder::build) makes a [`Map`] of them, and [`build_index`](Builder::build_index) an
-/// [`IndexMap`].
+/// [`IndexMap`]. Each is in a container.
 ///
-/// Keys and values are `u32`, `u64` or `str`. Pairs are kept in insertion order.
-/// [`insert`](Builder::insert) keeps one value of a key, as a std map does. Of pairs with equal keys,
+/// Pairs are kept in insertion order. [`insert`](Builder::insert) keeps one value of a key, as a std map does. Of pairs with equal keys,
 /// which [`push`](Builder::push) and `extend` keep, lookups return the value of the first one.
 ///
 /// `From` converts a `HashMap`, a `BTreeMap`, a `Vec` or a slice of pairs. Keys and values may be
@@ -28,13 +27,12 @@ use crate::{IndexMap, Map};
 ///
 /// # Examples
 /// ```
-/// use hodkhaki::{Builder, Width};
+/// use hodkhaki::Builder;
 ///
 /// # fn main() -> Result<(), hodkhaki::Error> {
 /// let mut squares: Builder<u32, u64> = (0..1000).map(|n| (n, u64::from(n).pow(2))).collect();
 /// squares.push(1000, 1_000_000);
-/// let archive = squares.build(Width::Narrow)?;
-/// assert_eq!(archive.open().get(&30), Some(900));
+/// assert_eq!(squares.build()?.get(&30), Some(900));
 /// # Ok(())
 /// # }
 /// ```
@@ -42,13 +40,12 @@ use crate::{IndexMap, Map};
 /// Pairs of a std map:
 ///
 /// ```
-/// use hodkhaki::{Builder, Width};
+/// use hodkhaki::Builder;
 /// use std::collections::HashMap;
 ///
 /// # fn main() -> Result<(), hodkhaki::Error> {
 /// let counts = HashMap::from([(String::from("tea"), 3_u64), (String::from("coffee"), 4)]);
-/// let archive = Builder::from(&counts).build(Width::Narrow)?;
-/// assert_eq!(archive.open().get("tea"), Some(3));
+/// assert_eq!(Builder::from(&counts).build()?.get("tea"), Some(3));
 ///
 /// let long: Builder<str, u64> = counts.iter().filter(|(name, _)| name.len() > 3).collect();
 /// assert_eq!(long.len(), 1);
@@ -113,7 +110,7 @@ impl<K: Key + ?Sized, V: Value + ?Sized> Builder<K, V> {
     ///
     /// # Examples
     /// ```
-    /// use hodkhaki::{Builder, Width};
+    /// use hodkhaki::Builder;
     ///
     /// # fn main() -> Result<(), hodkhaki::Error> {
     /// let mut builder = Builder::<str, u64>::new();
@@ -121,8 +118,8 @@ impl<K: Key + ?Sized, V: Value + ?Sized> Builder<K, V> {
     ///     builder.insert(word, position as u64);
     /// }
     /// assert_eq!(builder.insert("be", 7), Some(5));
-    /// let archive = builder.build(Width::Narrow)?;
-    /// assert_eq!((archive.open().get("to"), archive.open().len()), (Some(4), 4));
+    /// let map = builder.build()?;
+    /// assert_eq!((map.get("to"), map.len()), (Some(4), 4));
     /// # Ok(())
     /// # }
     /// ```
@@ -154,10 +151,10 @@ impl<K: Key + ?Sized, V: Value + ?Sized> Builder<K, V> {
         self.values.push(value.borrow());
     }
 
-    /// Builds the archive of the pairs.
+    /// Builds the map of the pairs, in a narrow container without a checksum.
     ///
     /// This needs about 110 to 185 bytes more for each pair until it returns. The builder keeps its
-    /// pairs, so that an archive of another width can be built.
+    /// pairs, so that another map can be built.
     ///
     /// # Errors
     /// - [`ErrorKind::NoMemory`]
@@ -165,63 +162,178 @@ impl<K: Key + ?Sized, V: Value + ?Sized> Builder<K, V> {
     /// - [`ErrorKind::PositionTooLarge`]
     /// - [`ErrorKind::DistanceTooLarge`]
     /// - [`ErrorKind::TextTooLong`]
-    pub fn build(&self, width: Width) -> Result<Archive<K, V>, Error> {
-        let built = self.built(kind::<K, V>(), width)?;
-        // SAFETY: the kind is that of a hash map or a set of these types.
-        Ok(unsafe { Archive::of(built) })
+    ///
+    /// # Examples
+    /// ```
+    /// use hodkhaki::{Builder, Map};
+    ///
+    /// # fn main() -> Result<(), hodkhaki::Error> {
+    /// let map = Builder::<str, u64>::from([("main", 1), ("_init", 2)]).build()?;
+    /// assert_eq!(map.get("main"), Some(1));
+    ///
+    /// let bytes: Vec<u8> = map.into_bytes();
+    /// assert_eq!(Map::<str, u64>::open(&bytes)?.get("_init"), Some(2));
+    /// # Ok(())
+    /// # }
+    /// ```
+    pub fn build(&self) -> Result<MapBuf<K, V>, Error> {
+        self.build_with(Width::Narrow, Checksum::None)
     }
 
-    /// Builds the archive of the pairs as an index map, which keeps them in insertion order.
-    ///
-    /// It needs memory as [`build`](Builder::build) does.
+    /// Builds the map of the pairs, in a container of a width, with a checksum or without.
     ///
     /// # Errors
     /// As [`build`](Builder::build).
     ///
     /// # Examples
     /// ```
-    /// use hodkhaki::{Builder, Width};
+    /// use hodkhaki::{Builder, Checksum, Error, ErrorKind, Map, Width};
     ///
-    /// # fn main() -> Result<(), hodkhaki::Error> {
-    /// let builder = Builder::<str, u32>::from([("tea", 3), ("coffee", 4)]);
-    /// let archive = builder.build_index(Width::Narrow)?;
-    /// assert_eq!(archive.open().get_index(1), Some(("coffee", 4)));
+    /// # fn main() -> Result<(), Error> {
+    /// let builder = Builder::<str, u64>::from([("main", 1), ("_init", 2)]);
+    /// let mut bytes = builder.build_with(Width::Wide, Checksum::Adler32)?.into_bytes();
+    /// assert_eq!(Map::<str, u64>::open(&bytes)?.width(), Width::Wide);
+    ///
+    /// bytes[40] ^= 1;
+    /// let error = Map::<str, u64>::open(&bytes).unwrap_err();
+    /// assert_eq!(error.kind(), ErrorKind::WrongChecksum);
     /// # Ok(())
     /// # }
     /// ```
-    pub fn build_index(&self, width: Width) -> Result<IndexArchive<K, V>, Error> {
-        let built = self.built(index_kind::<K, V>(), width)?;
-        // SAFETY: the kind is that of an index map of these types.
-        Ok(unsafe { IndexArchive::of(built) })
+    pub fn build_with(&self, width: Width, checksum: Checksum) -> Result<MapBuf<K, V>, Error> {
+        self.built(width, Some(checksum))
     }
 
-    /// Builds the archive of the pairs as a map of the kind.
-    fn built(&self, kind: u32, width: Width) -> Result<Built, Error> {
-        let mut items = Vec::new();
-        items
+    /// Builds the map of the pairs, without a container: its archive has the bytes of rkyv.
+    ///
+    /// An archive doesn't record its types and its width. [`Map::open_archive`] opens it.
+    ///
+    /// # Errors
+    /// As [`build`](Builder::build).
+    pub fn build_archive(&self, width: Width) -> Result<MapBuf<K, V>, Error> {
+        self.built(width, None)
+    }
+
+    /// Builds the index map of the pairs, which keeps them in insertion order, as
+    /// [`build`](Builder::build) does.
+    ///
+    /// # Errors
+    /// As [`build`](Builder::build).
+    ///
+    /// # Examples
+    /// ```
+    /// use hodkhaki::Builder;
+    ///
+    /// # fn main() -> Result<(), hodkhaki::Error> {
+    /// let map = Builder::<str, u32>::from([("tea", 3), ("coffee", 4)]).build_index()?;
+    /// assert_eq!(map.get_index(1), Some(("coffee", 4)));
+    /// # Ok(())
+    /// # }
+    /// ```
+    pub fn build_index(&self) -> Result<IndexMapBuf<K, V>, Error> {
+        self.build_index_with(Width::Narrow, Checksum::None)
+    }
+
+    /// Builds the index map of the pairs, as [`build_with`](Builder::build_with) does.
+    ///
+    /// # Errors
+    /// As [`build`](Builder::build).
+    pub fn build_index_with(
+        &self,
+        width: Width,
+        checksum: Checksum,
+    ) -> Result<IndexMapBuf<K, V>, Error> {
+        self.built(width, Some(checksum))
+    }
+
+    /// Builds the index map of the pairs without a container, as
+    /// [`build_archive`](Builder::build_archive) does.
+    ///
+    /// # Errors
+    /// As [`build`](Builder::build).
+    pub fn build_index_archive(&self, width: Width) -> Result<IndexMapBuf<K, V>, Error> {
+        self.built(width, None)
+    }
+
+    /// Builds the map of the kind, in a container with this checksum or without a container.
+    pub(crate) fn built<C: Kind>(
+        &self,
+        width: Width,
+        checksum: Option<Checksum>,
+    ) -> Result<MapBuf<K, V, Vec<u8>, C>, Error> {
+        let mut pairs = Vec::new();
+        pairs
             .try_reserve_exact(self.len())
             .map_err(|_| ErrorKind::NoMemory)?;
-        items.extend(self.pairs().map(|(key, value)| Pair {
-            value: V::raw(value),
+        pairs.extend(self.pairs().map(|(key, value)| RawPair {
             key: K::raw(key),
+            value: V::raw(value),
         }));
-        let mut bytes = std::ptr::null_mut();
-        let mut length = 0;
-        let build = V::calls::<K>().build;
-        // SAFETY: the texts are borrowed from the builder.
-        check(unsafe { build(&items, kind, width as u32, &mut bytes, &mut length) })?;
-        let bytes = NonNull::new(bytes).expect("the bytes of an archive are not null");
-        // SAFETY: the call has built the archive of a map of this kind and width in memory of the C
-        // library, and nothing else refers to it.
-        Ok(unsafe { Built::new(bytes, length, kind, width) })
+        let types = types::<K, V, C>(width.code());
+        let archive = Built::of(&pairs, types)?;
+        let header = checksum.map(|checksum| header_of(archive.as_bytes(), types, checksum));
+        let header = header.as_ref().map_or(&[][..], |header| header);
+        let mut bytes = Vec::new();
+        bytes
+            .try_reserve_exact(header.len() + archive.length)
+            .map_err(|_| ErrorKind::NoMemory)?;
+        bytes.extend_from_slice(header);
+        bytes.extend_from_slice(archive.as_bytes());
+        drop(archive);
+        let opened = match checksum {
+            Some(_) => MapBuf::open(bytes),
+            None => MapBuf::open_archive(bytes, width),
+        };
+        Ok(opened.expect("a built archive is valid"))
     }
 
     pub(crate) fn keys(&self) -> impl Iterator<Item = &K> {
-        self.keys.iter()
+        (0..self.len()).map(|index| self.keys.get(index))
     }
 
     fn pairs(&self) -> impl Iterator<Item = (&K, &V)> {
-        self.keys.iter().zip(self.values.iter())
+        (0..self.len()).map(|index| (self.keys.get(index), self.values.get(index)))
+    }
+}
+
+/// The bytes of an archive that the C library has built, in its memory.
+struct Built {
+    bytes: *mut u8,
+    length: usize,
+}
+
+impl Built {
+    /// Builds the archive of pairs, whose keys and values are of these types.
+    fn of(pairs: &[RawPair], types: RawTypes) -> Result<Self, Error> {
+        let mut built = Built {
+            bytes: ptr::null_mut(),
+            length: 0,
+        };
+        // SAFETY: pointer and number are those of one slice. The bytes of the pairs are borrowed with
+        // it. The outputs have room for what is stored.
+        let status = unsafe {
+            raw::hk_build(
+                pairs.as_ptr(),
+                pairs.len(),
+                types,
+                &mut built.bytes,
+                &mut built.length,
+            )
+        };
+        check(status).map(|()| built)
+    }
+
+    fn as_bytes(&self) -> &[u8] {
+        // SAFETY: a call has built these bytes, which are not null, and nothing changes them. They are
+        // freed when the struct is dropped.
+        unsafe { std::slice::from_raw_parts(self.bytes, self.length) }
+    }
+}
+
+impl Drop for Built {
+    fn drop(&mut self) {
+        // SAFETY: the bytes are null, or a call has built them, and they are freed only here.
+        unsafe { raw::hk_bytes_free(self.bytes) }
     }
 }
 

@@ -4,16 +4,17 @@ use std::borrow::Borrow;
 use std::collections::{BTreeMap, BTreeSet, HashMap, HashSet};
 use std::ops::Index;
 
-use crate::{AsItem, IndexMap, Key, Map, Set, Value};
+use crate::{AsItem, IndexMap, IndexSet, Key, Kind, Map, Set, Value};
 
 /// Implements `PartialEq` of a map with a map of std.
 macro_rules! equals_map {
-    ($($map:ident: $(#[$doc:meta])* $std:ty, [$($parameters:tt)*];)*) => {
+    ($($(#[$doc:meta])* $std:ty, [$($parameters:tt)*];)*) => {
         $($(#[$doc])*
-        impl<K, V, Q, R $($parameters)*> PartialEq<$std> for $map<'_, K, V>
+        impl<K, V, C, Q, R $($parameters)*> PartialEq<$std> for Map<'_, K, V, C>
         where
             K: Key + ?Sized,
             V: Value + ?Sized,
+            C: Kind,
             Q: Borrow<K>,
             R: AsItem<V>,
         {
@@ -29,43 +30,29 @@ macro_rules! equals_map {
 }
 
 equals_map! {
-    Map:
     /// Returns `true` if both maps have the same number of pairs, and a lookup finds each key of the
-    /// std map, with its value.
+    /// std map, with its value. The order is not compared.
     ///
     /// So each key of the archive is found, and they all differ. A map in which a key repeats equals
     /// no std map, and neither does one of an untrusted archive in which a lookup misses a key.
     ///
     /// # Examples
     /// ```
-    /// use hodkhaki::{Builder, Width};
+    /// use hodkhaki::Builder;
     /// use std::collections::HashMap;
     ///
     /// # fn main() -> Result<(), hodkhaki::Error> {
     /// let counts = HashMap::from([(String::from("tea"), 3_u64), (String::from("coffee"), 4)]);
     /// let mut builder = Builder::from(&counts);
-    /// assert_eq!(builder.build(Width::Narrow)?.open(), counts);
+    /// assert_eq!(builder.build()?.as_map(), counts);
     /// builder.push("tea", 3);
-    /// assert_ne!(builder.build(Width::Narrow)?.open(), counts);
+    /// assert_ne!(builder.build()?.as_map(), counts);
     /// # Ok(())
     /// # }
     /// ```
     HashMap<Q, R, S>, [, S];
 
-    Map:
     /// Compares as with a `HashMap`.
-    BTreeMap<Q, R>, [];
-
-    IndexMap:
-    /// Returns `true` if both maps have the same number of pairs, and a lookup finds each key of the
-    /// std map, with its value. The order is not compared.
-    ///
-    /// So each key of the archive is found, and they all differ. A map in which a key repeats equals
-    /// no std map, and neither does one of an untrusted archive in which a lookup misses a key.
-    HashMap<Q, R, S>, [, S];
-
-    IndexMap:
-    /// Compares as with a `HashMap`. The order is not compared.
     BTreeMap<Q, R>, [];
 }
 
@@ -73,7 +60,12 @@ equals_map! {
 macro_rules! equals_set {
     ($($(#[$doc:meta])* $std:ty, [$($parameters:tt)*];)*) => {
         $($(#[$doc])*
-        impl<K: Key + ?Sized, Q: Borrow<K> $($parameters)*> PartialEq<$std> for Set<'_, K> {
+        impl<K, C, Q $($parameters)*> PartialEq<$std> for Set<'_, K, C>
+        where
+            K: Key + ?Sized,
+            C: Kind,
+            Q: Borrow<K>,
+        {
             fn eq(&self, other: &$std) -> bool {
                 self.len() == other.len() && other.iter().all(|item| self.contains(item.borrow()))
             }
@@ -83,7 +75,7 @@ macro_rules! equals_set {
 
 equals_set! {
     /// Returns `true` if both sets have the same number of items, and a lookup finds each item of the
-    /// std set.
+    /// std set. The order is not compared.
     ///
     /// So each item of the archive is found, and they all differ. A set in which an item repeats
     /// equals no std set, and neither does one of an untrusted archive in which a lookup misses an
@@ -94,56 +86,79 @@ equals_set! {
     BTreeSet<Q>, [];
 }
 
-/// Returns the text of a key, as [`at`](Map::at) does. Numbers have no `Index`: their bytes needn't be
-/// aligned, so that there is no reference to them.
-///
-/// # Panics
-/// If the lookup doesn't find the key.
-///
-/// # Examples
-/// ```
-/// use hodkhaki::{Builder, Width};
-///
-/// # fn main() -> Result<(), hodkhaki::Error> {
-/// let archive = Builder::<str, str>::from([("tea", "Tee")]).build(Width::Narrow)?;
-/// assert_eq!(&archive.open()["tea"], "Tee");
-/// # Ok(())
-/// # }
-/// ```
-impl<K: Key + ?Sized> Index<&K> for Map<'_, K, str> {
-    type Output = str;
+/// Implements lookups by `[]` for types of which an archive has references.
+macro_rules! index {
+    ($($type:ty)*) => {
+        $(
+            /// Returns the value of a key, as [`at`](Map::at) does. Numbers have no `Index`: their bytes
+            /// needn't be aligned, so that there is no reference to them.
+            ///
+            /// # Panics
+            /// If the lookup doesn't find the key.
+            ///
+            /// # Examples
+            /// ```
+            /// use hodkhaki::Builder;
+            ///
+            /// # fn main() -> Result<(), hodkhaki::Error> {
+            /// let map = Builder::<str, str>::from([("tea", "Tee")]).build()?;
+            /// assert_eq!(&map.as_map()["tea"], "Tee");
+            /// # Ok(())
+            /// # }
+            /// ```
+            impl<K: Key + ?Sized, C: Kind> Index<&K> for Map<'_, K, $type, C> {
+                type Output = $type;
 
-    #[track_caller]
-    fn index(&self, key: &K) -> &str {
-        self.at(key)
-    }
+                #[track_caller]
+                fn index(&self, key: &K) -> &$type {
+                    self.at(key)
+                }
+            }
+
+            /// Returns the value at an index.
+            ///
+            /// # Panics
+            /// If the index isn't less than the length.
+            impl<K: Key + ?Sized> Index<usize> for IndexMap<'_, K, $type> {
+                type Output = $type;
+
+                #[track_caller]
+                fn index(&self, index: usize) -> &$type {
+                    let Some((_, value)) = self.get_index(index) else {
+                        panic!("the index is {index}, but the map has {} pairs", self.len());
+                    };
+                    value
+                }
+            }
+        )*
+    };
 }
 
-/// Returns the text of a key, as [`at`](IndexMap::at) does.
-///
-/// # Panics
-/// If the lookup doesn't find the key.
-impl<K: Key + ?Sized> Index<&K> for IndexMap<'_, K, str> {
-    type Output = str;
+index! { str [u8] }
 
-    #[track_caller]
-    fn index(&self, key: &K) -> &str {
-        self.at(key)
-    }
-}
-
-/// Returns the text at an index.
+/// Returns the item at an index.
 ///
 /// # Panics
 /// If the index isn't less than the length.
-impl<K: Key + ?Sized> Index<usize> for IndexMap<'_, K, str> {
+///
+/// # Examples
+/// ```
+/// use hodkhaki::SetBuilder;
+///
+/// # fn main() -> Result<(), hodkhaki::Error> {
+/// let set = SetBuilder::<str>::from(["tea", "cake"]).build_index()?;
+/// assert_eq!(&set.as_set()[1], "cake");
+/// # Ok(())
+/// # }
+/// ```
+impl Index<usize> for IndexSet<'_, str> {
     type Output = str;
 
     #[track_caller]
     fn index(&self, index: usize) -> &str {
-        let Some((_, value)) = self.get_index(index) else {
-            panic!("the index is {index}, but the map has {} pairs", self.len());
+        let Some(item) = self.get_index(index) else {
+            panic!("the index is {index}, but the set has {} items", self.len());
         };
-        value
+        item
     }
 }

@@ -1,10 +1,9 @@
 use crate::error::{check, check_open};
-use crate::raw::{self, HEADER_LEN};
-use crate::types::sealed::SealedValue;
-use crate::types::Unit;
+use crate::open::types;
+use crate::raw::{self, RawTypes, HEADER_LEN};
+use crate::{Error, ErrorKind, HashKind, Width};
 #[cfg(doc)]
-use crate::{Builder, IndexMap, IndexMapMut, Map, MapMut, Set};
-use crate::{Error, ErrorKind, Width};
+use crate::{IndexMap, IndexMapMut, IndexSet, Map, MapMut, Set};
 
 /// Whether a container has a checksum of its archive.
 ///
@@ -43,18 +42,50 @@ pub enum Collection {
     Set,
     /// An [`IndexMap`].
     IndexMap,
+    /// An [`IndexSet`].
+    IndexSet,
 }
 
-/// The type of the keys or of the values in a container, or of the items of a set.
-#[derive(Clone, Copy, Debug, PartialEq, Eq, Hash)]
-#[non_exhaustive]
-pub enum ItemType {
-    /// `u32`
-    U32,
-    /// `u64`
-    U64,
-    /// `str`
-    Str,
+/// Declares `ItemType`, and which type has a code.
+macro_rules! item_types {
+    ($($name:ident = $code:literal: $type:literal,)*) => {
+        /// The type of the keys or of the values in a container, or of the items of a set.
+        #[derive(Clone, Copy, Debug, PartialEq, Eq, Hash)]
+        #[non_exhaustive]
+        pub enum ItemType {
+            $(
+                #[doc = concat!("`", $type, "`")]
+                $name,
+            )*
+        }
+
+        impl ItemType {
+            /// The type with a code, or `None` if no type has it.
+            fn of(code: u8) -> Option<Self> {
+                match code {
+                    $($code => Some(ItemType::$name),)*
+                    _ => None,
+                }
+            }
+        }
+    };
+}
+
+item_types! {
+    Bool = 0x02: "bool",
+    Char = 0x03: "char",
+    Str = 0x04: "str",
+    Bytes = 0x05: "[u8]",
+    U8 = 0x11: "u8",
+    U16 = 0x12: "u16",
+    U32 = 0x14: "u32",
+    U64 = 0x18: "u64",
+    I8 = 0x21: "i8",
+    I16 = 0x22: "i16",
+    I32 = 0x24: "i32",
+    I64 = 0x28: "i64",
+    F32 = 0x34: "f32",
+    F64 = 0x38: "f64",
 }
 
 /// What the header of a container records, as [`container_kind`] returns it.
@@ -71,6 +102,29 @@ pub struct ContainerKind {
     pub width: Width,
 }
 
+impl ContainerKind {
+    /// The contents with codes, or `None` if this crate doesn't have them.
+    fn of(types: RawTypes) -> Option<Self> {
+        let (collection, is_set) = match types.kind {
+            1 => (Collection::Map, false),
+            2 => (Collection::Set, true),
+            3 => (Collection::IndexMap, false),
+            4 => (Collection::IndexSet, true),
+            _ => return None,
+        };
+        let value = ItemType::of(types.value);
+        if is_set == value.is_some() {
+            return None;
+        }
+        Some(ContainerKind {
+            collection,
+            key: ItemType::of(types.key)?,
+            value,
+            width: Width::of(types.width),
+        })
+    }
+}
+
 /// Returns which collection a container has, of which types and of which width, as its header records
 /// them.
 ///
@@ -83,70 +137,38 @@ pub struct ContainerKind {
 ///
 /// # Examples
 /// ```
-/// use hodkhaki::{container_kind, Builder, Checksum, Collection, Error, ItemType, Map, Width};
+/// use hodkhaki::{container_kind, Builder, Collection, ItemType, Map};
 ///
 /// fn lookup(container: &[u8], name: &str) -> Result<Option<u64>, Box<dyn std::error::Error>> {
 ///     let kind = container_kind(container)?;
 ///     match (kind.collection, kind.key, kind.value) {
 ///         (Collection::Map, ItemType::Str, Some(ItemType::U64)) => {
-///             Ok(Map::<str, u64>::open_container(container)?.get(name))
+///             Ok(Map::<str, u64>::open(container)?.get(name))
 ///         }
 ///         (Collection::Map, ItemType::Str, Some(ItemType::U32)) => {
-///             Ok(Map::<str, u32>::open_container(container)?.get(name).map(u64::from))
+///             Ok(Map::<str, u32>::open(container)?.get(name).map(u64::from))
 ///         }
 ///         _ => Err(format!("no map of names to numbers: {kind:?}").into()),
 ///     }
 /// }
 ///
 /// # fn main() -> Result<(), Box<dyn std::error::Error>> {
-/// let archive = Builder::<str, u32>::from([("main", 0x1139)]).build(Width::Narrow)?;
-/// assert_eq!(lookup(&archive.to_container(Checksum::None), "main")?, Some(0x1139));
+/// let container = Builder::<str, u32>::from([("main", 0x1139)]).build()?.into_bytes();
+/// assert_eq!(lookup(&container, "main")?, Some(0x1139));
 /// # Ok(())
 /// # }
 /// ```
 pub fn container_kind(container: &[u8]) -> Result<ContainerKind, Error> {
     let (pointer, length) = (container.as_ptr().cast(), container.len());
-    let (mut kind, mut width) = (0, 0);
-    // SAFETY: pointer and length are those of one slice. Kind and width have room for what is stored.
-    let status = unsafe { raw::hk_container_kind(pointer, length, &mut kind, &mut width) };
-    // The errors of the header are the same ones for each kind and width.
-    let explain = |error| {
-        let kind = u32::KINDS[0];
-        // SAFETY: pointer and length are those of one slice. `error` has room for the error.
-        unsafe { raw::hk_container_explain(pointer, length, kind, raw::ANY_WIDTH, error) }
-    };
+    // The errors of the header are the same ones for each collection.
+    let mut found = types::<u32, u32, HashKind>(raw::ANY_WIDTH);
+    let any = found;
+    // SAFETY: pointer and length are those of one slice. `found` has room for the codes.
+    let status = unsafe { raw::hk_container_types(pointer, length, &mut found) };
+    // SAFETY: pointer and length are those of one slice. `error` has room for the error.
+    let explain = |error| unsafe { raw::hk_container_explain(pointer, length, any, error) };
     check_open(status, explain)?;
-    let types = types_of::<u32>(kind, Some(ItemType::U32))
-        .or_else(|| types_of::<u64>(kind, Some(ItemType::U64)))
-        .or_else(|| types_of::<str>(kind, Some(ItemType::Str)))
-        .or_else(|| types_of::<Unit>(kind, None));
-    let (collection, key, value) = types.ok_or(ErrorKind::UnsupportedKind)?;
-    Ok(ContainerKind {
-        collection,
-        key,
-        value,
-        width: if width == Width::Wide as u32 {
-            Width::Wide
-        } else {
-            Width::Narrow
-        },
-    })
-}
-
-/// The collection and the types of a `hk_kind`, if its values are of this type.
-fn types_of<V: SealedValue + ?Sized>(
-    kind: u32,
-    value: Option<ItemType>,
-) -> Option<(Collection, ItemType, Option<ItemType>)> {
-    const KEYS: [ItemType; 3] = [ItemType::U32, ItemType::U64, ItemType::Str];
-    let key = |kinds: [u32; 3]| Some(KEYS[kinds.iter().position(|of| *of == kind)?]);
-    let hashed = match value {
-        Some(_) => Collection::Map,
-        None => Collection::Set,
-    };
-    key(V::KINDS)
-        .map(|key| (hashed, key, value))
-        .or_else(|| Some((Collection::IndexMap, key(V::INDEX_KINDS)?, value)))
+    ContainerKind::of(found).ok_or(ErrorKind::UnsupportedKind.into())
 }
 
 /// Writes the checksum of a container anew, after values were written in place.
@@ -167,13 +189,13 @@ fn types_of<V: SealedValue + ?Sized>(
 /// use hodkhaki::{update_container, Builder, Checksum, Error, ErrorKind, Map, MapMut, Width};
 ///
 /// # fn main() -> Result<(), Error> {
-/// let archive = Builder::<str, u64>::from([("visits", 10)]).build(Width::Narrow)?;
-/// let mut container = archive.to_container(Checksum::Adler32);
-/// assert!(MapMut::<str, u64>::open(&mut container[32..], Width::Narrow)?.set("visits", 11));
-/// let error = Map::<str, u64>::open_container(&container).unwrap_err();
+/// let builder = Builder::<str, u64>::from([("visits", 10)]);
+/// let mut bytes = builder.build_with(Width::Narrow, Checksum::Adler32)?.into_bytes();
+/// assert!(MapMut::<str, u64>::open_archive(&mut bytes[32..], Width::Narrow)?.set("visits", 11));
+/// let error = Map::<str, u64>::open(&bytes).unwrap_err();
 /// assert_eq!(error.kind(), ErrorKind::WrongChecksum);
-/// update_container(&mut container)?;
-/// assert_eq!(Map::<str, u64>::open_container(&container)?.at("visits"), 11);
+/// update_container(&mut bytes)?;
+/// assert_eq!(Map::<str, u64>::open(&bytes)?.at("visits"), 11);
 /// # Ok(())
 /// # }
 /// ```
@@ -183,24 +205,14 @@ pub fn update_container(container: &mut [u8]) -> Result<(), Error> {
     check(unsafe { raw::hk_container_update(pointer, length) })
 }
 
-/// The header of the container of an archive of a map of the kind.
-pub(crate) fn header_of(
-    kind: u32,
-    archive: &[u8],
-    width: Width,
-    checksum: Checksum,
-) -> [u8; HEADER_LEN] {
+/// The header of the container of an archive with these codes.
+pub(crate) fn header_of(archive: &[u8], types: RawTypes, checksum: Checksum) -> [u8; HEADER_LEN] {
     let mut header = [0; HEADER_LEN];
+    let (pointer, length) = (archive.as_ptr().cast(), archive.len());
+    let is_checked = checksum == Checksum::Adler32;
     // SAFETY: pointer and length are those of one slice. The header has the length that is written.
     let status = unsafe {
-        raw::hk_container_header(
-            archive.as_ptr().cast(),
-            archive.len(),
-            kind,
-            width as u32,
-            checksum == Checksum::Adler32,
-            header.as_mut_ptr(),
-        )
+        raw::hk_container_header(pointer, length, types, is_checked, header.as_mut_ptr())
     };
     check(status).expect("each archive in memory has a header");
     header

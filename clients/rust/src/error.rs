@@ -10,15 +10,14 @@ use crate::raw::{self, RawError};
 /// | | Codes |
 /// |---|---|
 /// | collection | 1 hash map, 2 set, 3 index map, 4 index set |
-/// | type | 1 none (the values of a set), 4 `str`, 20 `u32`, 24 `u64` |
+/// | type | 1 none (the values of a set), 2 `bool`, 3 `char`, 4 `str`, 5 `[u8]` |
+/// | | 17 `u8`, 18 `u16`, 20 `u32`, 24 `u64`, 33 `i8`, 34 `i16`, 36 `i32`, 40 `i64`, 52 `f32`, 56 `f64` |
 /// | width | 4 [`Width::Narrow`](crate::Width::Narrow), 8 [`Width::Wide`](crate::Width::Wide) |
-///
-/// A found code may also be that of a type that no map of this crate has.
 ///
 /// ```
 /// use hodkhaki::{ErrorKind, Map, Width};
 ///
-/// let error = Map::<u32, u32>::open(&[0; 13], Width::Narrow).unwrap_err();
+/// let error = Map::<u32, u32>::open_archive(&[0; 13], Width::Narrow).unwrap_err();
 /// assert_eq!(error.kind(), ErrorKind::Unaligned);
 /// assert_eq!(error.position(), Some(1));
 /// assert_eq!(
@@ -71,13 +70,13 @@ impl Error {
     /// ```
     /// use hodkhaki::{Map, Width};
     ///
-    /// let error = Map::<u32, u32>::open(&[0; 13], Width::Narrow).unwrap_err();
+    /// let error = Map::<u32, u32>::open_archive(&[0; 13], Width::Narrow).unwrap_err();
     /// assert_eq!(error.numbers(), Some((4, 0)));
     /// ```
     pub fn numbers(&self) -> Option<(u64, u64)> {
-        use ErrorKind::{InvalidValue, WrongMagic};
+        use ErrorKind::{InvalidValue, IsContainer, WrongMagic};
         match self.kind {
-            InvalidValue | WrongMagic => None,
+            InvalidValue | IsContainer | WrongMagic => None,
             _ => self.numbers.map(|numbers| (numbers.first, numbers.second)),
         }
     }
@@ -138,9 +137,9 @@ impl std::error::Error for Error {}
 
 /// The kind of an [`Error`].
 ///
-/// The calls that open an archive, as [`Map::open`](crate::Map::open), fail with the first group,
-/// [`Builder::build`](crate::Builder::build) with the second. The calls that open a container fail
-/// with the third group, or with the first one if its archive is not valid.
+/// The calls that open an archive, as [`Map::open_archive`](crate::Map::open_archive), fail with the
+/// first group, [`Builder::build`](crate::Builder::build) with the second. The calls that open a
+/// container fail with the third group, or with the first one if its archive is not valid.
 #[derive(Clone, Copy, Debug, PartialEq, Eq, Hash)]
 #[non_exhaustive]
 pub enum ErrorKind {
@@ -157,8 +156,10 @@ pub enum ErrorKind {
     UnwrappedControlByte,
     /// An index in the table of an index map is not less than the number of pairs.
     PlaceOutOfRange,
-    /// A text is not UTF-8, or its length is malformed.
+    /// A string is not UTF-8, or its length is malformed, or a `bool` or a `char` is not valid.
     InvalidValue,
+    /// The bytes are a container, but the call opens an archive without one.
+    IsContainer,
 
     /// An allocation failed.
     NoMemory,
@@ -168,7 +169,7 @@ pub enum ErrorKind {
     PositionTooLarge,
     /// A distance between two parts of the archive does not fit the width.
     DistanceTooLarge,
-    /// A text is too long for the width.
+    /// A string is too long for the width.
     TextTooLong,
 
     /// A container has fewer bytes than its header of 32 bytes.
@@ -231,14 +232,18 @@ impl fmt::Display for ErrorKind {
             ErrorKind::PlaceOutOfRange => {
                 "an index in the table is not less than the number of pairs"
             }
-            ErrorKind::InvalidValue => "a text is not UTF-8, or its length is malformed",
+            ErrorKind::InvalidValue => {
+                "a string is not UTF-8, or its length is malformed, \
+                 or a bool or a char is not valid"
+            }
+            ErrorKind::IsContainer => "the bytes are a container, not an archive without one",
             ErrorKind::NoMemory => "an allocation failed",
             ErrorKind::CapacityTooLarge => "the map needs more buckets than the width can count",
             ErrorKind::PositionTooLarge => "the archive would be longer than the width allows",
             ErrorKind::DistanceTooLarge => {
                 "a distance between two parts of the archive does not fit the width"
             }
-            ErrorKind::TextTooLong => "a text is too long for the width",
+            ErrorKind::TextTooLong => "a string is too long for the width",
             ErrorKind::ContainerTooShort => "the container is shorter than its header of 32 bytes",
             ErrorKind::WrongMagic => "the first eight bytes are not those of a container",
             ErrorKind::UnsupportedVersion => "the version of the container is not 1",
@@ -298,9 +303,32 @@ impl ErrorKind {
             45 => ErrorKind::WrongWidth,
             46 => ErrorKind::WrongLength,
             47 => ErrorKind::WrongChecksum,
+            48 => ErrorKind::IsContainer,
             other => ErrorKind::Status(other),
         }
     }
+}
+
+/// Whether a key is found, by the status of a call with an open map.
+#[inline]
+pub(crate) fn found(status: u32) -> bool {
+    if status > raw::NOT_FOUND {
+        unexpected(status);
+    }
+    status == raw::OK
+}
+
+/// Whether a count is within its limit, by the status of the call with an open map.
+pub(crate) fn within_limit(status: u32) -> bool {
+    if status != raw::OK && status != raw::LIMIT_REACHED {
+        unexpected(status);
+    }
+    status == raw::OK
+}
+
+#[cold]
+fn unexpected(status: u32) {
+    check(status).expect("the map is open, and writable if it is written");
 }
 
 /// `Ok` if the status is that of success, else the error that it is.

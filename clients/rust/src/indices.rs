@@ -1,6 +1,6 @@
 use std::hash::{BuildHasher, RandomState};
 
-use crate::types::sealed::Store;
+use crate::store::Store;
 use crate::Key;
 
 /// A slot without an index.

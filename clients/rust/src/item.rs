@@ -10,15 +10,16 @@ use crate::types::Unit;
 ///
 /// | `T` | Types |
 /// |---|---|
-/// | `u32`, `u64` | `T` |
+/// | a number, `bool`, `char` | `T` |
 /// | `str` | `str`, `String` |
+/// | `[u8]` | `[u8]`, `Vec<u8>`, arrays of bytes |
 ///
 /// A reference, a `Box`, an `Rc`, an `Arc` or a `Cow` of such a type is one too, as `&String`. A
 /// program may implement the trait for its own types.
 ///
 /// # Examples
 /// ```
-/// use hodkhaki::{AsItem, Builder, Width};
+/// use hodkhaki::{AsItem, Builder};
 ///
 /// #[derive(Clone, Copy)]
 /// struct UserId(u32);
@@ -31,14 +32,15 @@ use crate::types::Unit;
 ///
 /// # fn main() -> Result<(), hodkhaki::Error> {
 /// let names = vec![(UserId(7), String::from("Ada")), (UserId(9), String::from("Emmy"))];
-/// let archive = Builder::<u32, str>::from(&names).build(Width::Narrow)?;
-/// assert_eq!(archive.open().get(&9), Some("Emmy"));
+/// let map = Builder::<u32, str>::from(&names).build()?;
+/// assert_eq!(map.get(&9), Some("Emmy"));
 /// # Ok(())
 /// # }
 /// ```
 #[diagnostic::on_unimplemented(
     message = "`{Self}` is not a key, a value or an item of type `{T}`",
-    note = "texts are `&str` or `String`, and numbers have exactly the type `u32` or `u64`"
+    note = "strings are `&str` or `String`, byte strings `&[u8]` or `Vec<u8>`, and numbers have \
+            exactly the type of the map"
 )]
 pub trait AsItem<T: ?Sized> {
     /// Borrows the key, the value or the item.
@@ -55,10 +57,22 @@ macro_rules! itself {
     };
 }
 
-itself! { u32 u64 str Unit }
+itself! { u8 u16 u32 u64 i8 i16 i32 i64 f32 f64 bool char str [u8] Unit }
 
 impl AsItem<str> for String {
     fn as_item(&self) -> &str {
+        self
+    }
+}
+
+impl AsItem<[u8]> for Vec<u8> {
+    fn as_item(&self) -> &[u8] {
+        self
+    }
+}
+
+impl<const N: usize> AsItem<[u8]> for [u8; N] {
+    fn as_item(&self) -> &[u8] {
         self
     }
 }

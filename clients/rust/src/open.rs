@@ -1,114 +1,107 @@
+//! Opening collections, and writing their values in place.
+
 use std::ffi::c_void;
 use std::marker::PhantomData;
 
 use crate::error::{check, check_open};
-use crate::raw::{self, RawError, RawMap};
-use crate::Error;
+use crate::raw::{self, RawError, RawMap, RawTypes};
+use crate::types::sealed::Stored;
+use crate::types::Unit;
+use crate::{Error, Key, Kind, Value, Width};
 
-/// A call of the library that opens a map at an address of type `P`.
+/// The codes of a collection of this kind and of these types, with a code of its width.
+pub(crate) const fn types<K, V, C>(width: u8) -> RawTypes
+where
+    K: Key + ?Sized,
+    V: Value + ?Sized,
+    C: Kind,
+{
+    let is_set = V::CODE == Unit::CODE;
+    RawTypes {
+        kind: if is_set { C::SET } else { C::MAP },
+        key: K::CODE,
+        value: V::CODE,
+        width,
+    }
+}
+
+/// The code of a width, or that of either one.
+pub(crate) fn code(width: Option<Width>) -> u8 {
+    width.map_or(raw::ANY_WIDTH, Width::code)
+}
+
+/// A call that opens a collection at an address of type `P`.
 type OpenCall<P> =
-    unsafe extern "C" fn(bytes: P, length: usize, kind: u32, width: u32, map: *mut RawMap) -> u32;
+    unsafe extern "C" fn(bytes: P, length: usize, types: RawTypes, map: *mut RawMap) -> u32;
 
-/// A call of the library that explains an error.
+/// A call that explains an error.
 type ExplainCall = unsafe extern "C" fn(
     bytes: *const c_void,
     length: usize,
-    kind: u32,
-    width: u32,
+    types: RawTypes,
     error: *mut RawError,
 ) -> u32;
 
-/// The calls that open the archives of a collection, or its containers.
+/// The calls that open archives, or containers.
 pub(crate) struct Opener {
     open: OpenCall<*const c_void>,
     open_writable: OpenCall<*mut c_void>,
     explain: ExplainCall,
+    pub(crate) is_for_containers: bool,
 }
 
-/// Opens archives of hash maps and of sets.
-pub(crate) const MAP: Opener = Opener {
-    open: raw::hk_map_open,
-    open_writable: raw::hk_map_open_writable,
-    explain: raw::hk_map_explain,
+/// Opens archives.
+pub(crate) const ARCHIVE: Opener = Opener {
+    open: raw::hk_open,
+    open_writable: raw::hk_open_writable,
+    explain: raw::hk_explain,
+    is_for_containers: false,
 };
 
-/// Opens containers of hash maps and of sets.
-pub(crate) const MAP_CONTAINER: Opener = Opener {
-    open: raw::hk_map_open_container,
-    open_writable: raw::hk_map_open_container_writable,
+/// Opens containers.
+pub(crate) const CONTAINER: Opener = Opener {
+    open: raw::hk_open_container,
+    open_writable: raw::hk_open_container_writable,
     explain: raw::hk_container_explain,
-};
-
-/// Opens archives of index maps.
-pub(crate) const INDEX: Opener = Opener {
-    open: raw::hk_index_open,
-    open_writable: raw::hk_index_open_writable,
-    explain: raw::hk_map_explain,
-};
-
-/// Opens containers of index maps.
-pub(crate) const INDEX_CONTAINER: Opener = Opener {
-    open: raw::hk_index_open_container,
-    open_writable: raw::hk_index_open_container_writable,
-    explain: raw::hk_container_explain,
+    is_for_containers: true,
 };
 
 impl Opener {
-    /// The handle of the map of the kind, to read. The bytes have to be borrowed while it is used.
-    pub(crate) fn open(&self, bytes: &[u8], kind: u32, width: u32) -> Result<RawMap, Error> {
+    /// The handle of the collection with the codes, to read. The bytes have to be borrowed while it is
+    /// used.
+    pub(crate) fn open(&self, bytes: &[u8], types: RawTypes) -> Result<RawMap, Error> {
         let mut map = RawMap::CLOSED;
-        let (pointer, length) = (bytes.as_ptr().cast(), bytes.len());
         // SAFETY: pointer and length are those of one slice. `map` has room for the handle.
-        let status = unsafe { (self.open)(pointer, length, kind, width, &mut map) };
-        self.check(status, bytes, kind, width).map(|()| map)
+        let status = unsafe { (self.open)(bytes.as_ptr().cast(), bytes.len(), types, &mut map) };
+        self.check(status, bytes, types).map(|()| map)
     }
 
-    /// The handle of the map of the kind, to read and to write. The bytes have to be borrowed
+    /// The handle of the collection with the codes, to read and to write. The bytes have to be borrowed
     /// mutably while it is used.
-    pub(crate) fn open_writable(
-        &self,
-        bytes: &mut [u8],
-        kind: u32,
-        width: u32,
-    ) -> Result<RawMap, Error> {
-        // SAFETY: pointer and length are those of one slice, which is borrowed mutably.
-        unsafe { self.open_at(bytes.as_mut_ptr(), bytes.len(), kind, width) }
-    }
-
-    /// The handle of the map of the kind, to read and to write by this pointer. This only reads the
-    /// bytes.
-    ///
-    /// # Safety
-    /// The pointer, which isn't null, is to `length` bytes, and nothing writes them during the call.
-    pub(crate) unsafe fn open_at(
-        &self,
-        bytes: *mut u8,
-        length: usize,
-        kind: u32,
-        width: u32,
-    ) -> Result<RawMap, Error> {
+    pub(crate) fn open_writable(&self, bytes: &mut [u8], types: RawTypes) -> Result<RawMap, Error> {
         let mut map = RawMap::CLOSED;
-        // SAFETY: the caller ensures that the pointer is to so many bytes. `map` has room for the
-        // handle.
-        let status = unsafe { (self.open_writable)(bytes.cast(), length, kind, width, &mut map) };
+        let (pointer, length) = (bytes.as_mut_ptr().cast(), bytes.len());
+        // SAFETY: pointer and length are those of one slice, which is borrowed mutably. `map` has room
+        // for the handle.
+        let status = unsafe { (self.open_writable)(pointer, length, types, &mut map) };
         if status == raw::OK {
+            // The bytes are not borrowed again by their slice, so that the pointer of the handle stays
+            // valid.
             return Ok(map);
         }
-        // SAFETY: the caller ensures that these are bytes that nothing writes.
-        let bytes = unsafe { std::slice::from_raw_parts(bytes, length) };
-        self.check(status, bytes, kind, width).map(|()| map)
+        self.check(status, bytes, types).map(|()| map)
     }
 
     /// `Ok` if the status of opening the bytes is that of success, else the error with its numbers.
-    fn check(&self, status: u32, bytes: &[u8], kind: u32, width: u32) -> Result<(), Error> {
+    fn check(&self, status: u32, bytes: &[u8], types: RawTypes) -> Result<(), Error> {
         let (pointer, length) = (bytes.as_ptr().cast(), bytes.len());
         // SAFETY: pointer and length are those of one slice. `error` has room for the error.
-        let explain = |error| unsafe { (self.explain)(pointer, length, kind, width, error) };
+        let explain = |error| unsafe { (self.explain)(pointer, length, types, error) };
         check_open(status, explain)
     }
 }
 
-/// An open map or index map that writes values in place. It borrows its bytes mutably.
+/// An open collection whose values are written in place. It borrows its bytes mutably.
 ///
 /// If it was opened in a container and has written a value, dropping it writes the checksum.
 pub(crate) struct Writable<'a> {
@@ -120,10 +113,10 @@ pub(crate) struct Writable<'a> {
 }
 
 impl Writable<'_> {
-    /// The map of a handle.
+    /// The collection of a handle.
     ///
     /// # Safety
-    /// It is the handle of an open map whose bytes are borrowed mutably for the lifetime. If
+    /// It is the handle of an open collection whose bytes are borrowed mutably for the lifetime. If
     /// `is_in_container`, it was opened in a container, which is borrowed mutably too.
     pub(crate) unsafe fn of(raw: RawMap, is_in_container: bool) -> Self {
         Writable {
@@ -152,7 +145,7 @@ impl Writable<'_> {
             return Ok(());
         }
         self.is_written = false;
-        // SAFETY: the map was opened in a container, to write.
+        // SAFETY: the collection was opened in a container, to write.
         let (pointer, length) = unsafe { self.raw.container() };
         // SAFETY: pointer and length are those of the container, which is borrowed mutably.
         check(unsafe { raw::hk_container_update(pointer.cast(), length) })
@@ -168,16 +161,21 @@ impl Drop for Writable<'_> {
 
 #[cfg(test)]
 mod tests {
-    use super::{Writable, MAP_CONTAINER};
-    use crate::{Builder, Checksum, Width};
+    use super::{types, Writable};
+    use crate::raw::{self, RawMap};
+    use crate::{Builder, Checksum, HashKind, Width};
 
     #[test]
     fn the_checksum_is_written_if_and_only_if_a_value_was() {
-        let archive = Builder::<u32, u32>::from([(1, 2)]).build(Width::Narrow);
-        let mut container = archive.unwrap().to_container(Checksum::Adler32);
+        let builder = Builder::<u32, u32>::from([(1, 2)]);
+        let built = builder.build_with(Width::Narrow, Checksum::Adler32);
+        let mut container = built.unwrap().into_bytes();
         let (pointer, length) = (container.as_mut_ptr(), container.len());
-        // SAFETY: pointer and length are those of the container.
-        let raw = unsafe { MAP_CONTAINER.open_at(pointer, length, 1, 32) }.unwrap();
+        let (types, mut raw) = (types::<u32, u32, HashKind>(raw::ANY_WIDTH), RawMap::CLOSED);
+        // SAFETY: pointer and length are those of the container. `raw` has room for the handle.
+        let status =
+            unsafe { raw::hk_open_container_writable(pointer.cast(), length, types, &mut raw) };
+        assert_eq!(status, raw::OK);
         // SAFETY: the checksum begins at byte 24. All of this goes by the one pointer.
         let checksum = || unsafe { *pointer.add(24) };
         let right = checksum();

@@ -1,7 +1,19 @@
-//! The declarations of `../c/hodkhaki.h`, and the calls of the proved library that iterate and that look
-//! up in index maps. Those of a type of keys are in `calls`.
+//! The declarations of `../c/hodkhaki.h`, and the calls of the proved library that look up and that
+//! iterate.
 
 use std::ffi::c_void;
+use std::ptr;
+
+/// The codes of a kind of collection, of its types and of its width in the header of a container: the
+/// `hk_types` of the header.
+#[repr(C)]
+#[derive(Clone, Copy, Debug, PartialEq, Eq, Hash)]
+pub struct RawTypes {
+    pub kind: u8,
+    pub key: u8,
+    pub value: u8,
+    pub width: u8,
+}
 
 /// The decoded header of a table: the `hk_table_header` of the header.
 #[repr(C)]
@@ -14,72 +26,99 @@ pub struct RawTableHeader {
     inverse: u64,
 }
 
-/// A handle: the `hk_map` of the header, or its `hk_index_map`, which has the same members.
+/// A handle: the `hk_map` of the header.
 #[repr(C)]
 #[derive(Clone, Copy)]
 pub struct RawMap {
-    pub bytes: *const u8,
+    bytes: *const u8,
     writable: *mut u8,
-    pub length: usize,
-    kind: u32,
-    width: u32,
-    pub header: RawTableHeader,
+    length: usize,
+    types: RawTypes,
+    header: RawTableHeader,
 }
 
 impl RawMap {
-    /// A handle of no open map, which the calls that open fill.
+    /// A handle of no open collection, which the calls that open fill.
     pub const CLOSED: RawMap = RawMap {
-        bytes: std::ptr::null(),
-        writable: std::ptr::null_mut(),
+        bytes: ptr::null(),
+        writable: ptr::null_mut(),
         length: 0,
-        kind: 0,
-        width: 0,
+        types: RawTypes {
+            kind: 0,
+            key: 0,
+            value: 0,
+            width: 0,
+        },
         header: RawTableHeader {
             controls_position: 0,
             length: 0,
             capacity: 0,
-            divisor: 1,
-            inverse: u64::MAX,
+            divisor: 0,
+            inverse: 0,
         },
     };
 
-    /// Returns the number of pairs of an open map.
+    /// Returns the number of pairs of an open collection.
     pub fn len(&self) -> usize {
         self.header.length
     }
 
-    /// Returns the pointer to the container of an open map, and its length.
+    /// Returns the codes of an open collection.
+    pub fn types(&self) -> RawTypes {
+        self.types
+    }
+
+    /// Returns the pointer to the container of an open collection, and its length.
     ///
     /// # Safety
-    /// The map was opened in a container, to write.
+    /// The collection was opened in a container, to write.
     pub unsafe fn container(&self) -> (*mut u8, usize) {
         // SAFETY: the caller ensures that the archive is behind the header of a container.
         let container = unsafe { self.writable.sub(HEADER_LEN) };
         (container, HEADER_LEN + self.length)
     }
 
-    /// Returns `true` if the archive of an open map is wide.
-    pub fn is_wide(&self) -> bool {
-        self.width == 64
+    /// Looks up a key, stores the index and the value of its pair, and returns the status. The index
+    /// has no meaning in a hash map or a set.
+    ///
+    /// # Safety
+    /// The collection is open, and its bytes are borrowed. The bytes of the key are borrowed.
+    #[inline]
+    pub unsafe fn get(&self, types: RawTypes, key: &RawValue, found: &mut RawFound) -> u32 {
+        // SAFETY: the caller ensures that the collection is open, with these types. So the bytes are a
+        // valid archive of these codes, and the header is the decoded one. No bytes of the key or of
+        // `found` are null.
+        unsafe {
+            hk_c_get(
+                self.bytes,
+                self.length,
+                types.kind,
+                types.key,
+                types.value,
+                types.width,
+                &self.header,
+                key,
+                found,
+            )
+        }
     }
 
     /// Stores the next items from a bucket or an index on, and returns their number.
     ///
     /// # Safety
-    /// The map is open, its contents have these codes, and its bytes are borrowed.
-    pub unsafe fn next(&self, codes: Codes, from: u64, items: &mut [RawItem]) -> usize {
-        let width = if self.is_wide() { 8 } else { 4 };
-        // SAFETY: the caller ensures that the map is open, and that its contents have these codes. So
-        // the bytes are a valid archive of the codes and the width, and the header is the decoded one.
-        // The items have the pointer and the length of one slice, and none of their texts is null.
+    /// The collection is open, with these types, and its bytes are borrowed.
+    pub unsafe fn next(&self, types: RawTypes, from: u64, items: &mut [RawItem]) -> usize {
+        // SAFETY: the caller ensures that the collection is open, with these types. So the bytes are a
+        // valid archive of these codes, and the header is the decoded one. The items have the pointer
+        // and the length of one slice, and no bytes of them are null.
         unsafe {
             hk_c_next(
                 self.bytes,
                 self.length,
-                codes.kind,
-                codes.key,
-                codes.value,
-                width,
+                types.kind,
+                types.key,
+                types.value,
+                types.width,
                 &self.header,
                 from,
                 items.as_mut_ptr(),
@@ -88,37 +127,11 @@ impl RawMap {
         }
     }
 
-    /// Looks up a key, stores the index and the value of its pair, and returns the status.
-    ///
-    /// # Safety
-    /// The map is an open index map, its contents have these codes, and its bytes are borrowed. The
-    /// text of the key is borrowed.
-    pub unsafe fn index_get(&self, codes: Codes, key: &RawValue, found: &mut RawIndexed) -> u32 {
-        let width = if self.is_wide() { 8 } else { 4 };
-        // SAFETY: the caller ensures that the map is an open index map, and that its contents have
-        // these codes. So the bytes are a valid archive of the codes and the width, and the header is
-        // the decoded one. No text of the key or of `found` is null.
-        unsafe {
-            hk_c_index_get(
-                self.bytes,
-                self.length,
-                codes.kind,
-                codes.key,
-                codes.value,
-                width,
-                &self.header,
-                key,
-                found,
-            )
-        }
-    }
-
     /// Returns the handle without its pointers.
     pub fn decoded(self) -> Decoded {
         Decoded {
             length: self.length,
-            kind: self.kind,
-            width: self.width,
+            types: self.types,
             header: self.header,
         }
     }
@@ -127,117 +140,92 @@ impl RawMap {
 /// A handle without its pointers, for an archive that may move.
 #[derive(Clone, Copy)]
 pub struct Decoded {
-    length: usize,
-    kind: u32,
-    width: u32,
+    /// The number of bytes of the archive.
+    pub length: usize,
+    pub types: RawTypes,
     header: RawTableHeader,
 }
 
 impl Decoded {
-    /// Returns the number of bytes of the archive.
-    pub fn length(&self) -> usize {
-        self.length
-    }
-
-    /// Returns the handle of the archive at this address, to read. The map is open if the archive has
-    /// the bytes with which it was opened.
+    /// Returns the handle of the archive at this address, to read. The collection is open if the
+    /// archive has the bytes with which it was opened.
     pub fn at(self, bytes: *const u8) -> RawMap {
         RawMap {
             bytes,
-            writable: std::ptr::null_mut(),
+            writable: ptr::null_mut(),
             length: self.length,
-            kind: self.kind,
-            width: self.width,
+            types: self.types,
             header: self.header,
         }
     }
-}
 
-/// The codes of a collection and of its types in the header of a container.
-#[derive(Clone, Copy)]
-pub struct Codes {
-    pub kind: u8,
-    pub key: u8,
-    pub value: u8,
-}
-
-/// The address of a text and its number of bytes, as the structs of the header have them.
-#[repr(C)]
-#[derive(Clone, Copy)]
-pub struct RawText {
-    pub pointer: *const u8,
-    pub length: usize,
-}
-
-impl RawText {
-    /// A text that a call overwrites. It isn't null, since the library takes no null pointers.
-    pub const NONE: RawText = RawText {
-        pointer: "".as_ptr(),
-        length: 0,
-    };
-
-    pub fn of(text: &str) -> RawText {
-        RawText {
-            pointer: text.as_ptr(),
-            length: text.len(),
+    /// Returns the handle of the archive at this address as `at` does, to read and to write.
+    pub fn at_writable(self, bytes: *mut u8) -> RawMap {
+        RawMap {
+            writable: bytes,
+            ..self.at(bytes)
         }
     }
-
-    /// Returns the text itself.
-    ///
-    /// # Safety
-    /// The text is one of an open map, whose bytes are borrowed for `'a`.
-    pub unsafe fn get<'a>(self) -> &'a str {
-        // SAFETY: the text is a part of the archive, which is borrowed for 'a, and never null.
-        let bytes = unsafe { std::slice::from_raw_parts(self.pointer, self.length) };
-        // SAFETY: opening the map has validated each text as UTF-8. Only numbers are written, and a
-        // valid archive has no byte that is of both a text and a number.
-        unsafe { std::str::from_utf8_unchecked(bytes) }
-    }
 }
 
-/// A key or a value of any type, as the library takes and stores it: a number or a text.
+/// A key or a value of any type, a number or bytes: the `hk_value` of the header.
 #[repr(C)]
 #[derive(Clone, Copy)]
 pub struct RawValue {
     pub number: u64,
-    pub bytes: RawText,
+    bytes: *const u8,
+    length: usize,
 }
 
 impl RawValue {
-    /// A value that a call overwrites, and the one of a unit.
+    /// A value that a call overwrites. Its bytes aren't null, since the library takes no null pointers.
     pub const NONE: RawValue = RawValue {
         number: 0,
-        bytes: RawText::NONE,
+        bytes: ptr::NonNull::dangling().as_ptr(),
+        length: 0,
     };
-}
 
-impl From<u32> for RawValue {
-    fn from(number: u32) -> Self {
-        u64::from(number).into()
+    pub fn number(number: u64) -> RawValue {
+        RawValue {
+            number,
+            ..RawValue::NONE
+        }
+    }
+
+    pub fn bytes(bytes: &[u8]) -> RawValue {
+        RawValue {
+            number: 0,
+            bytes: bytes.as_ptr(),
+            length: bytes.len(),
+        }
+    }
+
+    /// Returns the bytes of a string or of a byte string.
+    ///
+    /// # Safety
+    /// The value is one of an open collection, whose bytes are borrowed for `'a`.
+    pub unsafe fn as_bytes<'a>(self) -> &'a [u8] {
+        // SAFETY: the caller ensures that the bytes are a part of the archive, which is borrowed for
+        // 'a. They are never null. No value that is written in place shares a byte with them, since
+        // the parts of a valid archive don't overlap.
+        unsafe { std::slice::from_raw_parts(self.bytes, self.length) }
+    }
+
+    /// Returns a string.
+    ///
+    /// # Safety
+    /// The value is a text of an open collection, whose bytes are borrowed for `'a`.
+    pub unsafe fn as_str<'a>(self) -> &'a str {
+        // SAFETY: the caller ensures that the value is one of an open collection.
+        let bytes = unsafe { self.as_bytes() };
+        // SAFETY: opening the collection has validated each text as UTF-8, and no byte of a text was
+        // written since.
+        unsafe { std::str::from_utf8_unchecked(bytes) }
     }
 }
 
-impl From<u64> for RawValue {
-    fn from(number: u64) -> Self {
-        let bytes = RawText::NONE;
-        RawValue { number, bytes }
-    }
-}
-
-impl From<RawText> for RawValue {
-    fn from(bytes: RawText) -> Self {
-        RawValue { number: 0, bytes }
-    }
-}
-
-impl From<()> for RawValue {
-    fn from(_unit: ()) -> Self {
-        RawValue::NONE
-    }
-}
-
-/// A pair of any collection, and the bucket or the index at which iteration continues.
+/// A pair of any collection, and the bucket or the index at which iteration continues: the `hk_item` of
+/// the header.
 #[repr(C)]
 #[derive(Clone, Copy)]
 pub struct RawItem {
@@ -255,26 +243,25 @@ impl RawItem {
     };
 }
 
-/// A pair that is archived: an item of the header, as `hk_number_text_item`. In a set the value is
-/// `()`.
+/// A pair that is archived: the `hk_pair` of the header.
 #[repr(C)]
 #[derive(Clone, Copy)]
-pub struct Pair<V, K> {
-    pub value: V,
-    pub key: K,
+pub struct RawPair {
+    pub key: RawValue,
+    pub value: RawValue,
 }
 
-/// The index of a pair that a lookup in an index map has found, and its value.
+/// The index of a pair that a lookup has found, and its value: the `hk_found` of the header.
 #[repr(C)]
 #[derive(Clone, Copy)]
-pub struct RawIndexed {
+pub struct RawFound {
     pub index: usize,
     pub value: RawValue,
 }
 
-impl RawIndexed {
+impl RawFound {
     /// An index and a value that a call overwrites.
-    pub const NONE: RawIndexed = RawIndexed {
+    pub const NONE: RawFound = RawFound {
         index: 0,
         value: RawValue::NONE,
     };
@@ -293,12 +280,9 @@ pub struct RawError {
 // The sizes of the structs of the header, which `../c/test.c` tests too.
 const _: () = {
     assert!(size_of::<RawTableHeader>() == 40 && size_of::<RawMap>() == 72);
-    assert!(size_of::<RawText>() == 16 && size_of::<RawError>() == 32);
-    assert!(size_of::<Pair<u64, u32>>() == 16 && size_of::<Pair<u64, RawText>>() == 24);
-    assert!(size_of::<Pair<RawText, u32>>() == 24 && size_of::<Pair<RawText, RawText>>() == 32);
-    assert!(size_of::<Pair<(), u32>>() == 4 && size_of::<Pair<(), RawText>>() == 16);
+    assert!(size_of::<RawTypes>() == 4 && size_of::<RawError>() == 32);
     assert!(size_of::<RawValue>() == 24 && size_of::<RawItem>() == 56);
-    assert!(size_of::<RawIndexed>() == 32);
+    assert!(size_of::<RawPair>() == 48 && size_of::<RawFound>() == 32);
 };
 
 pub const OK: u32 = 0;
@@ -310,11 +294,22 @@ pub const LIMIT_REACHED: u32 = 15;
 pub const HEADER_LEN: usize = 32;
 
 /// The width with which a container of either width is opened.
-pub const ANY_WIDTH: u32 = 0;
+pub const ANY_WIDTH: u8 = 0;
 
 unsafe extern "C" {
+    fn hk_c_get(
+        archive: *const u8,
+        length: usize,
+        kind: u8,
+        key: u8,
+        value: u8,
+        width: u8,
+        header: &RawTableHeader,
+        of: &RawValue,
+        found: &mut RawFound,
+    ) -> u32;
     fn hk_c_next(
-        bytes: *const u8,
+        archive: *const u8,
         length: usize,
         kind: u8,
         key: u8,
@@ -325,103 +320,54 @@ unsafe extern "C" {
         items: *mut RawItem,
         room: usize,
     ) -> usize;
-    fn hk_c_index_get(
-        bytes: *const u8,
-        length: usize,
-        kind: u8,
-        key: u8,
-        value: u8,
-        width: u8,
-        header: &RawTableHeader,
-        of: &RawValue,
-        found: &mut RawIndexed,
-    ) -> u32;
-    pub fn hk_map_open(
-        bytes: *const c_void,
-        length: usize,
-        kind: u32,
-        width: u32,
-        map: *mut RawMap,
-    ) -> u32;
-    pub fn hk_map_open_writable(
+    pub fn hk_open(bytes: *const c_void, length: usize, types: RawTypes, map: *mut RawMap) -> u32;
+    pub fn hk_open_writable(
         bytes: *mut c_void,
         length: usize,
-        kind: u32,
-        width: u32,
+        types: RawTypes,
         map: *mut RawMap,
     ) -> u32;
-    pub fn hk_map_open_container(
+    pub fn hk_open_container(
         bytes: *const c_void,
         length: usize,
-        kind: u32,
-        width: u32,
+        types: RawTypes,
         map: *mut RawMap,
     ) -> u32;
-    pub fn hk_map_open_container_writable(
+    pub fn hk_open_container_writable(
         bytes: *mut c_void,
         length: usize,
-        kind: u32,
-        width: u32,
+        types: RawTypes,
         map: *mut RawMap,
     ) -> u32;
-    pub fn hk_index_open(
+    pub fn hk_explain(
         bytes: *const c_void,
         length: usize,
-        kind: u32,
-        width: u32,
-        map: *mut RawMap,
-    ) -> u32;
-    pub fn hk_index_open_writable(
-        bytes: *mut c_void,
-        length: usize,
-        kind: u32,
-        width: u32,
-        map: *mut RawMap,
-    ) -> u32;
-    pub fn hk_index_open_container(
-        bytes: *const c_void,
-        length: usize,
-        kind: u32,
-        width: u32,
-        map: *mut RawMap,
-    ) -> u32;
-    pub fn hk_index_open_container_writable(
-        bytes: *mut c_void,
-        length: usize,
-        kind: u32,
-        width: u32,
-        map: *mut RawMap,
-    ) -> u32;
-    pub fn hk_map_misplaced_up_to(map: *const RawMap, limit: u64, count: *mut u64) -> u32;
-    pub fn hk_index_misplaced_up_to(map: *const RawMap, limit: u64, count: *mut u64) -> u32;
-    pub fn hk_map_explain(
-        bytes: *const c_void,
-        length: usize,
-        kind: u32,
-        width: u32,
+        types: RawTypes,
         error: *mut RawError,
     ) -> u32;
     pub fn hk_container_explain(
         bytes: *const c_void,
         length: usize,
-        kind: u32,
-        width: u32,
+        types: RawTypes,
         error: *mut RawError,
+    ) -> u32;
+    pub fn hk_container_types(bytes: *const c_void, length: usize, types: *mut RawTypes) -> u32;
+    pub fn hk_set(map: *mut RawMap, key: RawValue, value: RawValue) -> u32;
+    pub fn hk_misplaced_up_to(map: *const RawMap, limit: u64, count: *mut u64) -> u32;
+    pub fn hk_build(
+        pairs: *const RawPair,
+        count: usize,
+        types: RawTypes,
+        bytes: *mut *mut u8,
+        length: *mut usize,
     ) -> u32;
     pub fn hk_bytes_free(bytes: *mut u8);
     pub fn hk_container_header(
         archive: *const c_void,
         length: usize,
-        kind: u32,
-        width: u32,
+        types: RawTypes,
         checksum: bool,
         header: *mut u8,
-    ) -> u32;
-    pub fn hk_container_kind(
-        bytes: *const c_void,
-        length: usize,
-        kind: *mut u32,
-        width: *mut u32,
     ) -> u32;
     pub fn hk_container_update(bytes: *mut c_void, length: usize) -> u32;
 }
