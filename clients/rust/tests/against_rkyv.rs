@@ -11,17 +11,19 @@ use std::fmt::Debug;
 use std::fs;
 use std::path::PathBuf;
 
-use hodkhaki::{Builder, Error, IndexMap, Key, Map, Set, SetBuilder, Value, Width};
+use hodkhaki::{Builder, Error, IndexMap, IndexSet, Key, Map, Set, SetBuilder, Value, Width};
 
 const FILE: &str = "../../crates/test_against_rkyv/data/rkyv-0.8.18.tsv";
 
 /// The number of lines of the file.
 const LINES: usize = 516;
 
-/// The numbers of archives of maps, sets and index maps whose types this crate has.
-const MAPS: usize = 142;
+/// The numbers of archives of each kind of collection whose types this crate has. The others are of maps
+/// to maps.
+const MAPS: usize = 182;
 const SETS: usize = 66;
-const INDEX_MAPS: usize = 138;
+const INDEX_MAPS: usize = 178;
+const INDEX_SETS: usize = 66;
 
 /// A type of keys or of values.
 trait Field: ToOwned + Ord + Debug {
@@ -32,25 +34,22 @@ trait Field: ToOwned + Ord + Debug {
     fn absent() -> Self::Owned;
 }
 
-impl Field for u32 {
-    fn read(field: &str) -> Option<u32> {
-        field.parse().ok()
-    }
+macro_rules! fields {
+    ($($type:ty: $absent:literal,)*) => {
+        $(impl Field for $type {
+            fn read(field: &str) -> Option<$type> {
+                field.parse().ok()
+            }
 
-    fn absent() -> u32 {
-        4_000_000_007
-    }
+            fn absent() -> $type {
+                $absent
+            }
+        })*
+    };
 }
 
-impl Field for u64 {
-    fn read(field: &str) -> Option<u64> {
-        field.parse().ok()
-    }
-
-    fn absent() -> u64 {
-        4_000_000_007
-    }
-}
+// The types of values have no absent key.
+fields! { u8: 0, i16: 12345, i32: 0, i64: -4_000_000_007, u32: 4_000_000_007, u64: 4_000_000_007, }
 
 impl Field for str {
     fn read(field: &str) -> Option<String> {
@@ -198,9 +197,9 @@ where
     let owned = line.pairs::<K, V>();
     let pairs = borrowed::<K, V>(&owned);
     let builder: Builder<K, V> = pairs.iter().copied().collect();
-    line.same_bytes(builder.build(line.width));
+    line.same_bytes(builder.build_archive(line.width));
 
-    let map = line.ok("open", Map::<K, V>::open(&line.bytes, line.width));
+    let map = line.ok("open", Map::<K, V>::open_archive(&line.bytes, line.width));
     line.same("len", map.len(), pairs.len());
     for (key, value) in &pairs {
         let found = map.get(key);
@@ -220,9 +219,9 @@ fn test_set<K: Key + Field + ?Sized>(line: &Line) -> bool {
     let owned = line.items::<K>();
     let items: Vec<&K> = owned.iter().map(Borrow::borrow).collect();
     let builder: SetBuilder<K> = items.iter().copied().collect();
-    line.same_bytes(builder.build(line.width));
+    line.same_bytes(builder.build_archive(line.width));
 
-    let set = line.ok("open", Set::<K>::open(&line.bytes, line.width));
+    let set = line.ok("open", Set::<K>::open_archive(&line.bytes, line.width));
     line.same("len", set.len(), items.len());
     for item in &items {
         line.same("contains", (*item, set.contains(item)), (*item, true));
@@ -235,6 +234,27 @@ fn test_set<K: Key + Field + ?Sized>(line: &Line) -> bool {
     true
 }
 
+fn test_index_set<K: Key + Field + ?Sized>(line: &Line) -> bool {
+    let owned = line.items::<K>();
+    let items: Vec<&K> = owned.iter().map(Borrow::borrow).collect();
+    let builder: SetBuilder<K> = items.iter().copied().collect();
+    line.same_bytes(builder.build_index_archive(line.width));
+
+    let set = IndexSet::<K>::open_archive(&line.bytes, line.width);
+    let set = line.ok("open", set);
+    for (index, item) in items.iter().enumerate() {
+        line.same("get_index_of", set.get_index_of(item), Some(index));
+        let found = set.get_index(index);
+        line.same("get_index", found.as_ref().map(Borrow::borrow), Some(*item));
+    }
+    let absent = K::absent();
+    line.same("an absent item", set.contains(absent.borrow()), false);
+    let listed: Vec<_> = set.iter().collect();
+    let listed = listed.iter().map(Borrow::borrow);
+    line.same("iter", listed.collect(), items.clone());
+    true
+}
+
 fn test_index_map<K, V>(line: &Line) -> bool
 where
     K: Key + Field + ?Sized,
@@ -243,9 +263,12 @@ where
     let owned = line.pairs::<K, V>();
     let pairs = borrowed::<K, V>(&owned);
     let builder: Builder<K, V> = pairs.iter().copied().collect();
-    line.same_bytes(builder.build_index(line.width));
+    line.same_bytes(builder.build_index_archive(line.width));
 
-    let map = line.ok("open", IndexMap::<K, V>::open(&line.bytes, line.width));
+    let map = line.ok(
+        "open",
+        IndexMap::<K, V>::open_archive(&line.bytes, line.width),
+    );
     line.same("len", map.len(), pairs.len());
     for (index, (key, value)) in pairs.iter().enumerate() {
         let found = map.get(key);
@@ -268,47 +291,54 @@ where
     true
 }
 
+/// Tests a line of a map. The result is `false` if the crate doesn't have its types.
+macro_rules! test_of_maps {
+    ($line:ident, $test:ident) => {
+        match $line.types {
+            ("u32", "u32") => $test::<u32, u32>($line),
+            ("u32", "u64") => $test::<u32, u64>($line),
+            ("u64", "u64") => $test::<u64, u64>($line),
+            ("i16", "u8") => $test::<i16, u8>($line),
+            ("i64", "i32") => $test::<i64, i32>($line),
+            ("text", "u32") => $test::<str, u32>($line),
+            ("text", "u64") => $test::<str, u64>($line),
+            ("text", "text") => $test::<str, str>($line),
+            _ => false,
+        }
+    };
+}
+
+macro_rules! test_of_sets {
+    ($line:ident, $test:ident) => {
+        match $line.types {
+            ("u32", "-") => $test::<u32>($line),
+            ("u64", "-") => $test::<u64>($line),
+            ("text", "-") => $test::<str>($line),
+            _ => false,
+        }
+    };
+}
+
 #[test]
 fn maps_agree() {
-    let test: Test = |line| match line.types {
-        ("u32", "u32") => test_map::<u32, u32>(line),
-        ("u32", "u64") => test_map::<u32, u64>(line),
-        ("u32", "text") => test_map::<u32, str>(line),
-        ("u64", "u32") => test_map::<u64, u32>(line),
-        ("u64", "u64") => test_map::<u64, u64>(line),
-        ("u64", "text") => test_map::<u64, str>(line),
-        ("text", "u32") => test_map::<str, u32>(line),
-        ("text", "u64") => test_map::<str, u64>(line),
-        ("text", "text") => test_map::<str, str>(line),
-        _ => false,
-    };
+    let test: Test = |line| test_of_maps!(line, test_map);
     assert_eq!(covered("map", test), (LINES, MAPS));
 }
 
 #[test]
 fn sets_agree() {
-    let test: Test = |line| match line.types {
-        ("u32", "-") => test_set::<u32>(line),
-        ("u64", "-") => test_set::<u64>(line),
-        ("text", "-") => test_set::<str>(line),
-        _ => false,
-    };
+    let test: Test = |line| test_of_sets!(line, test_set);
     assert_eq!(covered("set", test), (LINES, SETS));
 }
 
 #[test]
 fn index_maps_agree() {
-    let test: Test = |line| match line.types {
-        ("u32", "u32") => test_index_map::<u32, u32>(line),
-        ("u32", "u64") => test_index_map::<u32, u64>(line),
-        ("u32", "text") => test_index_map::<u32, str>(line),
-        ("u64", "u32") => test_index_map::<u64, u32>(line),
-        ("u64", "u64") => test_index_map::<u64, u64>(line),
-        ("u64", "text") => test_index_map::<u64, str>(line),
-        ("text", "u32") => test_index_map::<str, u32>(line),
-        ("text", "u64") => test_index_map::<str, u64>(line),
-        ("text", "text") => test_index_map::<str, str>(line),
-        _ => false,
-    };
+    let test: Test = |line| test_of_maps!(line, test_index_map);
     assert_eq!(covered("index map", test), (LINES, INDEX_MAPS));
+}
+
+#[test]
+fn index_sets_agree() {
+    let test: Test = |line| test_of_sets!(line, test_index_set);
+    assert_eq!(covered("index set", test), (LINES, INDEX_SETS));
 }

@@ -16,10 +16,10 @@ fn text(n: u64) -> String {
 fn compare(map: &HashMap<String, u64>, width: Width) {
     let mut builder = Builder::from(map);
     let (archive, index_archive) = (
-        builder.build(width).unwrap(),
-        builder.build_index(width).unwrap(),
+        builder.build_archive(width).unwrap(),
+        builder.build_index_archive(width).unwrap(),
     );
-    let (opened, index_map) = (archive.open(), index_archive.open());
+    let (opened, index_map) = (archive.as_map(), index_archive.as_map());
     let sorted: BTreeMap<&str, &u64> = map.iter().map(|(key, value)| (&**key, value)).collect();
     assert_eq!(opened, *map);
     assert_eq!(opened, sorted);
@@ -45,11 +45,11 @@ fn compare(map: &HashMap<String, u64>, width: Width) {
     if let Some((key, value)) = map.iter().next() {
         builder.push(key, *value);
         let (archive, index_archive) = (
-            builder.build(width).unwrap(),
-            builder.build_index(width).unwrap(),
+            builder.build_archive(width).unwrap(),
+            builder.build_index_archive(width).unwrap(),
         );
-        assert!(archive.open() != *map && archive.open() != longer);
-        assert!(index_archive.open() != *map && index_archive.open() != longer);
+        assert!(archive.as_map() != *map && archive.as_map() != longer);
+        assert!(index_archive.as_map() != *map && index_archive.as_map() != longer);
     }
 }
 
@@ -60,12 +60,12 @@ fn maps_equal_those_of_std() {
             compare(&(0..count).map(|n| (text(n), n << 33)).collect(), width);
         }
         let names = BTreeMap::from([(7_u32, "tea"), (8, "cake")]);
-        let archive = Builder::from(&names).build(width).unwrap();
-        assert_eq!(archive.open(), names);
-        assert_eq!(archive.open(), HashMap::from([(7, "tea"), (8, "cake")]));
-        assert_ne!(archive.open(), HashMap::from([(7, "cake"), (8, "tea")]));
+        let archive = Builder::from(&names).build_archive(width).unwrap();
+        assert_eq!(archive.as_map(), names);
+        assert_eq!(archive.as_map(), HashMap::from([(7, "tea"), (8, "cake")]));
+        assert_ne!(archive.as_map(), HashMap::from([(7, "cake"), (8, "tea")]));
         let owned = HashMap::from([(7, String::from("tea")), (8, String::from("cake"))]);
-        assert_eq!(archive.open(), owned);
+        assert_eq!(archive.as_map(), owned);
     }
 }
 
@@ -75,23 +75,25 @@ fn sets_equal_those_of_std() {
         for count in [0, 1, 2, 8, 100, 1000] {
             let set: HashSet<String> = (0..count).map(text).collect();
             let mut builder = SetBuilder::from(&set);
-            let archive = builder.build(width).unwrap();
+            let archive = builder.build_archive(width).unwrap();
             let sorted: BTreeSet<&str> = set.iter().map(String::as_str).collect();
-            assert_eq!(archive.open(), set);
-            assert_eq!(archive.open(), sorted);
+            assert_eq!(archive.as_set(), set);
+            assert_eq!(archive.as_set(), sorted);
             let mut other = set.clone();
             other.insert("another".into());
-            assert_ne!(archive.open(), other);
+            assert_ne!(archive.as_set(), other);
             if let Some(item) = set.iter().next() {
                 other.remove(item);
-                assert_ne!(archive.open(), other);
+                assert_ne!(archive.as_set(), other);
                 builder.push(item);
-                assert_ne!(builder.build(width).unwrap().open(), set);
+                assert_ne!(builder.build_archive(width).unwrap().as_set(), set);
             }
         }
-        let archive = SetBuilder::<u64>::from([1 << 40, 2]).build(width).unwrap();
-        assert_eq!(archive.open(), BTreeSet::from([2, 1 << 40]));
-        assert_ne!(archive.open(), BTreeSet::from([2, 1 << 41]));
+        let archive = SetBuilder::<u64>::from([1 << 40, 2])
+            .build_archive(width)
+            .unwrap();
+        assert_eq!(archive.as_set(), BTreeSet::from([2, 1 << 40]));
+        assert_ne!(archive.as_set(), BTreeSet::from([2, 1 << 41]));
     }
 }
 
@@ -99,12 +101,12 @@ fn sets_equal_those_of_std() {
 #[test]
 fn a_map_whose_key_is_not_found_equals_none() {
     let pairs = HashMap::from([(1_u32, 2_u32)]);
-    let mut bytes = Vec::from(Builder::from(&pairs).build(Width::Narrow).unwrap());
-    let opened = Map::<u32, u32>::open(&bytes, Width::Narrow).unwrap();
+    let mut bytes = Vec::from(Builder::from(&pairs).build_archive(Width::Narrow).unwrap());
+    let opened = Map::<u32, u32>::open_archive(&bytes, Width::Narrow).unwrap();
     assert_eq!(opened, pairs);
     let hashes = bytes.iter_mut().filter(|byte| **byte == 0x28);
     assert_eq!(hashes.map(|byte| *byte = 0x29).count(), 2);
-    let opened = Map::<u32, u32>::open(&bytes, Width::Narrow).unwrap();
+    let opened = Map::<u32, u32>::open_archive(&bytes, Width::Narrow).unwrap();
     assert!(opened.iter().eq([(1, 2)]) && opened.get(&1).is_none());
     assert_ne!(opened, pairs);
     assert_ne!(opened, HashMap::<u32, u32>::new());
@@ -114,9 +116,9 @@ fn a_map_whose_key_is_not_found_equals_none() {
 fn texts_are_indexed() {
     for width in WIDTHS {
         let builder = Builder::<str, str>::from([("tea", "Tee"), ("cake", "a long text")]);
-        let archive = builder.build(width).unwrap();
-        let index_archive = builder.build_index(width).unwrap();
-        let (map, index_map) = (archive.open(), index_archive.open());
+        let archive = builder.build_archive(width).unwrap();
+        let index_archive = builder.build_index_archive(width).unwrap();
+        let (map, index_map) = (archive.as_map(), index_archive.as_map());
         assert_eq!((&map["tea"], &map["cake"]), ("Tee", "a long text"));
         assert_eq!(
             (&index_map["tea"], &index_map["cake"]),
@@ -134,12 +136,12 @@ fn texts_are_indexed() {
         assert_eq!(message(panic), "the index is 2, but the map has 2 pairs");
 
         let numbers = Builder::<u64, str>::from([(7, "tea")]);
-        let archive = numbers.build(width).unwrap();
-        let index_archive = numbers.build_index(width).unwrap();
+        let archive = numbers.build_archive(width).unwrap();
+        let index_archive = numbers.build_index_archive(width).unwrap();
         assert_eq!(
-            (&archive.open()[&7], &index_archive.open()[&7]),
+            (&archive.as_map()[&7], &index_archive.as_map()[&7]),
             ("tea", "tea")
         );
-        assert!(catch_unwind(|| archive.open()[&8].len()).is_err());
+        assert!(catch_unwind(|| archive.as_map()[&8].len()).is_err());
     }
 }

@@ -1,62 +1,54 @@
 //! Containers: each opens as its own types alone, and each damaged header has the stated error.
 
+mod common;
+
+use common::{kind_of, CHECKSUMS, WIDTHS};
 use hodkhaki::{
-    update_container, Archive, Builder, Checksum, Error, ErrorKind, Key, Map, MapMut, Number, Width,
+    update_container, Builder, Checksum, Error, ErrorKind, Key, Map, MapBuf, MapMut, Number, Width,
 };
 use std::io::{self, Write};
 
-const WIDTHS: [Width; 2] = [Width::Narrow, Width::Wide];
-const CHECKSUMS: [Checksum; 2] = [Checksum::None, Checksum::Adler32];
+/// A type of values that has numbers of 32 bits.
+trait Counted: Number + From<u32> {}
+
+impl<V: Number + From<u32>> Counted for V {}
 
 /// The archive of the numbers 1 to `count` as keys, or of their texts, each with itself as value.
 trait Sample: Key {
-    fn sample<V: Number>(count: u32, width: Width) -> Archive<Self, V>;
+    fn sample<V: Counted>(count: u32, width: Width) -> MapBuf<Self, V>;
 }
 
 impl Sample for u32 {
-    fn sample<V: Number>(count: u32, width: Width) -> Archive<u32, V> {
+    fn sample<V: Counted>(count: u32, width: Width) -> MapBuf<u32, V> {
         pairs::<V>(count)
             .collect::<Builder<u32, V>>()
-            .build(width)
+            .build_archive(width)
             .unwrap()
     }
 }
 
 impl Sample for str {
-    fn sample<V: Number>(count: u32, width: Width) -> Archive<str, V> {
+    fn sample<V: Counted>(count: u32, width: Width) -> MapBuf<str, V> {
         let texts = pairs::<V>(count).map(|(number, value)| (number.to_string(), value));
-        texts.collect::<Builder<str, V>>().build(width).unwrap()
+        texts
+            .collect::<Builder<str, V>>()
+            .build_archive(width)
+            .unwrap()
     }
 }
 
-fn pairs<V: Number>(count: u32) -> impl Iterator<Item = (u32, V)> {
-    let value = |number| {
-        V::try_from(u64::from(number))
-            .ok()
-            .expect("a number of 32 bits")
-    };
-    (1..=count).map(move |number| (number, value(number)))
+fn pairs<V: Counted>(count: u32) -> impl Iterator<Item = (u32, V)> {
+    (1..=count).map(|number| (number, V::from(number)))
 }
 
 /// The error with which bytes are opened as a container of a type, to read and to write.
-fn error_as<K: Key + ?Sized, V: Number>(bytes: &[u8]) -> Option<ErrorKind> {
-    let error = Map::<K, V>::open_container(bytes)
-        .err()
-        .map(|error| error.kind());
+fn error_as<K: Key + ?Sized, V: Counted>(bytes: &[u8]) -> Option<ErrorKind> {
+    let error = kind_of(Map::<K, V>::open(bytes));
     let mut copy = bytes.to_vec();
-    assert_eq!(
-        MapMut::<K, V>::open_container(&mut copy)
-            .err()
-            .map(|error| error.kind()),
-        error
-    );
+    assert_eq!(kind_of(MapMut::<K, V>::open(&mut copy)), error);
     for width in WIDTHS {
-        let other = Map::<K, V>::open_container_with_width(bytes, width)
-            .err()
-            .map(|error| error.kind());
-        let written = MapMut::<K, V>::open_container_with_width(&mut copy, width)
-            .err()
-            .map(|error| error.kind());
+        let other = kind_of(Map::<K, V>::open_with_width(bytes, width));
+        let written = kind_of(MapMut::<K, V>::open_with_width(&mut copy, width));
         assert_eq!(written, other);
         assert!(other == error || other == Some(ErrorKind::WrongWidth));
     }
@@ -114,7 +106,7 @@ fn containers_open_with_their_own_width_alone() {
     for width in WIDTHS {
         let bytes = str::sample::<u64>(3, width).to_container(Checksum::None);
         for other in WIDTHS {
-            let map = Map::<str, u64>::open_container_with_width(&bytes, other);
+            let map = Map::<str, u64>::open_with_width(&bytes, other);
             let wanted = (other != width).then_some(ErrorKind::WrongWidth);
             assert_eq!(
                 map.err().map(|error| error.kind()),
@@ -122,7 +114,7 @@ fn containers_open_with_their_own_width_alone() {
                 "{width:?} as {other:?}"
             );
         }
-        let wrong = Map::<str, u32>::open_container_with_width(&bytes, width);
+        let wrong = Map::<str, u32>::open_with_width(&bytes, width);
         assert_eq!(
             wrong.err().map(|error| error.kind()),
             Some(ErrorKind::WrongValueType)
@@ -141,12 +133,12 @@ fn containers_have_the_pairs_of_their_archives() {
             archive.write_container(checksum, &mut written).unwrap();
             assert_eq!(written, bytes);
 
-            let map = Map::<str, u64>::open_container(&bytes).unwrap();
+            let map = Map::<str, u64>::open(&bytes).unwrap();
             assert_eq!(map.width(), width);
-            assert!(map.iter().eq(archive.open().iter()));
+            assert!(map.iter().eq(archive.as_map().iter()));
             assert_eq!((map.get("17"), map.get("31")), (Some(17), None));
 
-            let mut map = MapMut::<str, u64>::open_container(&mut bytes).unwrap();
+            let mut map = MapMut::<str, u64>::open(&mut bytes).unwrap();
             assert_eq!(map.width(), width);
             assert!(map.set("17", u64::MAX) && !map.set("31", 5));
             assert_eq!(map.at("17"), u64::MAX);
@@ -178,7 +170,7 @@ fn writing_a_container_fails_if_the_writer_cannot_flush() {
 #[test]
 fn container_has_the_bytes_of_the_format() {
     let archive = Builder::<u32, u32>::from([(1, 2)])
-        .build(Width::Narrow)
+        .build_archive(Width::Narrow)
         .unwrap();
     let header = [
         0x89, b'R', b'K', b'Y', b'V', 0x0d, 0x0a, 0x1a, // magic
@@ -209,8 +201,8 @@ fn adler32(bytes: &[u8]) -> u32 {
 
 /// The error of a header of a map of `str` to `u64` with one wrong byte, as the format has it.
 fn header_error(index: usize, byte: u8, checksum: Checksum, width: Width) -> Option<ErrorKind> {
-    const ITEMS: [u8; 13] = [
-        0x01, 0x02, 0x03, 0x04, 0x05, 0x11, 0x12, 0x14, 0x18, 0x21, 0x22, 0x24, 0x28,
+    const ITEMS: [u8; 15] = [
+        0x01, 0x02, 0x03, 0x04, 0x05, 0x11, 0x12, 0x14, 0x18, 0x21, 0x22, 0x24, 0x28, 0x34, 0x38,
     ];
     let checked = checksum == Checksum::Adler32;
     Some(match index {
@@ -239,7 +231,7 @@ fn header_error(index: usize, byte: u8, checksum: Checksum, width: Width) -> Opt
 /// The error of the sample archive, without its container, as one of the other width.
 fn other_width_error(width: Width) -> Option<ErrorKind> {
     let other = WIDTHS.into_iter().find(|other| *other != width).unwrap();
-    Map::<str, u64>::open(str::sample::<u64>(5, width).as_bytes(), other)
+    Map::<str, u64>::open_archive(str::sample::<u64>(5, width).as_bytes(), other)
         .err()
         .map(|error| error.kind())
 }
@@ -253,9 +245,7 @@ fn damaged_headers_fail_byte_by_byte() {
                 let kept = bytes[index];
                 for byte in (0..=255).filter(|byte| *byte != kept) {
                     bytes[index] = byte;
-                    let error = Map::<str, u64>::open_container(&bytes)
-                        .err()
-                        .map(|error| error.kind());
+                    let error = kind_of(Map::<str, u64>::open(&bytes));
                     let wanted = header_error(index, byte, checksum, width);
                     assert_eq!(error, wanted, "byte {index} is {byte}");
                     assert!(error.is_some(), "byte {index} is {byte}");
@@ -294,7 +284,7 @@ fn archives_are_no_containers() {
             "{width:?}"
         );
         let container = archive.to_container(Checksum::None);
-        assert!(Map::<str, u64>::open(&container[32..], width).is_ok());
+        assert!(Map::<str, u64>::open_archive(&container[32..], width).is_ok());
     }
     assert_eq!(errors(&[]), [Some(ErrorKind::ContainerTooShort); 4]);
 }
@@ -326,9 +316,7 @@ fn damaged_archives_fail_as_without_a_container() {
         for index in 32..bytes.len() {
             for other in [0, 1, 0x7f, 0x80, 0xff] {
                 let kept = std::mem::replace(&mut bytes[index], other);
-                let wanted = Map::<str, u64>::open(&bytes[32..], width)
-                    .err()
-                    .map(|error| error.kind());
+                let wanted = kind_of(Map::<str, u64>::open_archive(&bytes[32..], width));
                 assert_eq!(error_as::<str, u64>(&bytes), wanted, "byte {index}");
                 damaged += usize::from(wanted.is_some());
                 bytes[index] = kept;
@@ -342,7 +330,7 @@ fn damaged_archives_fail_as_without_a_container() {
 fn updates_write_the_checksum() {
     for width in WIDTHS {
         let mut bytes = u32::sample::<u64>(9, width).to_container(Checksum::Adler32);
-        let mut map = MapMut::<u32, u64>::open_container(&mut bytes).unwrap();
+        let mut map = MapMut::<u32, u64>::open(&mut bytes).unwrap();
         assert!(map.set(&5, 500));
         std::mem::forget(map);
         let error = error_as::<u32, u64>(&bytes);
@@ -350,7 +338,7 @@ fn updates_write_the_checksum() {
         assert_eq!(update_container(&mut bytes), Ok(()));
         let sum = adler32(&bytes[32..]).to_le_bytes();
         assert_eq!(bytes[24..28], sum);
-        assert_eq!(Map::<u32, u64>::open_container(&bytes).unwrap().at(&5), 500);
+        assert_eq!(Map::<u32, u64>::open(&bytes).unwrap().at(&5), 500);
 
         // Without a checksum nothing is changed.
         let mut bytes = u32::sample::<u64>(9, width).to_container(Checksum::None);
@@ -367,7 +355,7 @@ fn dropping_a_written_map_writes_the_checksum() {
             let archive = u32::sample::<u64>(9, width);
             let unwritten = archive.to_container(checksum);
             let mut bytes = unwritten.clone();
-            let mut map = MapMut::<u32, u64>::open_container(&mut bytes).unwrap();
+            let mut map = MapMut::<u32, u64>::open(&mut bytes).unwrap();
             assert!(!map.set(&10, 1));
             map.update_container();
             drop(map);
@@ -375,20 +363,20 @@ fn dropping_a_written_map_writes_the_checksum() {
 
             let mut written = Builder::<u32, u64>::new();
             written.extend((1..10).map(|key| (key, u64::from(key) + u64::from(key == 5) * 495)));
-            let written = written.build(width).unwrap().to_container(checksum);
-            let mut map = MapMut::<u32, u64>::open_container(&mut bytes).unwrap();
+            let written = written.build_archive(width).unwrap().to_container(checksum);
+            let mut map = MapMut::<u32, u64>::open(&mut bytes).unwrap();
             assert!(map.set(&5, 500) && !map.set(&10, 1));
             drop(map);
             assert_eq!(bytes, written);
 
             // The same by an update of a map that stays open, and by ending the writing.
             let mut bytes = unwritten.clone();
-            let mut map = MapMut::<u32, u64>::open_container_with_width(&mut bytes, width).unwrap();
+            let mut map = MapMut::<u32, u64>::open_with_width(&mut bytes, width).unwrap();
             assert!(map.set(&5, 500));
             map.update_container();
             std::mem::forget(map);
             assert_eq!(bytes, written);
-            let mut map = MapMut::<u32, u64>::open_container(&mut bytes).unwrap();
+            let mut map = MapMut::<u32, u64>::open(&mut bytes).unwrap();
             assert!(map.set(&5, 5));
             let map = Map::from(map);
             assert_eq!(map.at(&5), 5);
@@ -401,7 +389,7 @@ fn dropping_a_written_map_writes_the_checksum() {
 fn maps_of_archives_write_no_header() {
     let mut bytes = u32::sample::<u64>(9, Width::Narrow).to_container(Checksum::Adler32);
     let header = bytes[..32].to_vec();
-    let mut map = MapMut::<u32, u64>::open(&mut bytes[32..], Width::Narrow).unwrap();
+    let mut map = MapMut::<u32, u64>::open_archive(&mut bytes[32..], Width::Narrow).unwrap();
     assert!(map.set(&5, 500));
     map.update_container();
     drop(map);
@@ -471,7 +459,7 @@ fn errors_have_texts() {
 #[test]
 fn errors_of_containers_have_numbers() {
     let archive = Builder::<u32, u32>::from([(1, 2)])
-        .build(Width::Narrow)
+        .build_archive(Width::Narrow)
         .unwrap();
     let container = archive.to_container(Checksum::None);
     let has = |error: Error, numbers: Option<(u64, u64)>, end: &str| {
@@ -479,22 +467,22 @@ fn errors_of_containers_have_numbers() {
         assert!(text.ends_with(end), "{text}");
         assert_eq!((error.position(), error.numbers()), (None, numbers));
     };
-    let types = Map::<u32, u64>::open_container(&container).unwrap_err();
+    let types = Map::<u32, u64>::open(&container).unwrap_err();
     has(types, Some((24, 20)), " (expected 24, found 20)");
-    let width = Map::<u32, u32>::open_container_with_width(&container, Width::Wide);
+    let width = Map::<u32, u32>::open_with_width(&container, Width::Wide);
     has(width.unwrap_err(), Some((8, 4)), " (expected 8, found 4)");
-    let cut = Map::<u32, u32>::open_container(&container[..31]).unwrap_err();
+    let cut = Map::<u32, u32>::open(&container[..31]).unwrap_err();
     has(cut, Some((31, 0)), " (31 bytes)");
     let mut damaged = container.clone();
     damaged[8] = 2;
-    let version = Map::<u32, u32>::open_container(&damaged).unwrap_err();
+    let version = Map::<u32, u32>::open(&damaged).unwrap_err();
     has(version, Some((2, 0)), " (2)");
     damaged[0] = 0;
-    let magic = Map::<u32, u32>::open_container(&damaged).unwrap_err();
+    let magic = Map::<u32, u32>::open(&damaged).unwrap_err();
     has(magic, None, " are not those of a container");
     let mut longer = container.clone();
     longer.push(0);
-    let length = MapMut::<u32, u32>::open_container(&mut longer).unwrap_err();
+    let length = MapMut::<u32, u32>::open(&mut longer).unwrap_err();
     has(length, Some((60, 61)), " (expected 60, found 61)");
     let update = update_container(&mut longer).unwrap_err();
     has(update, None, " is not that in the header");

@@ -15,12 +15,12 @@ fn texts() -> Vec<(String, u64)> {
 
 /// The bytes that a builder builds.
 fn bytes<K: Key + ?Sized, V: Value + ?Sized>(builder: Builder<K, V>) -> Vec<u8> {
-    builder.build(Width::Narrow).unwrap().into()
+    builder.build_archive(Width::Narrow).unwrap().into()
 }
 
 /// The bytes that a builder of a set builds.
 fn set_bytes<K: Key + ?Sized>(builder: SetBuilder<K>) -> Vec<u8> {
-    builder.build(Width::Wide).unwrap().into()
+    builder.build_archive(Width::Wide).unwrap().into()
 }
 
 /// The bytes of pairs that are pushed one after the other.
@@ -46,7 +46,7 @@ fn maps_of_std_are_converted_without_type_annotations() {
     assert_eq!(bytes(map.iter().collect::<Builder<str, u64>>()), wanted);
     let annotated: Builder<str, u64> = (&map).into();
     assert_eq!(bytes(annotated), wanted);
-    let opened = Map::<str, u64>::open(&wanted, Width::Narrow).unwrap();
+    let opened = Map::<str, u64>::open_archive(&wanted, Width::Narrow).unwrap();
     assert_eq!(opened.len(), 100);
     assert!(map
         .iter()
@@ -177,7 +177,7 @@ fn generic<'a, K: Key + ?Sized, V: Value + ?Sized>(pairs: &[(&'a K, &'a V)]) -> 
     let mut builder = Builder::<K, V>::new();
     builder.extend(pairs);
     let built = bytes(builder);
-    let opened = Map::<K, V>::open(&built, Width::Narrow).unwrap();
+    let opened = Map::<K, V>::open_archive(&built, Width::Narrow).unwrap();
     let copied = opened.iter().collect::<Builder<K, V>>();
     let mut pushed = Builder::<K, V>::new();
     for (key, _) in pairs {

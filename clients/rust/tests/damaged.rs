@@ -11,7 +11,7 @@ const WIDTHS: [Width; 2] = [Width::Narrow, Width::Wide];
 
 /// Opens bytes as a map, and reads each pair. Returns whether the bytes are valid.
 fn is_read_safely<K: Key + ?Sized, V: Value + ?Sized>(bytes: &[u8], width: Width) -> bool {
-    let Ok(map) = Map::<K, V>::open(bytes, width) else {
+    let Ok(map) = Map::<K, V>::open_archive(bytes, width) else {
         return false;
     };
     let found = |key: &K::Ref<'_>| map.get((*key).borrow()).is_some();
@@ -23,7 +23,7 @@ fn is_read_safely<K: Key + ?Sized, V: Value + ?Sized>(bytes: &[u8], width: Width
 
 /// Opens bytes as an index map, and reads each pair. Returns whether the bytes are valid.
 fn is_indexed_safely<K: Key + ?Sized, V: Value + ?Sized>(bytes: &[u8], width: Width) -> bool {
-    let Ok(map) = IndexMap::<K, V>::open(bytes, width) else {
+    let Ok(map) = IndexMap::<K, V>::open_archive(bytes, width) else {
         return false;
     };
     for (key, _) in map.iter() {
@@ -39,7 +39,7 @@ fn is_indexed_safely<K: Key + ?Sized, V: Value + ?Sized>(bytes: &[u8], width: Wi
 
 /// Opens bytes as a set, and reads each item. Returns whether the bytes are valid.
 fn is_listed_safely<K: Key + ?Sized>(bytes: &[u8], width: Width) -> bool {
-    let Ok(set) = Set::<K>::open(bytes, width) else {
+    let Ok(set) = Set::<K>::open_archive(bytes, width) else {
         return false;
     };
     let found = |item: &K::Ref<'_>| set.contains((*item).borrow());
@@ -53,9 +53,9 @@ fn is_index_written_safely<K: Key + ?Sized, V: Number>(bytes: &[u8], width: Widt
     if !is_indexed_safely::<K, V>(bytes, width) {
         return false;
     }
-    let map = IndexMap::<K, V>::open(bytes, width).unwrap();
+    let map = IndexMap::<K, V>::open_archive(bytes, width).unwrap();
     let mut copy = bytes.to_vec();
-    let mut written = IndexMapMut::<K, V>::open(&mut copy, width).unwrap();
+    let mut written = IndexMapMut::<K, V>::open_archive(&mut copy, width).unwrap();
     for key in map.keys() {
         let set = written.set(key.borrow(), V::default());
         assert_eq!(set, map.contains_key(key.borrow()));
@@ -70,9 +70,9 @@ fn opens_safely<K: Key + ?Sized, V: Number>(bytes: &[u8], width: Width) -> bool 
     if !is_read_safely::<K, V>(bytes, width) {
         return false;
     }
-    let map = Map::<K, V>::open(bytes, width).unwrap();
+    let map = Map::<K, V>::open_archive(bytes, width).unwrap();
     let mut copy = bytes.to_vec();
-    let mut written = MapMut::<K, V>::open(&mut copy, width).unwrap();
+    let mut written = MapMut::<K, V>::open_archive(&mut copy, width).unwrap();
     for key in map.keys() {
         let set = written.set(key.borrow(), V::default());
         assert_eq!(set, map.contains_key(key.borrow()));
@@ -120,25 +120,31 @@ fn archives() -> Vec<(Width, Vec<u8>)> {
     let mut archives = Vec::new();
     for width in WIDTHS {
         let numbers: Builder<u32, u32> = (0..17).map(|key| (key * key, key)).collect();
-        archives.push((width, numbers.build(width).unwrap().into()));
+        archives.push((width, numbers.build_archive(width).unwrap().into()));
         let numbers: Builder<u32, u64> = (0..3).map(|key| (key << 30, 1 << 50)).collect();
-        archives.push((width, numbers.build(width).unwrap().into()));
+        archives.push((width, numbers.build_archive(width).unwrap().into()));
         let names: Builder<str, u32> = texts.into_iter().zip(1..).collect();
-        archives.push((width, names.build(width).unwrap().into()));
+        archives.push((width, names.build_archive(width).unwrap().into()));
         let names: Builder<str, u64> = texts.into_iter().zip(1 << 40..).collect();
-        archives.push((width, names.build(width).unwrap().into()));
+        archives.push((width, names.build_archive(width).unwrap().into()));
         archives.push((
             width,
-            Builder::<str, u64>::new().build(width).unwrap().into(),
+            Builder::<str, u64>::new()
+                .build_archive(width)
+                .unwrap()
+                .into(),
         ));
         let translations: Builder<str, str> = texts.into_iter().zip(texts).collect();
-        archives.push((width, translations.build(width).unwrap().into()));
-        archives.push((width, translations.build_index(width).unwrap().into()));
+        archives.push((width, translations.build_archive(width).unwrap().into()));
+        archives.push((
+            width,
+            translations.build_index_archive(width).unwrap().into(),
+        ));
         let great: Builder<u64, u64> = (0..3).map(|key| (key << 40, key)).collect();
-        archives.push((width, great.build(width).unwrap().into()));
-        archives.push((width, great.build_index(width).unwrap().into()));
+        archives.push((width, great.build_archive(width).unwrap().into()));
+        archives.push((width, great.build_index_archive(width).unwrap().into()));
         let set = SetBuilder::<u64>::from([1, 1 << 40]);
-        archives.push((width, set.build(width).unwrap().into()));
+        archives.push((width, set.build_archive(width).unwrap().into()));
     }
     archives
 }
@@ -195,7 +201,7 @@ fn damaged_headers_are_safe() {
 #[test]
 fn keys_in_buckets_fail() {
     let archive = Builder::<str, u64>::from([("a key out of line", 7)])
-        .build(Width::Narrow)
+        .build_archive(Width::Narrow)
         .unwrap();
     let mut bytes = Vec::from(archive);
     // The 17 bytes of the key, 7 of padding, and two buckets of 16 bytes. The length is in the
@@ -204,7 +210,7 @@ fn keys_in_buckets_fail() {
     assert_eq!(bytes[bucket], 0x91);
     for (begin, distance) in (-(bucket as i32)..40).enumerate() {
         bytes[bucket + 4..bucket + 8].copy_from_slice(&distance.to_le_bytes());
-        let error = Map::<str, u64>::open(&bytes, Width::Narrow)
+        let error = Map::<str, u64>::open_archive(&bytes, Width::Narrow)
             .err()
             .map(|error| error.kind());
         let wanted = (begin + 17 > 24).then_some(ErrorKind::OutOfRange);

@@ -72,12 +72,15 @@ fn compare<K, V, Q>(
                 });
         assert_eq!(shown, format!("{wanted:?}"));
         for width in [Width::Narrow, Width::Wide] {
-            let (built, wanted) = (builder.build(width).unwrap(), wanted.build(width).unwrap());
+            let (built, wanted) = (
+                builder.build_archive(width).unwrap(),
+                wanted.build_archive(width).unwrap(),
+            );
             assert_eq!(built.as_bytes(), wanted.as_bytes());
         }
         let (built, wanted) = (
-            builder.build_index(Width::Narrow),
-            wanted.build_index(Width::Narrow),
+            builder.build_index_archive(Width::Narrow),
+            wanted.build_index_archive(Width::Narrow),
         );
         assert_eq!(built.unwrap().as_bytes(), wanted.unwrap().as_bytes());
     }
@@ -107,8 +110,8 @@ fn compare_with_std<K: Key + ?Sized, V: Number>(pairs: &[(&K, V)]) {
         assert_eq!(builder.insert(*key, *value), map.insert(*key, *value));
     }
     assert_eq!(builder.len(), map.len());
-    let archive = builder.build(Width::Narrow).unwrap();
-    let opened = archive.open();
+    let archive = builder.build_archive(Width::Narrow).unwrap();
+    let opened = archive.as_map();
     assert_eq!(opened.len(), map.len());
     assert!(map
         .iter()
@@ -148,8 +151,8 @@ fn sets_insert_as_sets_of_std() {
             assert_eq!(builder.insert(&item), set.insert(item));
         }
     }
-    let archive = builder.build(Width::Wide).unwrap();
-    let found: HashSet<String> = archive.open().iter().map(String::from).collect();
+    let archive = builder.build_archive(Width::Wide).unwrap();
+    let found: HashSet<String> = archive.iter().map(String::from).collect();
     assert_eq!(found, set);
     let mut numbers = SetBuilder::<u64>::new();
     assert!(numbers.insert(1) && numbers.insert(2) && !numbers.insert(1));
@@ -172,14 +175,14 @@ fn repeated_keys_cost_nothing() {
         texts.insert(7, &long[n as usize % 1000..]);
         set.insert("item");
     }
-    let archive = builder.build(Width::Narrow).unwrap();
+    let archive = builder.build_archive(Width::Narrow).unwrap();
     assert_eq!(
-        (archive.open().len(), archive.open().get("key")),
+        (archive.as_map().len(), archive.as_map().get("key")),
         (1, Some(159_999))
     );
-    let archive = texts.build_index(Width::Narrow).unwrap();
-    assert_eq!(archive.open().get_index(0), Some((7, &long[999..])));
-    assert_eq!(set.build(Width::Narrow).unwrap().open().len(), 1);
+    let archive = texts.build_index_archive(Width::Narrow).unwrap();
+    assert_eq!(archive.as_map().get_index(0), Some((7, &long[999..])));
+    assert_eq!(set.build_archive(Width::Narrow).unwrap().len(), 1);
     println!("{:?}", begin.elapsed());
 }
 
@@ -195,13 +198,13 @@ fn texts_are_replaced_among_others() {
         old = long[..*end].into();
     }
     assert_eq!(builder.insert(500, "new"), Some(String::new()));
-    let archive = builder.build(Width::Narrow).unwrap();
+    let archive = builder.build_archive(Width::Narrow).unwrap();
     for n in 0..1000 {
         let wanted = if n == 500 {
             "new".into()
         } else {
             text(n.into())
         };
-        assert_eq!(archive.open().get(&n), Some(&*wanted));
+        assert_eq!(archive.as_map().get(&n), Some(&*wanted));
     }
 }

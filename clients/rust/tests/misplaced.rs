@@ -64,22 +64,22 @@ fn test_keys<K: Key + ?Sized>(keys: &[&K]) {
         words.push(*key, "a text");
     }
     for width in WIDTHS {
-        let archive = items.build(width).unwrap();
-        let set = archive.open();
+        let archive = items.build_archive(width).unwrap();
+        let set = archive.as_set();
         expect(|limit| set.misplaced_up_to(limit), keys.len(), misplaced);
-        let archive = words.build(width).unwrap();
-        let map = archive.open();
+        let archive = words.build_archive(width).unwrap();
+        let map = archive.as_map();
         expect(|limit| map.misplaced_up_to(limit), keys.len(), misplaced);
-        let archive = words.build_index(width).unwrap();
-        let map = archive.open();
+        let archive = words.build_index_archive(width).unwrap();
+        let map = archive.as_map();
         assert_eq!(missed_in_index(map), misplaced);
         expect(|limit| map.misplaced_up_to(limit), keys.len(), misplaced);
-        let archive = numbers.build(width).unwrap();
-        let map = archive.open();
+        let archive = numbers.build_archive(width).unwrap();
+        let map = archive.as_map();
         assert_eq!(missed_in_map(map), misplaced);
         expect(|limit| map.misplaced_up_to(limit), keys.len(), misplaced);
-        let archive = numbers.build_index(width).unwrap();
-        let map = archive.open();
+        let archive = numbers.build_index_archive(width).unwrap();
+        let map = archive.as_map();
         assert_eq!(missed_in_index(map), misplaced);
         expect(|limit| map.misplaced_up_to(limit), keys.len(), misplaced);
     }
@@ -107,32 +107,34 @@ fn repeated_keys_are_misplaced() {
 fn each_type_of_handle_counts() {
     let builder = Builder::<str, u64>::from([("tea", 3), ("cake", 4), ("tea", 5)]);
     for width in WIDTHS {
-        let mut bytes: Vec<u8> = builder.build(width).unwrap().into();
-        let map = MapMut::<str, u64>::open(&mut bytes, width).unwrap();
+        let mut bytes: Vec<u8> = builder.build_archive(width).unwrap().into();
+        let map = MapMut::<str, u64>::open_archive(&mut bytes, width).unwrap();
         assert_eq!(
             [2, 3].map(|limit| map.misplaced_up_to(limit)),
             [None, Some(1)]
         );
         drop(map);
-        let map = MapBuf::<str, u64>::open(bytes, width).unwrap();
+        let map = MapBuf::<str, u64>::open_archive(bytes, width).unwrap();
         assert_eq!(
             [2, 3].map(|limit| map.misplaced_up_to(limit)),
             [None, Some(1)]
         );
-        let mut bytes: Vec<u8> = builder.build_index(width).unwrap().into();
-        let map = IndexMapMut::<str, u64>::open(&mut bytes, width).unwrap();
+        let mut bytes: Vec<u8> = builder.build_index_archive(width).unwrap().into();
+        let map = IndexMapMut::<str, u64>::open_archive(&mut bytes, width).unwrap();
         assert_eq!(
             [2, 3].map(|limit| map.misplaced_up_to(limit)),
             [None, Some(1)]
         );
         drop(map);
-        let map = IndexMapBuf::<str, u64>::open(bytes, width).unwrap();
+        let map = IndexMapBuf::<str, u64>::open_archive(bytes, width).unwrap();
         assert_eq!(
             [2, 3].map(|limit| map.misplaced_up_to(limit)),
             [None, Some(1)]
         );
         let items = SetBuilder::<str>::from(["tea", "tea"]);
-        let set = SetBuf::<str>::open(Vec::from(items.build(width).unwrap()), width).unwrap();
+        let set =
+            SetBuf::<str>::open_archive(Vec::from(items.build_archive(width).unwrap()), width)
+                .unwrap();
         assert_eq!(
             [1, 2].map(|limit| set.misplaced_up_to(limit)),
             [None, Some(1)]
@@ -274,9 +276,9 @@ fn counts_of_damaged_sets_are_those_of_the_format() {
         let length = 1 + random(&mut state) % 120;
         let items = (0..length).map(|_| (random(&mut state) % 4096) as u32);
         let builder: SetBuilder<u32> = items.collect();
-        let mut bytes: Vec<u8> = builder.build(Width::Narrow).unwrap().into();
+        let mut bytes: Vec<u8> = builder.build_archive(Width::Narrow).unwrap().into();
         damage(&mut bytes, &mut state, round % 200);
-        let set = Set::<u32>::open(&bytes, Width::Narrow).unwrap();
+        let set = Set::<u32>::open_archive(&bytes, Width::Narrow).unwrap();
         let (misplaced, strides) = Model::of(&bytes).misplaced();
         assert_eq!(set.misplaced_up_to(strides), Some(misplaced), "{round}");
         assert_eq!(set.misplaced_up_to(u64::MAX), Some(misplaced), "{round}");
@@ -302,12 +304,12 @@ fn keys_of_damaged_maps_are_misplaced() {
         .collect();
     let mut different = HashSet::new();
     for width in WIDTHS {
-        let mut bytes: Vec<u8> = builder.build(width).unwrap().into();
+        let mut bytes: Vec<u8> = builder.build_archive(width).unwrap().into();
         for index in 0..bytes.len() {
             let byte = bytes[index];
             for other in [byte ^ 1, byte ^ 2, byte.wrapping_add(19)] {
                 bytes[index] = other;
-                let map = Map::<u32, u64>::open(&bytes, width).ok();
+                let map = Map::<u32, u64>::open_archive(&bytes, width).ok();
                 if let Some(map) = map.filter(has_no_equal_values) {
                     let missed = missed_in_map(map) as u64;
                     assert_eq!(map.misplaced_up_to(1000), Some(missed));
@@ -316,12 +318,12 @@ fn keys_of_damaged_maps_are_misplaced() {
             }
             bytes[index] = byte;
         }
-        let mut bytes: Vec<u8> = builder.build_index(width).unwrap().into();
+        let mut bytes: Vec<u8> = builder.build_index_archive(width).unwrap().into();
         for index in 0..bytes.len() {
             let byte = bytes[index];
             for other in [byte ^ 1, byte ^ 2, byte.wrapping_add(19)] {
                 bytes[index] = other;
-                if let Ok(map) = IndexMap::<u32, u64>::open(&bytes, width) {
+                if let Ok(map) = IndexMap::<u32, u64>::open_archive(&bytes, width) {
                     let missed = missed_in_index(map) as u64;
                     assert_eq!(map.misplaced_up_to(1000), Some(missed));
                     different.insert(missed);

@@ -32,9 +32,9 @@ impl Modelled {
     fn new(count: u64, width: Width) -> Self {
         let values: HashMap<String, u64> = (0..count).map(|n| (text(n), n << 33)).collect();
         let builder = Builder::from(&values);
-        let archive = builder.build(width).unwrap();
+        let archive = builder.build_archive(width).unwrap();
         let container = archive.to_container(Checksum::Adler32);
-        let index_archive = builder.build_index(width).unwrap();
+        let index_archive = builder.build_index_archive(width).unwrap();
         Modelled {
             values,
             bytes: archive.into(),
@@ -46,12 +46,13 @@ impl Modelled {
 
     /// Opens the bytes in values that own them, moves the maps and compares them.
     fn compare<B: StableBytes>(&self, owned: impl Fn(Vec<u8>) -> B) {
-        let map = MapBuf::<str, u64, B>::open(owned(self.bytes.clone()), self.width).unwrap();
+        let map =
+            MapBuf::<str, u64, B>::open_archive(owned(self.bytes.clone()), self.width).unwrap();
         self.check(&map);
         // The vector moves the maps when it grows.
         let mut maps = vec![map];
         for _ in 0..5 {
-            maps.push(MapBuf::open_container(owned(self.container.clone())).unwrap());
+            maps.push(MapBuf::open(owned(self.container.clone())).unwrap());
             maps.iter().for_each(|map| self.check(map));
         }
         maps.swap(0, 3);
@@ -61,8 +62,7 @@ impl Modelled {
         assert_eq!(boxed.into_bytes().stable_bytes(), self.bytes);
         assert_eq!(maps[0].as_bytes(), self.container);
 
-        let index_map =
-            IndexMapBuf::<str, u64, B>::open_container(owned(self.index_container.clone()));
+        let index_map = IndexMapBuf::<str, u64, B>::open(owned(self.index_container.clone()));
         let index_map = Box::new(index_map.unwrap());
         assert_eq!(index_map.as_map(), self.values);
         assert!(index_map.iter().eq(&*index_map));
@@ -120,9 +120,9 @@ fn owned_maps_are_those_of_std() {
 
 #[test]
 fn bytes_are_in_the_map_itself() {
-    let archive = Builder::<u32, u32>::from([(1, 2)]).build(Width::Narrow);
+    let archive = Builder::<u32, u32>::from([(1, 2)]).build_archive(Width::Narrow);
     let bytes: [u8; 60] = Vec::from(archive.unwrap()).try_into().unwrap();
-    let mut maps = vec![MapBuf::<u32, u32, _>::open(bytes, Width::Narrow).unwrap()];
+    let mut maps = vec![MapBuf::<u32, u32, _>::open_archive(bytes, Width::Narrow).unwrap()];
     for _ in 0..5 {
         maps.push(maps[0].clone());
         assert!(maps.iter().all(|map| map.get(&1) == Some(2)));
@@ -132,12 +132,12 @@ fn bytes_are_in_the_map_itself() {
 #[test]
 fn clones_own_their_bytes() {
     let modelled = Modelled::new(100, Width::Narrow);
-    let map = MapBuf::<str, u64>::open(modelled.bytes.clone(), Width::Narrow).unwrap();
+    let map = MapBuf::<str, u64>::open_archive(modelled.bytes.clone(), Width::Narrow).unwrap();
     let clone = map.clone();
     drop(map);
     modelled.check(&clone);
     let shared: Arc<[u8]> = modelled.container.clone().into();
-    let map = MapBuf::<str, u64, Arc<[u8]>>::open_container(shared).unwrap();
+    let map = MapBuf::<str, u64, Arc<[u8]>>::open(shared).unwrap();
     let threads = [map.clone(), map.clone()].map(|map| {
         std::thread::spawn(move || {
             assert_eq!(map.at(&text(7)), 7 << 33);
@@ -156,10 +156,10 @@ fn clones_own_their_bytes() {
 fn owned_sets_are_those_of_std() {
     for width in WIDTHS {
         let items: HashSet<String> = (0..100).map(text).collect();
-        let archive = SetBuilder::from(&items).build(width).unwrap();
+        let archive = SetBuilder::from(&items).build_archive(width).unwrap();
         let container = archive.to_container(Checksum::Adler32);
-        let set = SetBuf::<str>::open(archive.into(), width).unwrap();
-        let in_container = SetBuf::<str, Arc<[u8]>>::open_container(container.clone().into());
+        let set = SetBuf::<str>::open_archive(archive.into(), width).unwrap();
+        let in_container = SetBuf::<str, Arc<[u8]>>::open(container.clone().into());
         let in_container = in_container.unwrap().clone();
         assert_eq!(set.as_set(), items);
         assert_eq!(in_container.as_set(), items);
@@ -181,7 +181,7 @@ fn invalid_bytes_fail() {
     let modelled = Modelled::new(3, Width::Narrow);
     let kind = |error: hodkhaki::Error| error.kind();
     let open = |bytes: &[u8]| {
-        MapBuf::<str, u64>::open(bytes.to_vec(), Width::Narrow)
+        MapBuf::<str, u64>::open_archive(bytes.to_vec(), Width::Narrow)
             .err()
             .map(kind)
     };
@@ -189,10 +189,10 @@ fn invalid_bytes_fail() {
     assert_eq!(open(&[]), Some(ErrorKind::OutOfRange));
     assert_eq!(
         open(&modelled.bytes[1..]).is_some(),
-        Map::<str, u64>::open(&modelled.bytes[1..], Width::Narrow).is_err()
+        Map::<str, u64>::open_archive(&modelled.bytes[1..], Width::Narrow).is_err()
     );
     let container = |bytes: &[u8]| {
-        MapBuf::<str, u64, Box<[u8]>>::open_container(bytes.into())
+        MapBuf::<str, u64, Box<[u8]>>::open(bytes.into())
             .err()
             .map(kind)
     };
@@ -206,11 +206,11 @@ fn invalid_bytes_fail() {
         container(&modelled.index_container),
         Some(ErrorKind::WrongCollection)
     );
-    let other = MapBuf::<u32, u64, &[u8]>::open_container(&modelled.container);
+    let other = MapBuf::<u32, u64, &[u8]>::open(&modelled.container);
     assert_eq!(other.err().map(kind), Some(ErrorKind::WrongKeyType));
-    let index_map = IndexMapBuf::<str, u64, &[u8]>::open(&[0; 17], Width::Narrow);
+    let index_map = IndexMapBuf::<str, u64, &[u8]>::open_archive(&[0; 17], Width::Narrow);
     assert_eq!(index_map.err().map(kind), Some(ErrorKind::Unaligned));
-    let set = SetBuf::<str, &[u8]>::open_container(&modelled.container);
+    let set = SetBuf::<str, &[u8]>::open(&modelled.container);
     assert_eq!(set.err().map(kind), Some(ErrorKind::WrongCollection));
 }
 
@@ -229,11 +229,11 @@ fn shortest(mut measured: impl FnMut()) -> Duration {
 fn as_map_validates_nothing() {
     let texts: Vec<String> = (0..20_000).map(text).collect();
     let builder: Builder<str, str> = texts.iter().map(|text| (text, text)).collect();
-    let bytes = Vec::from(builder.build(Width::Narrow).unwrap());
+    let bytes = Vec::from(builder.build_archive(Width::Narrow).unwrap());
     let validation = shortest(|| {
-        Map::<str, str>::open(&bytes, Width::Narrow).unwrap();
+        Map::<str, str>::open_archive(&bytes, Width::Narrow).unwrap();
     });
-    let map = MapBuf::<str, str, _>::open(&bytes[..], Width::Narrow).unwrap();
+    let map = MapBuf::<str, str, _>::open_archive(&bytes[..], Width::Narrow).unwrap();
     let lookups = shortest(|| {
         for text in texts.iter().take(1000) {
             assert_eq!(map.as_map().get(text), Some(&**text));
