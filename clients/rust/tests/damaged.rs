@@ -1,17 +1,18 @@
 //! Damaged archives, and archives that are opened as another type, are safe to use.
 
+mod common;
+
 use std::borrow::Borrow;
 
+use common::{kind_of, Sample, WIDTHS};
 use hodkhaki::{
-    Builder, ErrorKind, IndexMap, IndexMapMut, Key, Map, MapMut, Number, Set, SetBuilder, Value,
-    Width,
+    Builder, ErrorKind, HashKind, IndexKind, IndexMap, IndexSet, Key, Kind, Map, MapMut, Number,
+    Set, SetBuilder, Value, Width,
 };
 
-const WIDTHS: [Width; 2] = [Width::Narrow, Width::Wide];
-
-/// Opens bytes as a map, and reads each pair. Returns whether the bytes are valid.
-fn is_read_safely<K: Key + ?Sized, V: Value + ?Sized>(bytes: &[u8], width: Width) -> bool {
-    let Ok(map) = Map::<K, V>::open_archive(bytes, width) else {
+/// Opens bytes as a map of a kind, and reads each pair. Returns whether the bytes are valid.
+fn is_read<K: Key + ?Sized, V: Value + ?Sized, C: Kind>(bytes: &[u8], width: Width) -> bool {
+    let Ok(map) = Map::<K, V, C>::open_archive(bytes, width) else {
         return false;
     };
     let found = |key: &K::Ref<'_>| map.get((*key).borrow()).is_some();
@@ -21,11 +22,12 @@ fn is_read_safely<K: Key + ?Sized, V: Value + ?Sized>(bytes: &[u8], width: Width
     true
 }
 
-/// Opens bytes as an index map, and reads each pair. Returns whether the bytes are valid.
-fn is_indexed_safely<K: Key + ?Sized, V: Value + ?Sized>(bytes: &[u8], width: Width) -> bool {
-    let Ok(map) = IndexMap::<K, V>::open_archive(bytes, width) else {
+/// Opens bytes as an index map, and reads each pair by its index too.
+fn is_indexed<K: Key + ?Sized, V: Value + ?Sized>(bytes: &[u8], width: Width) -> bool {
+    if !is_read::<K, V, IndexKind>(bytes, width) {
         return false;
-    };
+    }
+    let map = IndexMap::<K, V>::open_archive(bytes, width).unwrap();
     for (key, _) in map.iter() {
         // Of an archive that no builder has built, the found pair may be any pair.
         let index = map.get_index_of(key.borrow());
@@ -33,13 +35,12 @@ fn is_indexed_safely<K: Key + ?Sized, V: Value + ?Sized>(bytes: &[u8], width: Wi
         assert!(index.is_none_or(|index| index < map.len()));
     }
     assert!(map.iter().rev().count() == map.len() && map.get_index(map.len()).is_none());
-    assert!(!format!("{map:?}").is_empty());
     true
 }
 
-/// Opens bytes as a set, and reads each item. Returns whether the bytes are valid.
-fn is_listed_safely<K: Key + ?Sized>(bytes: &[u8], width: Width) -> bool {
-    let Ok(set) = Set::<K>::open_archive(bytes, width) else {
+/// Opens bytes as a set of a kind, and reads each item. Returns whether the bytes are valid.
+fn is_listed<K: Key + ?Sized, C: Kind>(bytes: &[u8], width: Width) -> bool {
+    let Ok(set) = Set::<K, C>::open_archive(bytes, width) else {
         return false;
     };
     let found = |item: &K::Ref<'_>| set.contains((*item).borrow());
@@ -47,32 +48,28 @@ fn is_listed_safely<K: Key + ?Sized>(bytes: &[u8], width: Width) -> bool {
     true
 }
 
-/// Opens bytes as an index map to numbers, and reads and writes each pair. Returns whether the bytes
-/// are valid.
-fn is_index_written_safely<K: Key + ?Sized, V: Number>(bytes: &[u8], width: Width) -> bool {
-    if !is_indexed_safely::<K, V>(bytes, width) {
+/// Opens bytes as an index set, and reads each item by its index too.
+fn is_listed_by_index<K: Key + ?Sized>(bytes: &[u8], width: Width) -> bool {
+    if !is_listed::<K, IndexKind>(bytes, width) {
         return false;
     }
-    let map = IndexMap::<K, V>::open_archive(bytes, width).unwrap();
-    let mut copy = bytes.to_vec();
-    let mut written = IndexMapMut::<K, V>::open_archive(&mut copy, width).unwrap();
-    for key in map.keys() {
-        let set = written.set(key.borrow(), V::default());
-        assert_eq!(set, map.contains_key(key.borrow()));
-    }
-    assert_eq!(written.len(), map.len());
+    let set = IndexSet::<K>::open_archive(bytes, width).unwrap();
+    assert!((0..set.len()).all(|index| set.get_index(index).is_some()));
+    assert!(set.iter().all(|item| set
+        .get_full(item.borrow())
+        .is_none_or(|full| full.0 < set.len())));
     true
 }
 
-/// Opens bytes as a map to numbers, and reads and writes each pair. Returns whether the bytes are
-/// valid.
-fn opens_safely<K: Key + ?Sized, V: Number>(bytes: &[u8], width: Width) -> bool {
-    if !is_read_safely::<K, V>(bytes, width) {
+/// Opens bytes as a map to numbers of a kind, and reads and writes each pair. Returns whether the bytes
+/// are valid.
+fn is_written<K: Key + ?Sized, V: Number, C: Kind>(bytes: &[u8], width: Width) -> bool {
+    if !is_read::<K, V, C>(bytes, width) {
         return false;
     }
-    let map = Map::<K, V>::open_archive(bytes, width).unwrap();
+    let map = Map::<K, V, C>::open_archive(bytes, width).unwrap();
     let mut copy = bytes.to_vec();
-    let mut written = MapMut::<K, V>::open_archive(&mut copy, width).unwrap();
+    let mut written = MapMut::<K, V, C>::open_archive(&mut copy, width).unwrap();
     for key in map.keys() {
         let set = written.set(key.borrow(), V::default());
         assert_eq!(set, map.contains_key(key.borrow()));
@@ -85,20 +82,27 @@ fn opens_safely<K: Key + ?Sized, V: Number>(bytes: &[u8], width: Width) -> bool 
 fn number_of_types(bytes: &[u8]) -> usize {
     let count = |width| {
         [
-            opens_safely::<u32, u32>(bytes, width),
-            opens_safely::<u32, u64>(bytes, width),
-            opens_safely::<u64, u64>(bytes, width),
-            opens_safely::<str, u32>(bytes, width),
-            opens_safely::<str, u64>(bytes, width),
-            is_read_safely::<u64, str>(bytes, width),
-            is_read_safely::<str, str>(bytes, width),
-            is_listed_safely::<u64>(bytes, width),
-            is_listed_safely::<str>(bytes, width),
-            is_index_written_safely::<u32, u32>(bytes, width),
-            is_index_written_safely::<u64, u64>(bytes, width),
-            is_index_written_safely::<str, u32>(bytes, width),
-            is_indexed_safely::<u32, str>(bytes, width),
-            is_indexed_safely::<str, str>(bytes, width),
+            is_written::<u32, u32, HashKind>(bytes, width),
+            is_written::<i32, u64, HashKind>(bytes, width),
+            is_written::<u64, f64, HashKind>(bytes, width),
+            is_written::<str, u32, HashKind>(bytes, width),
+            is_written::<str, i64, HashKind>(bytes, width),
+            is_written::<char, u8, HashKind>(bytes, width),
+            is_read::<u64, str, HashKind>(bytes, width),
+            is_read::<str, str, HashKind>(bytes, width),
+            is_read::<i16, bool, HashKind>(bytes, width),
+            is_read::<str, [u8], HashKind>(bytes, width),
+            is_listed::<u64, HashKind>(bytes, width),
+            is_listed::<str, HashKind>(bytes, width),
+            is_written::<u32, f32, IndexKind>(bytes, width),
+            is_written::<u64, u64, IndexKind>(bytes, width),
+            is_written::<str, i16, IndexKind>(bytes, width),
+            is_indexed::<u32, str>(bytes, width),
+            is_indexed::<str, str>(bytes, width),
+            is_indexed::<u8, [u8]>(bytes, width),
+            is_indexed::<char, char>(bytes, width),
+            is_listed_by_index::<char>(bytes, width),
+            is_listed_by_index::<str>(bytes, width),
         ]
         .map(usize::from)
         .iter()
@@ -107,7 +111,7 @@ fn number_of_types(bytes: &[u8]) -> usize {
     WIDTHS.map(count).iter().sum()
 }
 
-/// Archives of all types and both widths, each with its width.
+/// Archives of all kinds and both widths, each with its width.
 fn archives() -> Vec<(Width, Vec<u8>)> {
     let texts = [
         "",
@@ -117,34 +121,42 @@ fn archives() -> Vec<(Width, Vec<u8>)> {
         "日本語日本語",
         "a long text",
     ];
+    let numbers: Builder<u32, u32> = (0..17).map(|key| (key * key, key)).collect();
+    let few: Builder<u32, u64> = (0..3).map(|key| (key << 30, 1 << 50)).collect();
+    let names: Builder<str, u32> = texts.into_iter().zip(1..).collect();
+    let long_names: Builder<str, u64> = texts.into_iter().zip(1 << 40..).collect();
+    let empty = Builder::<str, u64>::new();
+    let translations: Builder<str, str> = texts.into_iter().zip(texts).collect();
+    let great: Builder<u64, u64> = (0..3).map(|key| (key << 40, key)).collect();
+    let bytes: Builder<u8, [u8]> = (0..).zip(<[u8]>::samples()).take(7).collect();
+    let letters: Builder<char, char> = char::samples().into_iter().map(|c| (c, c)).collect();
+    let bits: Builder<i16, bool> = (-2..2).map(|n| (n, n < 0)).collect();
+    let (set, words) = (
+        SetBuilder::<u64>::from([1, 1 << 40]),
+        SetBuilder::<str>::from(texts),
+    );
+    let characters = SetBuilder::from(['a', '\u{10ffff}']);
     let mut archives = Vec::new();
     for width in WIDTHS {
-        let numbers: Builder<u32, u32> = (0..17).map(|key| (key * key, key)).collect();
-        archives.push((width, numbers.build_archive(width).unwrap().into()));
-        let numbers: Builder<u32, u64> = (0..3).map(|key| (key << 30, 1 << 50)).collect();
-        archives.push((width, numbers.build_archive(width).unwrap().into()));
-        let names: Builder<str, u32> = texts.into_iter().zip(1..).collect();
-        archives.push((width, names.build_archive(width).unwrap().into()));
-        let names: Builder<str, u64> = texts.into_iter().zip(1 << 40..).collect();
-        archives.push((width, names.build_archive(width).unwrap().into()));
-        archives.push((
-            width,
-            Builder::<str, u64>::new()
-                .build_archive(width)
-                .unwrap()
-                .into(),
-        ));
-        let translations: Builder<str, str> = texts.into_iter().zip(texts).collect();
-        archives.push((width, translations.build_archive(width).unwrap().into()));
-        archives.push((
-            width,
+        let built: [Vec<u8>; 16] = [
+            numbers.build_archive(width).unwrap().into(),
+            few.build_archive(width).unwrap().into(),
+            names.build_archive(width).unwrap().into(),
+            long_names.build_archive(width).unwrap().into(),
+            empty.build_archive(width).unwrap().into(),
+            translations.build_archive(width).unwrap().into(),
             translations.build_index_archive(width).unwrap().into(),
-        ));
-        let great: Builder<u64, u64> = (0..3).map(|key| (key << 40, key)).collect();
-        archives.push((width, great.build_archive(width).unwrap().into()));
-        archives.push((width, great.build_index_archive(width).unwrap().into()));
-        let set = SetBuilder::<u64>::from([1, 1 << 40]);
-        archives.push((width, set.build_archive(width).unwrap().into()));
+            great.build_archive(width).unwrap().into(),
+            great.build_index_archive(width).unwrap().into(),
+            bytes.build_index_archive(width).unwrap().into(),
+            letters.build_archive(width).unwrap().into(),
+            letters.build_index_archive(width).unwrap().into(),
+            bits.build_archive(width).unwrap().into(),
+            set.build_archive(width).unwrap().into(),
+            words.build_index_archive(width).unwrap().into(),
+            characters.build_index_archive(width).unwrap().into(),
+        ];
+        archives.extend(built.into_iter().map(|bytes| (width, bytes)));
     }
     archives
 }
@@ -210,9 +222,7 @@ fn keys_in_buckets_fail() {
     assert_eq!(bytes[bucket], 0x91);
     for (begin, distance) in (-(bucket as i32)..40).enumerate() {
         bytes[bucket + 4..bucket + 8].copy_from_slice(&distance.to_le_bytes());
-        let error = Map::<str, u64>::open_archive(&bytes, Width::Narrow)
-            .err()
-            .map(|error| error.kind());
+        let error = kind_of(Map::<str, u64>::open_archive(&bytes, Width::Narrow));
         let wanted = (begin + 17 > 24).then_some(ErrorKind::OutOfRange);
         assert_eq!(error, wanted, "at {begin}");
     }
