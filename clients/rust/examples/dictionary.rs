@@ -15,7 +15,7 @@ use std::fs::File;
 use std::sync::OnceLock;
 use std::thread;
 
-use hodkhaki::{Builder, Checksum, Map, MapBuf, Width};
+use hodkhaki::{Builder, Checksum, Map, MapBuf};
 use mapping::{Mapping, Temporary};
 
 static DICTIONARY: OnceLock<MapBuf<str, u32, Mapping>> = OnceLock::new();
@@ -63,12 +63,12 @@ const NUMERALS: [(&str, u32); 27] = [
 
 fn main() -> Result<(), Box<dyn Error>> {
     let file = Temporary::new("numerals.map")?;
-    let archive = Builder::<str, u32>::from(NUMERALS).build(Width::Narrow)?;
-    archive.write_container(Checksum::Adler32, File::create(&*file)?)?;
+    let built = Builder::<str, u32>::from(NUMERALS).build()?;
+    built.write_container(Checksum::Adler32, File::create(&*file)?)?;
 
     // SAFETY: this process has created the file, and no other program opens it.
     let mapping = unsafe { Mapping::open(&file)? };
-    let map = MapBuf::open_container(mapping)?;
+    let map = MapBuf::open(mapping)?;
     DICTIONARY.get_or_init(|| map);
 
     let threads = ["seventy-two", "forty-one", "nineteen", "ninety-none"].map(|words| {

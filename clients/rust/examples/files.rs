@@ -13,18 +13,18 @@ mod mapping;
 use std::error::Error;
 use std::fs::File;
 
-use hodkhaki::{Builder, Checksum, Map, MapMut, Width};
+use hodkhaki::{Builder, Checksum, Map, MapMut};
 use mapping::{Mapping, MappingMut, Temporary};
 
 fn main() -> Result<(), Box<dyn Error>> {
     let file = Temporary::new("visits.map")?;
     let visits = Builder::<str, u64>::from([("index.html", 10), ("about.html", 2)]);
-    let archive = visits.build(Width::Narrow)?;
-    archive.write_container(Checksum::Adler32, File::create(&*file)?)?;
+    let built = visits.build()?;
+    built.write_container(Checksum::Adler32, File::create(&*file)?)?;
 
     // SAFETY: this process has created the file, and no other program opens it.
     let mut bytes = unsafe { MappingMut::open(&file)? };
-    let mut map = MapMut::<str, u64>::open_container(&mut bytes)?;
+    let mut map = MapMut::<str, u64>::open(&mut bytes)?;
     for page in ["about.html", "index.html", "about.html", "missing.html"] {
         match map.get(page) {
             Some(count) => assert!(map.set(page, count + 1)),
@@ -37,7 +37,7 @@ fn main() -> Result<(), Box<dyn Error>> {
 
     // SAFETY: as above.
     let bytes = unsafe { Mapping::open(&file)? };
-    let map = Map::<str, u64>::open_container(&bytes)?;
+    let map = Map::<str, u64>::open(&bytes)?;
     for (page, count) in map {
         println!("{page} {count}");
     }

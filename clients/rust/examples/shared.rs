@@ -1,4 +1,4 @@
-//! Several threads look up in one archive.
+//! Several threads look up in one map.
 //!
 //! ```sh
 //! cargo run --example shared
@@ -9,15 +9,15 @@
 
 use std::thread;
 
-use hodkhaki::{Builder, Error, Width};
+use hodkhaki::{Builder, Error};
 
 const THREADS: u32 = 4;
 const KEYS: u32 = 100_000;
 
 fn main() -> Result<(), Error> {
     let squares: Builder<u32, u64> = (0..KEYS).map(|n| (n, u64::from(n).pow(2))).collect();
-    let archive = squares.build(Width::Narrow)?;
-    let map = archive.open();
+    let built = squares.build()?;
+    let map = built.as_map();
 
     // Each thread looks up the keys with one remainder, of twice as many as there are.
     let sums = thread::scope(|scope| {

@@ -20,7 +20,7 @@ use std::io::{self, BufRead, Write};
 use std::path::{Path, PathBuf};
 use std::process::ExitCode;
 
-use hodkhaki::{Builder, Checksum, Map, Width};
+use hodkhaki::{Builder, Checksum, Map};
 use mapping::{Mapping, Temporary};
 
 const LINES: &str = "\
@@ -46,12 +46,12 @@ fn build(path: &Path, lines: impl BufRead) -> Result<usize, Box<dyn Error>> {
             symbols.push(name, address.map_err(|error| format!("{line}: {error}"))?);
         }
     }
-    let archive = symbols.build(Width::Narrow)?;
+    let built = symbols.build()?;
     let mut new = path.as_os_str().to_owned();
     new.push(".new");
     let new = PathBuf::from(new);
     let file = File::create_new(&new).map_err(|error| in_file(&new, error))?;
-    archive
+    built
         .write_container(Checksum::Adler32, file)
         .and_then(|()| fs::rename(&new, path))
         .map_err(|error| {
@@ -65,7 +65,7 @@ fn build(path: &Path, lines: impl BufRead) -> Result<usize, Box<dyn Error>> {
 fn with_table<T>(path: &Path, use_table: impl FnOnce(Table) -> T) -> Result<T, Box<dyn Error>> {
     // SAFETY: `build` replaces a file, and never changes or truncates it. No other program should.
     let bytes = unsafe { Mapping::open(path) }.map_err(|error| in_file(path, error))?;
-    let table = Table::open_container(&bytes).map_err(|error| in_file(path, error))?;
+    let table = Table::open(&bytes).map_err(|error| in_file(path, error))?;
     Ok(use_table(table))
 }
 

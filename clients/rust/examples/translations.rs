@@ -1,14 +1,14 @@
-//! A dictionary of words to their translations, which are borrowed from the archive.
+//! A dictionary of words to their translations, which are borrowed from the bytes of the map.
 //!
 //! ```sh
 //! cargo run --example translations
 //! ```
 //!
-//! Keys and values are texts. A lookup returns a part of the bytes, without copying it.
+//! Keys and values are strings. A lookup returns a part of the bytes, without copying it.
 
 use std::error::Error;
 
-use hodkhaki::{Builder, Checksum, Map, Width};
+use hodkhaki::{Builder, Map};
 
 /// Words of Czech, each with its meaning.
 const WORDS: &str = "\
@@ -28,11 +28,9 @@ fn main() -> Result<(), Box<dyn Error>> {
         .lines()
         .filter_map(|line| line.trim().split_once('\t'));
     let builder: Builder<str, str> = pairs.collect();
-    let container = builder
-        .build(Width::Narrow)?
-        .to_container(Checksum::Adler32);
+    let container: Vec<u8> = builder.build()?.into_bytes();
 
-    let dictionary = Map::<str, str>::open_container(&container)?;
+    let dictionary = Map::<str, str>::open(&container)?;
     for (word, meaning) in dictionary {
         println!("{word}: {meaning}");
     }

@@ -1,16 +1,12 @@
 //! Comparisons with maps and sets of std, and lookups by `[]`.
 
+mod common;
+
 use std::collections::{BTreeMap, BTreeSet, HashMap, HashSet};
 use std::panic::catch_unwind;
 
+use common::{text, WIDTHS};
 use hodkhaki::{Builder, Map, SetBuilder, Width};
-
-const WIDTHS: [Width; 2] = [Width::Narrow, Width::Wide];
-
-/// A text of some length.
-fn text(n: u64) -> String {
-    "ä日x".repeat(n as usize % 7) + &n.to_string()
-}
 
 /// Compares the maps of a std map with it, and with those that differ in one pair.
 fn compare(map: &HashMap<String, u64>, width: Width) {
@@ -66,6 +62,22 @@ fn maps_equal_those_of_std() {
         assert_ne!(archive.as_map(), HashMap::from([(7, "cake"), (8, "tea")]));
         let owned = HashMap::from([(7, String::from("tea")), (8, String::from("cake"))]);
         assert_eq!(archive.as_map(), owned);
+
+        let bytes = HashMap::from([('a', vec![0xff, 0]), ('ä', Vec::new())]);
+        let map = Builder::from(&bytes).build_index_archive(width).unwrap();
+        assert_eq!(map.as_map(), bytes);
+        assert_ne!(
+            map.as_map(),
+            HashMap::from([('a', [0xff, 0]), ('ä', [0, 0])])
+        );
+        // A NaN equals no value.
+        let numbers = BTreeMap::from([(-1_i8, 0.5_f32), (1, f32::NAN)]);
+        let map = Builder::from(&numbers).build_archive(width).unwrap();
+        assert!(map.as_map() != numbers && map.as_map() != BTreeMap::from([(-1, 0.5), (1, 0.5)]));
+        let map = Builder::<i8, f32>::from([(-1, -0.0)])
+            .build_archive(width)
+            .unwrap();
+        assert_eq!(map.as_map(), BTreeMap::from([(-1, 0.0)]));
     }
 }
 
@@ -77,11 +89,14 @@ fn sets_equal_those_of_std() {
             let mut builder = SetBuilder::from(&set);
             let archive = builder.build_archive(width).unwrap();
             let sorted: BTreeSet<&str> = set.iter().map(String::as_str).collect();
+            let index_set = builder.build_index_archive(width).unwrap();
             assert_eq!(archive.as_set(), set);
             assert_eq!(archive.as_set(), sorted);
+            assert_eq!(index_set.as_set(), set);
+            assert_eq!(index_set.as_set(), sorted);
             let mut other = set.clone();
             other.insert("another".into());
-            assert_ne!(archive.as_set(), other);
+            assert!(archive.as_set() != other && index_set.as_set() != other);
             if let Some(item) = set.iter().next() {
                 other.remove(item);
                 assert_ne!(archive.as_set(), other);
@@ -143,5 +158,12 @@ fn texts_are_indexed() {
             ("tea", "tea")
         );
         assert!(catch_unwind(|| archive.as_map()[&8].len()).is_err());
+        let bytes = Builder::<char, [u8]>::from([('a', b"a")])
+            .build_index_archive(width)
+            .unwrap();
+        assert_eq!(
+            (&bytes.as_map()[&'a'], &bytes.as_map()[0]),
+            (&b"a"[..], &b"a"[..])
+        );
     }
 }

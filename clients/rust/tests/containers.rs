@@ -4,7 +4,8 @@ mod common;
 
 use common::{kind_of, CHECKSUMS, WIDTHS};
 use hodkhaki::{
-    update_container, Builder, Checksum, Error, ErrorKind, Key, Map, MapBuf, MapMut, Number, Width,
+    update_container, Builder, Checksum, Error, ErrorKind, IndexMap, IndexMapMut, Key, Map, MapBuf,
+    MapMut, Number, Width,
 };
 use std::io::{self, Write};
 
@@ -383,6 +384,44 @@ fn dropping_a_written_map_writes_the_checksum() {
             assert_eq!(bytes, unwritten);
         }
     }
+}
+
+/// The same of index maps.
+#[test]
+fn dropping_a_written_index_map_writes_the_checksum() -> Result<(), Error> {
+    let builder = Builder::<str, u32>::from([("tea", 3), ("cake", 4)]);
+    let mut container = builder
+        .build_index_with(Width::Wide, Checksum::Adler32)?
+        .into_bytes();
+    assert!(IndexMapMut::<str, u32>::open(&mut container)?.set("tea", 7));
+    assert_eq!(IndexMap::<str, u32>::open(&container)?.at("tea"), 7);
+
+    // A map that isn't dropped leaves the checksum to `update_container`.
+    let mut map = IndexMapMut::<str, u32>::open(&mut container)?;
+    assert!(map.set("tea", 8));
+    std::mem::forget(map);
+    let error = kind_of(IndexMap::<str, u32>::open(&container));
+    assert_eq!(error, Some(ErrorKind::WrongChecksum));
+    update_container(&mut container)?;
+    let mut map = IndexMapMut::<str, u32>::open(&mut container)?;
+    assert!(map.set("cake", 9));
+    map.update_container();
+    std::mem::forget(map);
+    let mut map = IndexMapMut::<str, u32>::open(&mut container)?;
+    assert_eq!((map.at("tea"), map.at("cake")), (8, 9));
+    assert!(map.set("cake", 10));
+    assert_eq!(IndexMap::from(map).at("cake"), 10);
+    assert!(IndexMap::<str, u32>::open(&container).is_ok());
+
+    let kept = container[..32].to_vec();
+    let mut map = IndexMapMut::<str, u32>::open_archive(&mut container[32..], Width::Wide)?;
+    assert!(map.set("tea", 1));
+    drop(map);
+    assert_eq!(container[..32], kept);
+    update_container(&mut container)?;
+    let narrow = IndexMapMut::<str, u32>::open_with_width(&mut container, Width::Narrow);
+    assert_eq!(kind_of(narrow), Some(ErrorKind::WrongWidth));
+    Ok(())
 }
 
 #[test]

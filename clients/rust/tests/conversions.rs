@@ -132,6 +132,26 @@ fn keys_and_values_are_of_each_type_that_has_them() {
         wanted
     );
 
+    let wanted = pushed::<char, [u8]>([(&'a', &[1, 2][..])]);
+    assert_eq!(bytes(Builder::from([('a', vec![1_u8, 2])])), wanted);
+    assert_eq!(bytes(Builder::from([(&'a', [1_u8, 2])])), wanted);
+    assert_eq!(bytes(Builder::from([('a', &[1_u8, 2])])), wanted);
+    assert_eq!(
+        bytes(Builder::from([('a', Arc::<[u8]>::from(&[1, 2][..]))])),
+        wanted
+    );
+    assert_eq!(
+        bytes(Builder::from([('a', Cow::Borrowed(&[1_u8, 2][..]))])),
+        wanted
+    );
+    let wanted = pushed::<i8, bool>([(&-1, true)]);
+    assert_eq!(bytes(Builder::from([(-1_i8, &true)])), wanted);
+    let wanted = pushed::<i64, f64>([(&-1, 0.5)]);
+    assert_eq!(
+        bytes(Builder::from(BTreeMap::from([(-1_i64, 0.5_f64)]))),
+        wanted
+    );
+
     let mut builder = Builder::<u64, u32>::new();
     builder.push(1, 2);
     [3].iter().for_each(|key| builder.push(key, 4));

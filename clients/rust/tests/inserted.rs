@@ -1,17 +1,12 @@
 //! Builders into which pairs and items are inserted, beside maps and sets of std.
 
+mod common;
+
 use std::collections::{HashMap, HashSet};
 use std::time::Instant;
 
+use common::{random, WIDTHS};
 use hodkhaki::{Builder, Key, Number, SetBuilder, Value, Width};
-
-/// The next number of a generator.
-fn random(state: &mut u64) -> u64 {
-    *state ^= *state << 13;
-    *state ^= *state >> 7;
-    *state ^= *state << 17;
-    *state
-}
 
 /// The pairs that a builder has, after pairs are inserted and pushed as a model does it.
 struct Model<K, V> {
@@ -71,7 +66,7 @@ fn compare<K, V, Q>(
                     builder
                 });
         assert_eq!(shown, format!("{wanted:?}"));
-        for width in [Width::Narrow, Width::Wide] {
+        for width in WIDTHS {
             let (built, wanted) = (
                 builder.build_archive(width).unwrap(),
                 wanted.build_archive(width).unwrap(),
@@ -99,6 +94,11 @@ fn inserted_and_pushed_pairs_are_those_of_a_model() {
         compare::<u32, str, u32>(|n| n as u32, text, |text| text, pushes);
         compare::<str, u64, String>(text, |n| n, |n| *n, pushes);
         compare::<str, str, String>(text, text, |text| text, pushes);
+        compare::<i16, i8, i16>(|n| -(n as i16), |n| n as i8, |n| *n, pushes);
+        compare::<char, bool, char>(|n| (b'A' + n as u8).into(), |n| n % 3 == 0, |n| *n, pushes);
+        compare::<i64, f64, i64>(|n| -(n as i64) << 40, |n| n as f64 / 7.0, |n| *n, pushes);
+        let bytes = |n| text(n).into_bytes();
+        compare::<u8, [u8], u8>(|n| n as u8, bytes, |bytes| bytes, pushes);
     }
 }
 

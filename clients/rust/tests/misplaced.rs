@@ -1,14 +1,15 @@
 //! Misplaced keys are counted as lookups miss them, and the limit is on what lookups read.
 
+mod common;
+
 use std::borrow::Borrow;
 use std::collections::HashSet;
 
+use common::WIDTHS;
 use hodkhaki::{
     Builder, IndexMap, IndexMapBuf, IndexMapMut, Key, Map, MapBuf, MapMut, Set, SetBuf, SetBuilder,
     Value, Width,
 };
-
-const WIDTHS: [Width; 2] = [Width::Narrow, Width::Wide];
 
 /// The least limit at which a count is not `None`.
 fn least_limit(count: impl Fn(u64) -> Option<u64>) -> u64 {
@@ -67,6 +68,8 @@ fn test_keys<K: Key + ?Sized>(keys: &[&K]) {
         let archive = items.build_archive(width).unwrap();
         let set = archive.as_set();
         expect(|limit| set.misplaced_up_to(limit), keys.len(), misplaced);
+        let set = items.build_index_archive(width).unwrap();
+        expect(|limit| set.misplaced_up_to(limit), keys.len(), misplaced);
         let archive = words.build_archive(width).unwrap();
         let map = archive.as_map();
         expect(|limit| map.misplaced_up_to(limit), keys.len(), misplaced);
@@ -100,6 +103,10 @@ fn repeated_keys_are_misplaced() {
         test_keys::<u32>(&numbers.iter().collect::<Vec<_>>());
         test_keys::<u64>(&long.iter().collect::<Vec<_>>());
         test_keys::<str>(&texts.iter().map(String::as_str).collect::<Vec<_>>());
+        let signed: Vec<i16> = numbers.iter().map(|n| -(*n as i16)).collect();
+        test_keys::<i16>(&signed.iter().collect::<Vec<_>>());
+        let letters: Vec<char> = numbers.iter().filter_map(|n| char::from_u32(*n)).collect();
+        test_keys::<char>(&letters.iter().collect::<Vec<_>>());
     }
 }
 
@@ -231,12 +238,9 @@ impl<'a> Model<'a> {
     }
 }
 
-/// Numbers that look random.
+/// The next number of a generator.
 fn random(state: &mut u64) -> usize {
-    *state ^= *state << 13;
-    *state ^= *state >> 7;
-    *state ^= *state << 17;
-    (*state >> 11) as usize
+    (common::random(state) >> 11) as usize
 }
 
 /// Changes tags and items of a set, which stays valid.
