@@ -82,8 +82,8 @@ fn build_ours<K: Key + ?Sized>(work: &Workload<'_, K>) -> Vec<u8> {
     for (key, value) in black_box(&work.keys).iter().zip(work.values) {
         builder.push(key, *value);
     }
-    let archive = builder.build(Width::Narrow).expect("the map is archived");
-    archive.as_bytes().to_vec()
+    let map = builder.build_archive(Width::Narrow);
+    map.expect("the map is archived").into_bytes()
 }
 
 fn measure_ours<K: Key + ?Sized>(
@@ -101,7 +101,7 @@ fn measure_ours<K: Key + ?Sized>(
             (taken, work.values.len() as u64)
         }
         Measure::Open => time_each(times, || {
-            let map = Map::<K, u32>::open(black_box(archive), Width::Narrow);
+            let map = Map::<K, u32>::open_archive(black_box(archive), Width::Narrow);
             map.expect("the archive is valid").len() as u64
         }),
         Measure::Hits => time_each(times, || lookup(black_box(&work.hits))),
@@ -147,7 +147,7 @@ where
 {
     let count = work.values.len();
     let archive = build_ours(work);
-    let map = Map::<K, u32>::open(&archive, Width::Narrow).expect("the archive is valid");
+    let map = Map::<K, u32>::open_archive(&archive, Width::Narrow).expect("the archive is valid");
     let sip: HashMap<K::Owned, u32, RandomState> = build_std(work);
     let fx: HashMap<K::Owned, u32, BuildFx> = build_std(work);
 
