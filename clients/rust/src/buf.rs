@@ -352,8 +352,7 @@ pub struct SetBuf<K: ?Sized, B = Vec<u8>, C = HashKind> {
     map: MapBuf<K, Unit, B, C>,
 }
 
-/// An index set that owns its bytes, as a [`MapBuf`] does. [`as_set`](SetBuf::as_set) returns an
-/// [`IndexSet`], which is also looked up by index.
+/// An index set that owns its bytes, as a [`MapBuf`] does. It has the methods of an [`IndexSet`] too.
 pub type IndexSetBuf<K, B = Vec<u8>> = SetBuf<K, B, IndexKind>;
 
 impl<K: Key + ?Sized, B: StableBytes, C: Kind> SetBuf<K, B, C> {
@@ -447,6 +446,40 @@ impl<K: Key + ?Sized, B: StableBytes, C: Kind> SetBuf<K, B, C> {
     /// Returns an iterator over the items, as [`Set::iter`] does.
     pub fn iter(&self) -> Members<'_, K, C> {
         self.map.keys()
+    }
+}
+
+/// The methods of index sets, which are those of [`IndexSet`].
+impl<K: Key + ?Sized, B: StableBytes> SetBuf<K, B, IndexKind> {
+    /// Returns the index of an item, or `None` if the lookup doesn't find the item.
+    pub fn get_index_of(&self, item: &K) -> Option<usize> {
+        self.as_set().get_index_of(item)
+    }
+
+    /// Returns the index of an item and the stored item, or `None` if the lookup doesn't find it.
+    pub fn get_full(&self, item: &K) -> Option<(usize, K::Ref<'_>)> {
+        self.as_set().get_full(item)
+    }
+
+    /// Returns the stored item that equals an item, or `None` if the lookup doesn't find it.
+    pub fn get(&self, item: &K) -> Option<K::Ref<'_>> {
+        self.as_set().get(item)
+    }
+
+    /// Returns the item at an index, in insertion order, or `None` if the index isn't less than the
+    /// length.
+    pub fn get_index(&self, index: usize) -> Option<K::Ref<'_>> {
+        self.as_set().get_index(index)
+    }
+
+    /// Returns the first item, or `None` if the set has no items.
+    pub fn first(&self) -> Option<K::Ref<'_>> {
+        self.as_set().first()
+    }
+
+    /// Returns the last item, or `None` if the set has no items.
+    pub fn last(&self) -> Option<K::Ref<'_>> {
+        self.as_set().last()
     }
 }
 

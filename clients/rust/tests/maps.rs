@@ -4,11 +4,11 @@
 mod common;
 
 use std::borrow::Borrow;
-use std::collections::HashMap;
+use std::collections::{HashMap, HashSet};
 use std::iter::FusedIterator;
 use std::panic::{catch_unwind, AssertUnwindSafe, RefUnwindSafe, UnwindSafe};
 
-use common::{kind_of, text_of_length, CHECKSUMS, WIDTHS};
+use common::{kind_of, CHECKSUMS, WIDTHS};
 use hodkhaki::{
     index_map, AsItem, Builder, Checksum, Error, ErrorKind, HashKind, IndexKind, IndexMap,
     IndexMapBuf, IndexMapMut, Iter, Key, Keys, Kind, Map, MapBuf, MapMut, Number, Value, Values,
@@ -17,16 +17,6 @@ use hodkhaki::{
 
 /// The pairs 1 and 2, 5 and 6, and 1 and 9.
 const PAIRS: [(u32, u32); 3] = [(1, 2), (5, 6), (1, 9)];
-
-/// Strings that are stored inline and out of line, in both widths.
-fn texts() -> Vec<(String, u64)> {
-    let lengths = [100, 17, 16, 9, 8, 1, 0];
-    lengths
-        .map(text_of_length)
-        .into_iter()
-        .zip(1 << 40..)
-        .collect()
-}
 
 #[test]
 fn the_first_of_equal_keys_is_found() {
@@ -67,28 +57,6 @@ fn pairs_of_index_maps_are_in_insertion_order() {
     assert!(map.keys().eq([1, 5, 1]) && map.values().eq([2, 6, 9]));
     assert!(map.iter().rev().eq([(1, 9), (5, 6), (1, 2)]));
     assert_eq!(format!("{map:?}"), "{1: 2, 5: 6, 1: 9}");
-}
-
-#[test]
-fn texts_are_found_in_both_widths() {
-    let pairs = texts();
-    let builder: Builder<str, u64> = pairs.iter().map(|(key, value)| (&**key, *value)).collect();
-    for width in WIDTHS {
-        let map = builder.build_archive(width).unwrap();
-        let index_map = builder.build_index_archive(width).unwrap();
-        assert_eq!(
-            (map.width(), index_map.width(), map.len()),
-            (width, width, pairs.len())
-        );
-        for (index, (key, value)) in pairs.iter().enumerate() {
-            assert_eq!(map.get(key), Some(*value));
-            assert_eq!(index_map.get_full(key), Some((index, &**key, *value)));
-        }
-        assert_eq!((map.get("another"), index_map.get("another")), (None, None));
-        let mut found: Vec<(String, u64)> = map.iter().map(|(k, v)| (k.into(), v)).collect();
-        found.sort_by_key(|pair| pair.1);
-        assert_eq!(found, pairs);
-    }
 }
 
 #[test]
@@ -303,28 +271,59 @@ fn an_absent_key_panics_with_a_text() {
 
 #[test]
 fn errors_display_sentences() {
+    use ErrorKind::*;
     let errors = [
-        ErrorKind::OutOfRange,
-        ErrorKind::Unaligned,
-        ErrorKind::InvalidLength,
-        ErrorKind::WrongNumberOfElements,
-        ErrorKind::UnwrappedControlByte,
-        ErrorKind::PlaceOutOfRange,
-        ErrorKind::InvalidValue,
-        ErrorKind::IsContainer,
-        ErrorKind::NoMemory,
-        ErrorKind::CapacityTooLarge,
-        ErrorKind::PositionTooLarge,
-        ErrorKind::DistanceTooLarge,
-        ErrorKind::TextTooLong,
-        ErrorKind::Status(99),
+        [
+            OutOfRange,
+            Unaligned,
+            InvalidLength,
+            WrongNumberOfElements,
+            UnwrappedControlByte,
+        ],
+        [
+            PlaceOutOfRange,
+            InvalidValue,
+            IsContainer,
+            NoMemory,
+            CapacityTooLarge,
+        ],
+        [
+            PositionTooLarge,
+            DistanceTooLarge,
+            TextTooLong,
+            ContainerTooShort,
+            WrongMagic,
+        ],
+        [
+            UnsupportedVersion,
+            UnknownCollection,
+            UnknownKeyType,
+            UnknownValueType,
+            UnknownWidth,
+        ],
+        [
+            UnknownFlags,
+            UnexpectedChecksum,
+            NonzeroReserved,
+            WrongCollection,
+            WrongKeyType,
+        ],
+        [
+            WrongValueType,
+            WrongWidth,
+            WrongLength,
+            WrongChecksum,
+            UnsupportedKind,
+        ],
     ];
-    for error in errors {
+    let mut texts = HashSet::from([Status(99).to_string()]);
+    for error in errors.as_flattened() {
         let text = error.to_string();
         assert!(
             text.contains(' ') && !text.contains(&format!("{error:?}")),
             "{text}"
         );
+        assert!(texts.insert(text));
     }
     let boxed: Box<dyn std::error::Error + Send + Sync> = Error::from(ErrorKind::Unaligned).into();
     assert_eq!(
