@@ -19,8 +19,9 @@ use crate::{IndexMap, Map};
 /// [`build`](Builder::build) makes a [`Map`] of them, and [`build_index`](Builder::build_index) an
 /// [`IndexMap`]. Each is in a container.
 ///
-/// Pairs are kept in insertion order. [`insert`](Builder::insert) keeps one value of a key, as a std map does. Of pairs with equal keys,
-/// which [`push`](Builder::push) and `extend` keep, lookups return the value of the first one.
+/// Pairs are kept in insertion order. [`insert`](Builder::insert) keeps one value of a key, as a std map
+/// does. Of pairs with equal keys, which [`push`](Builder::push) and `extend` keep, lookups return the
+/// value of the first one.
 ///
 /// `From` converts a `HashMap`, a `BTreeMap`, a `Vec` or a slice of pairs. Keys and values may be
 /// owned or borrowed, as [`AsItem`] says.
@@ -71,7 +72,7 @@ impl<K: Key + ?Sized, V: Value + ?Sized> Builder<K, V> {
 
     /// Returns a builder without pairs that has room for `capacity` of them.
     ///
-    /// The bytes of texts and the table of [`insert`](Builder::insert) are not counted.
+    /// The bytes of strings and the table of [`insert`](Builder::insert) are not counted.
     pub fn with_capacity(capacity: usize) -> Self {
         let mut builder = Builder::new();
         builder.reserve(capacity);
@@ -86,7 +87,7 @@ impl<K: Key + ?Sized, V: Value + ?Sized> Builder<K, V> {
 
     /// Returns the number of pairs that the builder has room for without allocating.
     ///
-    /// The bytes of texts and the table of [`insert`](Builder::insert) are not counted.
+    /// The bytes of strings and the table of [`insert`](Builder::insert) are not counted.
     pub fn capacity(&self) -> usize {
         self.keys.capacity().min(self.values.capacity())
     }
@@ -153,7 +154,7 @@ impl<K: Key + ?Sized, V: Value + ?Sized> Builder<K, V> {
 
     /// Builds the map of the pairs, in a narrow container without a checksum.
     ///
-    /// This needs about 110 to 185 bytes more for each pair until it returns. The builder keeps its
+    /// This needs about 135 to 225 bytes more for each pair until it returns. The builder keeps its
     /// pairs, so that another map can be built.
     ///
     /// # Errors

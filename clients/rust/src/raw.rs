@@ -214,11 +214,11 @@ impl RawValue {
     /// Returns a string.
     ///
     /// # Safety
-    /// The value is a text of an open collection, whose bytes are borrowed for `'a`.
+    /// The value is a string of an open collection, whose bytes are borrowed for `'a`.
     pub unsafe fn as_str<'a>(self) -> &'a str {
         // SAFETY: the caller ensures that the value is one of an open collection.
         let bytes = unsafe { self.as_bytes() };
-        // SAFETY: opening the collection has validated each text as UTF-8, and no byte of a text was
+        // SAFETY: opening the collection has validated each string as UTF-8, and no byte of a string was
         // written since.
         unsafe { std::str::from_utf8_unchecked(bytes) }
     }
