@@ -257,27 +257,16 @@ impl<K: Key + ?Sized, V: Value + ?Sized> Builder<K, V> {
     }
 
     /// Builds the map of the kind, in a container with this checksum or without a container.
-    pub(crate) fn built<C: Kind>(
+    fn built<C: Kind>(
         &self,
         width: Width,
         checksum: Option<Checksum>,
     ) -> Result<MapBuf<K, V, Vec<u8>, C>, Error> {
-        let mut pairs = Vec::new();
-        pairs
-            .try_reserve_exact(self.len())
-            .map_err(|_| ErrorKind::NoMemory)?;
-        pairs.extend(self.pairs().map(|(key, value)| RawPair {
-            key: K::raw(key),
-            value: V::raw(value),
-        }));
         let types = types::<K, V, C>(width.code());
-        let archive = Built::of(&pairs, types)?;
+        let archive = self.archive(types)?;
         let header = checksum.map(|checksum| header_of(archive.as_bytes(), types, checksum));
         let header = header.as_ref().map_or(&[][..], |header| header);
-        let mut bytes = Vec::new();
-        bytes
-            .try_reserve_exact(header.len() + archive.length)
-            .map_err(|_| ErrorKind::NoMemory)?;
+        let mut bytes = with_room(header.len() + archive.length)?;
         bytes.extend_from_slice(header);
         bytes.extend_from_slice(archive.as_bytes());
         drop(archive);
@@ -288,6 +277,16 @@ impl<K: Key + ?Sized, V: Value + ?Sized> Builder<K, V> {
         Ok(opened.expect("a built archive is valid"))
     }
 
+    /// Builds the archive of the pairs.
+    fn archive(&self, types: RawTypes) -> Result<Built, Error> {
+        let mut pairs = with_room(self.len())?;
+        pairs.extend(self.pairs().map(|(key, value)| RawPair {
+            key: K::raw(key),
+            value: V::raw(value),
+        }));
+        Built::of(&pairs, types)
+    }
+
     pub(crate) fn keys(&self) -> impl Iterator<Item = &K> {
         (0..self.len()).map(|index| self.keys.get(index))
     }
@@ -295,6 +294,15 @@ impl<K: Key + ?Sized, V: Value + ?Sized> Builder<K, V> {
     fn pairs(&self) -> impl Iterator<Item = (&K, &V)> {
         (0..self.len()).map(|index| (self.keys.get(index), self.values.get(index)))
     }
+}
+
+/// A vector with room for exactly so many elements.
+fn with_room<T>(count: usize) -> Result<Vec<T>, Error> {
+    let mut vector = Vec::new();
+    vector
+        .try_reserve_exact(count)
+        .map_err(|_| ErrorKind::NoMemory)?;
+    Ok(vector)
 }
 
 /// The bytes of an archive that the C library has built, in its memory.
