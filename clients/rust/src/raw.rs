@@ -82,7 +82,8 @@ impl RawMap {
     /// has no meaning in a hash map or a set.
     ///
     /// # Safety
-    /// The collection is open, and its bytes are borrowed. The bytes of the key are borrowed.
+    /// The collection is open, with these types, and its bytes are borrowed. The bytes of the key are
+    /// borrowed.
     #[inline]
     pub unsafe fn get(&self, types: RawTypes, key: &RawValue, found: &mut RawFound) -> u32 {
         // SAFETY: the caller ensures that the collection is open, with these types. So the bytes are a

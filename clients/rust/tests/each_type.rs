@@ -8,8 +8,8 @@ use std::collections::HashMap;
 
 use common::{kind_of, sorted, Sample, CHECKSUMS, WIDTHS};
 use hodkhaki::{
-    container_kind, Builder, Collection, ErrorKind, IndexMap, IndexMapBuf, IndexSet, IndexSetBuf,
-    Key, Map, MapBuf, Number, Set, SetBuf, SetBuilder, Value, Width,
+    container_kind, Builder, Collection, ErrorKind, HashKind, IndexKind, IndexMap, IndexMapBuf,
+    IndexSet, IndexSetBuf, Key, Kind, Map, MapBuf, Number, Set, SetBuf, SetBuilder, Value, Width,
 };
 
 /// The pairs of a map by their bits, in insertion order, and the keys that it doesn't have.
@@ -332,68 +332,64 @@ tests! {
     keys_are_str: str,
 }
 
-/// A container of one type never opens as another, though both have the same size.
+/// The number of types of values as which a container isn't opened. It has keys of type `u32`.
+fn wrong_types<V: Value + Sample + ?Sized, C: Kind>(container: &[u8]) -> usize {
+    let keys = [
+        kind_of(Map::<u32, V, C>::open(container)),
+        kind_of(Map::<i32, V, C>::open(container)),
+        kind_of(Map::<char, V, C>::open(container)),
+    ];
+    let wrong = Some(ErrorKind::WrongKeyType);
+    assert_eq!(keys, [None, wrong, wrong]);
+    let values = [
+        kind_of(Map::<u32, u8, C>::open(container)),
+        kind_of(Map::<u32, u16, C>::open(container)),
+        kind_of(Map::<u32, u32, C>::open(container)),
+        kind_of(Map::<u32, u64, C>::open(container)),
+        kind_of(Map::<u32, i8, C>::open(container)),
+        kind_of(Map::<u32, i16, C>::open(container)),
+        kind_of(Map::<u32, i32, C>::open(container)),
+        kind_of(Map::<u32, i64, C>::open(container)),
+        kind_of(Map::<u32, bool, C>::open(container)),
+        kind_of(Map::<u32, char, C>::open(container)),
+        kind_of(Map::<u32, f32, C>::open(container)),
+        kind_of(Map::<u32, f64, C>::open(container)),
+        kind_of(Map::<u32, str, C>::open(container)),
+        kind_of(Map::<u32, [u8], C>::open(container)),
+    ];
+    let errors: Vec<_> = values.into_iter().flatten().collect();
+    assert!(errors
+        .iter()
+        .all(|error| *error == ErrorKind::WrongValueType));
+    errors.len()
+}
+
+/// A container of one type never opens as another, though both may have the same size.
 #[test]
 fn containers_of_each_type_open_as_it_alone() {
-    fn errors<V: Value + Sample + ?Sized>() -> usize {
-        let builder: Builder<u32, V> = V::samples()
-            .iter()
-            .zip(0..)
-            .map(|(v, k)| (k, v.borrow()))
-            .collect::<Vec<(u32, &V)>>()
-            .into_iter()
-            .collect();
-        let container = builder.build().unwrap().into_bytes();
-        let keys = [
-            kind_of(Map::<u32, V>::open(&container)),
-            kind_of(Map::<i32, V>::open(&container)),
-            kind_of(Map::<char, V>::open(&container)),
-        ];
-        assert_eq!(
-            keys,
-            [
-                None,
-                Some(ErrorKind::WrongKeyType),
-                Some(ErrorKind::WrongKeyType)
-            ]
-        );
-        let values = [
-            kind_of(Map::<u32, u8>::open(&container)),
-            kind_of(Map::<u32, u16>::open(&container)),
-            kind_of(Map::<u32, u32>::open(&container)),
-            kind_of(Map::<u32, u64>::open(&container)),
-            kind_of(Map::<u32, i8>::open(&container)),
-            kind_of(Map::<u32, i16>::open(&container)),
-            kind_of(Map::<u32, i32>::open(&container)),
-            kind_of(Map::<u32, i64>::open(&container)),
-            kind_of(Map::<u32, bool>::open(&container)),
-            kind_of(Map::<u32, char>::open(&container)),
-            kind_of(Map::<u32, f32>::open(&container)),
-            kind_of(Map::<u32, f64>::open(&container)),
-            kind_of(Map::<u32, str>::open(&container)),
-            kind_of(Map::<u32, [u8]>::open(&container)),
-        ];
-        assert!(values
-            .iter()
-            .flatten()
-            .all(|error| *error == ErrorKind::WrongValueType));
-        values.iter().flatten().count()
+    fn wrong<V: Value + Sample + ?Sized>() -> usize {
+        let values = V::samples();
+        let builder: Builder<u32, V> = (0..).zip(values.iter().map(Borrow::borrow)).collect();
+        let (map, index_map) = (builder.build().unwrap(), builder.build_index().unwrap());
+        let wrong = wrong_types::<V, HashKind>(map.as_bytes());
+        assert_eq!(wrong_types::<V, IndexKind>(index_map.as_bytes()), wrong);
+        wrong
     }
     let counts = [
-        errors::<u8>(),
-        errors::<u16>(),
-        errors::<u32>(),
-        errors::<u64>(),
-        errors::<i8>(),
-        errors::<i16>(),
-        errors::<i32>(),
-        errors::<i64>(),
-        errors::<bool>(),
-        errors::<char>(),
-        errors::<f32>(),
-        errors::<f64>(),
-        errors::<str>(),
-        errors::<[u8]>(),
+        wrong::<u8>(),
+        wrong::<u16>(),
+        wrong::<u32>(),
+        wrong::<u64>(),
+        wrong::<i8>(),
+        wrong::<i16>(),
+        wrong::<i32>(),
+        wrong::<i64>(),
+        wrong::<bool>(),
+        wrong::<char>(),
+        wrong::<f32>(),
+        wrong::<f64>(),
+        wrong::<str>(),
+        wrong::<[u8]>(),
     ];
     assert_eq!(counts, [13; 14]);
 }
