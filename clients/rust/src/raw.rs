@@ -59,11 +59,13 @@ impl RawMap {
     };
 
     /// Returns the number of pairs of an open collection.
+    #[inline]
     pub fn len(&self) -> usize {
         self.header.length
     }
 
     /// Returns the codes of an open collection.
+    #[inline]
     pub fn types(&self) -> RawTypes {
         self.types
     }
@@ -186,6 +188,7 @@ impl RawValue {
         length: 0,
     };
 
+    #[inline]
     pub fn number(number: u64) -> RawValue {
         RawValue {
             number,
@@ -193,6 +196,7 @@ impl RawValue {
         }
     }
 
+    #[inline]
     pub fn bytes(bytes: &[u8]) -> RawValue {
         RawValue {
             number: 0,
@@ -205,6 +209,7 @@ impl RawValue {
     ///
     /// # Safety
     /// The value is one of an open collection, whose bytes are borrowed for `'a`.
+    #[inline]
     pub unsafe fn as_bytes<'a>(self) -> &'a [u8] {
         // SAFETY: the caller ensures that the bytes are a part of the archive, which is borrowed for
         // 'a. They are never null. No value that is written in place shares a byte with them, since
@@ -216,6 +221,7 @@ impl RawValue {
     ///
     /// # Safety
     /// The value is a string of an open collection, whose bytes are borrowed for `'a`.
+    #[inline]
     pub unsafe fn as_str<'a>(self) -> &'a str {
         // SAFETY: the caller ensures that the value is one of an open collection.
         let bytes = unsafe { self.as_bytes() };

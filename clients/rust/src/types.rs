@@ -160,6 +160,8 @@ macro_rules! copied {
 
             type Store = Vec<$type>;
 
+            #[inline]
+
             fn raw(item: &$type) -> RawValue {
                 let number: fn($type) -> u64 = $to;
                 RawValue::number(number(*item))
@@ -167,6 +169,7 @@ macro_rules! copied {
         }
 
         impl SealedValue for $type {
+            #[inline]
             unsafe fn of<'a>(raw: RawValue) -> <$type as Value>::Ref<'a> {
                 let value: fn(u64) -> $type = $of;
                 value(raw.number)
@@ -202,6 +205,7 @@ copied! {
 macro_rules! keys {
     ($($type:ty)*) => {
         $(impl SealedKey for $type {
+            #[inline]
             unsafe fn of<'a>(raw: RawValue) -> <$type as Key>::Ref<'a> {
                 // SAFETY: the caller ensures that the number is one of this type.
                 unsafe { <$type as SealedValue>::of(raw) }
@@ -230,12 +234,15 @@ impl Stored for str {
 
     type Store = Parts<String>;
 
+    #[inline]
+
     fn raw(item: &str) -> RawValue {
         RawValue::bytes(item.as_bytes())
     }
 }
 
 impl SealedKey for str {
+    #[inline]
     unsafe fn of<'a>(raw: RawValue) -> &'a str {
         // SAFETY: the caller ensures that the string is a key, whose bytes are borrowed for 'a.
         unsafe { raw.as_str() }
@@ -243,6 +250,7 @@ impl SealedKey for str {
 }
 
 impl SealedValue for str {
+    #[inline]
     unsafe fn of<'a>(raw: RawValue) -> &'a str {
         // SAFETY: the caller ensures that the string is a value, whose bytes are borrowed for 'a.
         unsafe { raw.as_str() }
@@ -262,12 +270,15 @@ impl Stored for [u8] {
 
     type Store = Parts<Vec<u8>>;
 
+    #[inline]
+
     fn raw(item: &[u8]) -> RawValue {
         RawValue::bytes(item)
     }
 }
 
 impl SealedValue for [u8] {
+    #[inline]
     unsafe fn of<'a>(raw: RawValue) -> &'a [u8] {
         // SAFETY: the caller ensures that the byte string is a value, whose bytes are borrowed for 'a.
         unsafe { raw.as_bytes() }
