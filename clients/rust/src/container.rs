@@ -1,7 +1,9 @@
 use crate::error::{check, check_open};
+use crate::kind::sealed::SealedKind;
 use crate::open::types;
 use crate::raw::{self, RawTypes, HEADER_LEN};
-use crate::{Error, ErrorKind, HashKind, Width};
+use crate::types::sealed::Stored;
+use crate::{Error, ErrorKind, HashKind, IndexKind, Width};
 #[cfg(doc)]
 use crate::{IndexMap, IndexMapMut, IndexSet, Map, MapMut, Set};
 
@@ -48,13 +50,13 @@ pub enum Collection {
 
 /// Declares `ItemType`, and which type has a code.
 macro_rules! item_types {
-    ($($name:ident = $code:literal: $type:literal,)*) => {
+    ($($name:ident: $type:ty,)*) => {
         /// The type of the keys or of the values in a container, or of the items of a set.
         #[derive(Clone, Copy, Debug, PartialEq, Eq, Hash)]
         #[non_exhaustive]
         pub enum ItemType {
             $(
-                #[doc = concat!("`", $type, "`")]
+                #[doc = concat!("`", stringify!($type), "`")]
                 $name,
             )*
         }
@@ -63,7 +65,7 @@ macro_rules! item_types {
             /// The type with a code, or `None` if no type has it.
             fn of(code: u8) -> Option<Self> {
                 match code {
-                    $($code => Some(ItemType::$name),)*
+                    $(<$type as Stored>::CODE => Some(ItemType::$name),)*
                     _ => None,
                 }
             }
@@ -72,20 +74,20 @@ macro_rules! item_types {
 }
 
 item_types! {
-    Bool = 0x02: "bool",
-    Char = 0x03: "char",
-    Str = 0x04: "str",
-    Bytes = 0x05: "[u8]",
-    U8 = 0x11: "u8",
-    U16 = 0x12: "u16",
-    U32 = 0x14: "u32",
-    U64 = 0x18: "u64",
-    I8 = 0x21: "i8",
-    I16 = 0x22: "i16",
-    I32 = 0x24: "i32",
-    I64 = 0x28: "i64",
-    F32 = 0x34: "f32",
-    F64 = 0x38: "f64",
+    Bool: bool,
+    Char: char,
+    Str: str,
+    Bytes: [u8],
+    U8: u8,
+    U16: u16,
+    U32: u32,
+    U64: u64,
+    I8: i8,
+    I16: i16,
+    I32: i32,
+    I64: i64,
+    F32: f32,
+    F64: f64,
 }
 
 /// What the header of a container records, as [`container_kind`] returns it.
@@ -106,10 +108,10 @@ impl ContainerKind {
     /// The contents with codes, or `None` if this crate doesn't have them.
     fn of(types: RawTypes) -> Option<Self> {
         let (collection, is_set) = match types.kind {
-            1 => (Collection::Map, false),
-            2 => (Collection::Set, true),
-            3 => (Collection::IndexMap, false),
-            4 => (Collection::IndexSet, true),
+            HashKind::MAP => (Collection::Map, false),
+            HashKind::SET => (Collection::Set, true),
+            IndexKind::MAP => (Collection::IndexMap, false),
+            IndexKind::SET => (Collection::IndexSet, true),
             _ => return None,
         };
         let value = ItemType::of(types.value);
