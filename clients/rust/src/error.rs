@@ -135,138 +135,113 @@ impl fmt::Display for Error {
 
 impl std::error::Error for Error {}
 
-/// The kind of an [`Error`].
-///
-/// The calls that open an archive, as [`Map::open_archive`](crate::Map::open_archive), fail with the
-/// first group, [`Builder::build`](crate::Builder::build) with the second. The calls that open a
-/// container fail with the third group, or with the first one if its archive is not valid.
-#[derive(Clone, Copy, Debug, PartialEq, Eq, Hash)]
-#[non_exhaustive]
-pub enum ErrorKind {
-    /// The map or a part of it is outside the bytes that it may use, or the archive exceeds the limit
-    /// of its width.
-    OutOfRange,
-    /// The map or a part of it is not at a multiple of its alignment.
-    Unaligned,
-    /// The number of pairs is not less than the number of buckets, and they are not both 0.
-    InvalidLength,
-    /// The number of full buckets differs from the number of pairs.
-    WrongNumberOfElements,
-    /// A mirrored control byte differs from the one that it mirrors, or one after them is not empty.
-    UnwrappedControlByte,
-    /// An index in the table of an index map is not less than the number of pairs.
-    PlaceOutOfRange,
-    /// A string is not UTF-8, or its length is malformed, or a `bool` or a `char` is not valid.
-    InvalidValue,
-    /// The bytes are a container, but the call opens an archive without one.
-    IsContainer,
+/// Declares `ErrorKind`. The text of an error is the documentation of its kind.
+macro_rules! error_kinds {
+    ($(#[$of_enum:meta])* pub enum ErrorKind { $($(#[doc = $text:literal])+ $name:ident,)* }) => {
+        $(#[$of_enum])*
+        pub enum ErrorKind {
+            $($(#[doc = $text])+ $name,)*
 
-    /// An allocation failed.
-    NoMemory,
-    /// The map needs more buckets than the width can count.
-    CapacityTooLarge,
-    /// The archive would be longer than the width allows.
-    PositionTooLarge,
-    /// A distance between two parts of the archive does not fit the width.
-    DistanceTooLarge,
-    /// A string is too long for the width.
-    TextTooLong,
+            /// A status of `hodkhaki.h` that the calls of this crate are not expected to return.
+            Status(u32),
+        }
 
-    /// A container has fewer bytes than its header of 32 bytes.
-    ContainerTooShort,
-    /// The first eight bytes are not those of a container.
-    WrongMagic,
-    /// The version of a container is not 1.
-    UnsupportedVersion,
-    /// No kind of collection has the code in the header of a container.
-    UnknownCollection,
-    /// No type of keys has the code in the header of a container.
-    UnknownKeyType,
-    /// No type of values has the code in the header of a container.
-    UnknownValueType,
-    /// No width has the code in the header of a container.
-    UnknownWidth,
-    /// A flag without a meaning is set in the header of a container.
-    UnknownFlags,
-    /// The header of a container has a checksum, but no flag for one.
-    UnexpectedChecksum,
-    /// The last four bytes of the header of a container are not 0.
-    NonzeroReserved,
-    /// A container has another kind of collection.
-    WrongCollection,
-    /// The keys in a container are of another type.
-    WrongKeyType,
-    /// The values in a container are of another type.
-    WrongValueType,
-    /// The archive in a container has another width.
-    WrongWidth,
-    /// The number of bytes after the header of a container is not the length in the header.
-    WrongLength,
-    /// The checksum in the header of a container is not that of the archive.
-    WrongChecksum,
-    /// No map or set of this crate has the collection and the types in the header of a container.
-    UnsupportedKind,
+        impl ErrorKind {
+            /// The documentation of the kind.
+            fn text(self) -> &'static str {
+                match self {
+                    $(ErrorKind::$name => concat!($($text),+),)*
+                    ErrorKind::Status(_) => "The C library returned an unexpected status.",
+                }
+            }
+        }
+    };
+}
 
-    /// A status of `hodkhaki.h` that the calls of this crate are not expected to return.
-    Status(u32),
+error_kinds! {
+    /// The kind of an [`Error`].
+    ///
+    /// The calls that open an archive, as [`Map::open_archive`](crate::Map::open_archive), fail with the
+    /// first group, [`Builder::build`](crate::Builder::build) with the second. The calls that open a
+    /// container fail with the third group, or with the first one if its archive is not valid.
+    #[derive(Clone, Copy, Debug, PartialEq, Eq, Hash)]
+    #[non_exhaustive]
+    pub enum ErrorKind {
+        /// The map or a part of it is outside the bytes that it may use, or the archive exceeds the limit
+        /// of its width.
+        OutOfRange,
+        /// The map or a part of it is not at a multiple of its alignment.
+        Unaligned,
+        /// The number of pairs is not less than the number of buckets, and they are not both 0.
+        InvalidLength,
+        /// The number of full buckets differs from the number of pairs.
+        WrongNumberOfElements,
+        /// A mirrored control byte differs from the one that it mirrors, or one after them is not empty.
+        UnwrappedControlByte,
+        /// An index in the table of an index map is not less than the number of pairs.
+        PlaceOutOfRange,
+        /// A string is not UTF-8, or its length is malformed, or a `bool` or a `char` is not valid.
+        InvalidValue,
+        /// The bytes are a container, but the call opens an archive without one.
+        IsContainer,
+
+        /// An allocation failed.
+        NoMemory,
+        /// The map needs more buckets than the width can count.
+        CapacityTooLarge,
+        /// The archive would be longer than the width allows.
+        PositionTooLarge,
+        /// A distance between two parts of the archive does not fit the width.
+        DistanceTooLarge,
+        /// A string is too long for the width.
+        TextTooLong,
+
+        /// A container has fewer bytes than its header of 32 bytes.
+        ContainerTooShort,
+        /// The first eight bytes are not those of a container.
+        WrongMagic,
+        /// The version of a container is not 1.
+        UnsupportedVersion,
+        /// No kind of collection has the code in the header of a container.
+        UnknownCollection,
+        /// No type of keys has the code in the header of a container.
+        UnknownKeyType,
+        /// No type of values has the code in the header of a container.
+        UnknownValueType,
+        /// No width has the code in the header of a container.
+        UnknownWidth,
+        /// A flag without a meaning is set in the header of a container.
+        UnknownFlags,
+        /// The header of a container has a checksum, but no flag for one.
+        UnexpectedChecksum,
+        /// The last four bytes of the header of a container are not 0.
+        NonzeroReserved,
+        /// A container has another kind of collection.
+        WrongCollection,
+        /// The keys in a container are of another type.
+        WrongKeyType,
+        /// The values in a container are of another type.
+        WrongValueType,
+        /// The archive in a container has another width.
+        WrongWidth,
+        /// The number of bytes after the header of a container is not the length in the header.
+        WrongLength,
+        /// The checksum in the header of a container is not that of the archive.
+        WrongChecksum,
+        /// No map or set of this crate has the collection and the types in the header of a container.
+        UnsupportedKind,
+    }
 }
 
 impl fmt::Display for ErrorKind {
     fn fmt(&self, f: &mut fmt::Formatter<'_>) -> fmt::Result {
-        f.write_str(match self {
-            ErrorKind::OutOfRange => {
-                "the map or a part of it is outside the bytes that it may use, \
-                 or the archive exceeds the limit of its width"
-            }
-            ErrorKind::Unaligned => "the map or a part of it is not at a multiple of its alignment",
-            ErrorKind::InvalidLength => {
-                "the number of pairs is not less than the number of buckets"
-            }
-            ErrorKind::WrongNumberOfElements => {
-                "the number of full buckets differs from the number of pairs"
-            }
-            ErrorKind::UnwrappedControlByte => {
-                "a mirrored control byte differs from the one that it mirrors, \
-                 or one after them is not empty"
-            }
-            ErrorKind::PlaceOutOfRange => {
-                "an index in the table is not less than the number of pairs"
-            }
-            ErrorKind::InvalidValue => {
-                "a string is not UTF-8, or its length is malformed, \
-                 or a bool or a char is not valid"
-            }
-            ErrorKind::IsContainer => "the bytes are a container, not an archive without one",
-            ErrorKind::NoMemory => "an allocation failed",
-            ErrorKind::CapacityTooLarge => "the map needs more buckets than the width can count",
-            ErrorKind::PositionTooLarge => "the archive would be longer than the width allows",
-            ErrorKind::DistanceTooLarge => {
-                "a distance between two parts of the archive does not fit the width"
-            }
-            ErrorKind::TextTooLong => "a string is too long for the width",
-            ErrorKind::ContainerTooShort => "the container is shorter than its header of 32 bytes",
-            ErrorKind::WrongMagic => "the first eight bytes are not those of a container",
-            ErrorKind::UnsupportedVersion => "the version of the container is not 1",
-            ErrorKind::UnknownCollection => "the container has an unknown kind of collection",
-            ErrorKind::UnknownKeyType => "the container has an unknown type of keys",
-            ErrorKind::UnknownValueType => "the container has an unknown type of values",
-            ErrorKind::UnknownWidth => "the container has an unknown width",
-            ErrorKind::UnknownFlags => "the container has unknown flags",
-            ErrorKind::UnexpectedChecksum => "the container has a checksum, but no flag for one",
-            ErrorKind::NonzeroReserved => "the reserved bytes of the container are not 0",
-            ErrorKind::WrongCollection => "the container has another kind of collection",
-            ErrorKind::WrongKeyType => "the keys in the container are of another type",
-            ErrorKind::WrongValueType => "the values in the container are of another type",
-            ErrorKind::WrongWidth => "the archive in the container has another width",
-            ErrorKind::WrongLength => "the length of the archive is not that in the header",
-            ErrorKind::WrongChecksum => "the checksum of the archive is not that in the header",
-            ErrorKind::UnsupportedKind => {
-                "no map or set has the collection and the types of the container"
-            }
-            ErrorKind::Status(status) => {
-                return write!(f, "the C library returned the unexpected status {status}");
-            }
-        })
+        let text = self.text().trim().trim_end_matches('.');
+        let (first, others) = text.split_at(1);
+        write!(f, "{}{others}", first.to_lowercase())?;
+        match self {
+            ErrorKind::Status(status) => write!(f, " ({status})"),
+            _ => Ok(()),
+        }
     }
 }
 

@@ -48,7 +48,7 @@ fn only_the_header_is_checked() {
     assert!(short.to_string().ends_with(" (31 bytes)"));
     assert_eq!(
         kind_of(length, 11, 0x02).unwrap_err().to_string(),
-        "no map or set has the collection and the types of the container"
+        "no map or set of this crate has the collection and the types in the header of a container"
     );
     let empty = container_kind(&[]).unwrap_err();
     assert_eq!(empty.kind(), ErrorKind::ContainerTooShort);

@@ -458,5 +458,5 @@ fn errors_of_containers_have_numbers() {
     let length = MapMut::<u32, u32>::open(&mut longer).unwrap_err();
     has(length, Some((60, 61)), " (expected 60, found 61)");
     let update = update_container(&mut longer).unwrap_err();
-    has(update, None, " is not that in the header");
+    has(update, None, " is not the length in the header");
 }
