@@ -235,7 +235,6 @@ impl Stored for str {
     type Store = Parts<String>;
 
     #[inline]
-
     fn raw(item: &str) -> RawValue {
         RawValue::bytes(item.as_bytes())
     }
@@ -271,7 +270,6 @@ impl Stored for [u8] {
     type Store = Parts<Vec<u8>>;
 
     #[inline]
-
     fn raw(item: &[u8]) -> RawValue {
         RawValue::bytes(item)
     }
