@@ -229,15 +229,39 @@ macro_rules! numbers {
 
 numbers! { u8 u16 u32 u64 i8 i16 i32 i64 f32 f64 }
 
-impl Stored for str {
-    const CODE: u8 = 0x04;
+/// Implements the traits of types that borrow the archive. Each has its code, its buffer in a builder,
+/// and the method of a stored value.
+macro_rules! borrowed {
+    ($($type:ty: $code:literal, $buffer:ty, $get:ident;)*) => {
+        $(impl Stored for $type {
+            const CODE: u8 = $code;
 
-    type Store = Parts<String>;
+            type Store = Parts<$buffer>;
 
-    #[inline]
-    fn raw(item: &str) -> RawValue {
-        RawValue::bytes(item.as_bytes())
-    }
+            #[inline]
+            fn raw(item: &$type) -> RawValue {
+                RawValue::bytes(item.as_ref())
+            }
+        }
+
+        impl SealedValue for $type {
+            #[inline]
+            unsafe fn of<'a>(raw: RawValue) -> <$type as Value>::Ref<'a> {
+                // SAFETY: the caller ensures that the value is one of this type, whose bytes are
+                // borrowed for 'a.
+                unsafe { raw.$get() }
+            }
+        }
+
+        impl Value for $type {
+            type Ref<'a> = &'a $type;
+        })*
+    };
+}
+
+borrowed! {
+    str: 0x04, String, as_str;
+    [u8]: 0x05, Vec<u8>, as_bytes;
 }
 
 impl SealedKey for str {
@@ -248,43 +272,8 @@ impl SealedKey for str {
     }
 }
 
-impl SealedValue for str {
-    #[inline]
-    unsafe fn of<'a>(raw: RawValue) -> &'a str {
-        // SAFETY: the caller ensures that the string is a value, whose bytes are borrowed for 'a.
-        unsafe { raw.as_str() }
-    }
-}
-
 impl Key for str {
     type Ref<'a> = &'a str;
-}
-
-impl Value for str {
-    type Ref<'a> = &'a str;
-}
-
-impl Stored for [u8] {
-    const CODE: u8 = 0x05;
-
-    type Store = Parts<Vec<u8>>;
-
-    #[inline]
-    fn raw(item: &[u8]) -> RawValue {
-        RawValue::bytes(item)
-    }
-}
-
-impl SealedValue for [u8] {
-    #[inline]
-    unsafe fn of<'a>(raw: RawValue) -> &'a [u8] {
-        // SAFETY: the caller ensures that the byte string is a value, whose bytes are borrowed for 'a.
-        unsafe { raw.as_bytes() }
-    }
-}
-
-impl Value for [u8] {
-    type Ref<'a> = &'a [u8];
 }
 
 impl Display for Unit {
