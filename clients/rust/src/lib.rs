@@ -64,7 +64,7 @@
 //!
 //! Collections have the same archives, byte for byte, as in rkyv 0.8.18: little endian, aligned, with
 //! 32-bit or 64-bit pointers. This is tested on 492 archives that its table code wrote.
-//! Relative pointers, archived integers, the zeros of padding and the layout of strings and of byte
+//! Relative pointers, archived numbers, the zeros of padding and the layout of strings and of byte
 //! strings follow rkyv's documentation. That code of rkyv was not run. The README has the types of rkyv
 //! that correspond to those of this crate.
 //!
