@@ -5,13 +5,19 @@
 //! A line has seven fields, separated by tabs: the collection, the types of keys and of values, the
 //! width, the number of entries, the entries in insertion order, and the bytes in hexadecimal.
 
+mod common;
+
 use std::borrow::Borrow;
 use std::env;
 use std::fmt::Debug;
 use std::fs;
 use std::path::PathBuf;
 
-use hodkhaki::{Builder, Error, IndexMap, IndexSet, Key, Map, Set, SetBuilder, Value, Width};
+use common::{sorted, Built};
+use hodkhaki::{
+    Builder, Error, HashKind, IndexKind, IndexMap, IndexSet, Key, Map, Set, SetBuilder, Value,
+    Width,
+};
 
 const FILE: &str = "../../crates/test_against_rkyv/data/rkyv-0.8.18.tsv";
 
@@ -117,12 +123,10 @@ impl<'a> Line<'a> {
 
     /// Fails the test if the bytes that were built are not those of the line.
     #[track_caller]
-    fn same_bytes<A: AsRef<[u8]>>(&self, archive: Result<A, Error>) {
-        let archive = self.ok("build", archive);
-        let (built, wanted) = (archive.as_ref(), &self.bytes);
-        let position = built.iter().zip(wanted).position(|(a, b)| a != b);
+    fn same_bytes(&self, built: &[u8]) {
+        let position = built.iter().zip(&self.bytes).position(|(a, b)| a != b);
         self.same("build, the first other byte", position, None);
-        self.same("build, the length", built.len(), wanted.len());
+        self.same("build, the length", built.len(), self.bytes.len());
     }
 
     /// The items of a set, in insertion order.
@@ -184,12 +188,8 @@ fn borrowed<K: Field + ?Sized, V: Field + ?Sized>(pairs: &[(K::Owned, V::Owned)]
     references
 }
 
-fn sorted<T: Ord>(mut items: Vec<T>) -> Vec<T> {
-    items.sort();
-    items
-}
-
-fn test_map<K, V>(line: &Line) -> bool
+/// Builds a map of a kind, opens the bytes of the line, and looks up and iterates.
+fn test_map<K, V, C: Built>(line: &Line) -> bool
 where
     K: Key + Field + ?Sized,
     V: Value + Field + ?Sized,
@@ -197,9 +197,10 @@ where
     let owned = line.pairs::<K, V>();
     let pairs = borrowed::<K, V>(&owned);
     let builder: Builder<K, V> = pairs.iter().copied().collect();
-    line.same_bytes(builder.build_archive(line.width));
+    line.same_bytes(C::map(&builder, line.width).as_bytes());
 
-    let map = line.ok("open", Map::<K, V>::open_archive(&line.bytes, line.width));
+    let map = Map::<K, V, C>::open_archive(&line.bytes, line.width);
+    let map = line.ok("open", map);
     line.same("len", map.len(), pairs.len());
     for (key, value) in &pairs {
         let found = map.get(key);
@@ -211,47 +212,7 @@ where
     let listed = listed
         .iter()
         .map(|(key, value)| (key.borrow(), value.borrow()));
-    line.same("iter", sorted(listed.collect()), sorted(pairs.clone()));
-    true
-}
-
-fn test_set<K: Key + Field + ?Sized>(line: &Line) -> bool {
-    let owned = line.items::<K>();
-    let items: Vec<&K> = owned.iter().map(Borrow::borrow).collect();
-    let builder: SetBuilder<K> = items.iter().copied().collect();
-    line.same_bytes(builder.build_archive(line.width));
-
-    let set = line.ok("open", Set::<K>::open_archive(&line.bytes, line.width));
-    line.same("len", set.len(), items.len());
-    for item in &items {
-        line.same("contains", (*item, set.contains(item)), (*item, true));
-    }
-    let absent = K::absent();
-    line.same("an absent item", set.contains(absent.borrow()), false);
-    let listed: Vec<_> = set.iter().collect();
-    let listed = listed.iter().map(Borrow::borrow);
-    line.same("iter", sorted(listed.collect()), sorted(items.clone()));
-    true
-}
-
-fn test_index_set<K: Key + Field + ?Sized>(line: &Line) -> bool {
-    let owned = line.items::<K>();
-    let items: Vec<&K> = owned.iter().map(Borrow::borrow).collect();
-    let builder: SetBuilder<K> = items.iter().copied().collect();
-    line.same_bytes(builder.build_index_archive(line.width));
-
-    let set = IndexSet::<K>::open_archive(&line.bytes, line.width);
-    let set = line.ok("open", set);
-    for (index, item) in items.iter().enumerate() {
-        line.same("get_index_of", set.get_index_of(item), Some(index));
-        let found = set.get_index(index);
-        line.same("get_index", found.as_ref().map(Borrow::borrow), Some(*item));
-    }
-    let absent = K::absent();
-    line.same("an absent item", set.contains(absent.borrow()), false);
-    let listed: Vec<_> = set.iter().collect();
-    let listed = listed.iter().map(Borrow::borrow);
-    line.same("iter", listed.collect(), items.clone());
+    line.same("iter", sorted(listed), sorted(pairs.clone()));
     true
 }
 
@@ -260,60 +221,84 @@ where
     K: Key + Field + ?Sized,
     V: Value + Field + ?Sized,
 {
+    test_map::<K, V, IndexKind>(line);
     let owned = line.pairs::<K, V>();
-    let pairs = borrowed::<K, V>(&owned);
-    let builder: Builder<K, V> = pairs.iter().copied().collect();
-    line.same_bytes(builder.build_index_archive(line.width));
-
-    let map = line.ok(
-        "open",
-        IndexMap::<K, V>::open_archive(&line.bytes, line.width),
-    );
-    line.same("len", map.len(), pairs.len());
-    for (index, (key, value)) in pairs.iter().enumerate() {
-        let found = map.get(key);
-        line.same("get", found.as_ref().map(Borrow::borrow), Some(*value));
-        line.same("get_index_of", map.get_index_of(key), Some(index));
+    let map = IndexMap::<K, V>::open_archive(&line.bytes, line.width);
+    let map = line.ok("open", map);
+    let indices = map.keys().map(|key| map.get_index_of(key.borrow()));
+    line.same("get_index_of", indices.eq((0..owned.len()).map(Some)), true);
+    for (index, (key, value)) in borrowed::<K, V>(&owned).into_iter().enumerate() {
         let pair = map.get_index(index);
         let pair = pair
             .as_ref()
             .map(|(key, value)| (key.borrow(), value.borrow()));
-        line.same("get_index", pair, Some((*key, *value)));
+        line.same("get_index", pair, Some((key, value)));
+    }
+    line.same("the end", map.get_index(owned.len()).is_none(), true);
+    true
+}
+
+/// Builds a set of a kind, opens the bytes of the line, and looks up and iterates.
+fn test_set<K: Key + Field + ?Sized, C: Built>(line: &Line) -> bool {
+    let owned = line.items::<K>();
+    let items: Vec<&K> = owned.iter().map(Borrow::borrow).collect();
+    let builder: SetBuilder<K> = items.iter().copied().collect();
+    line.same_bytes(C::set(&builder, line.width).as_bytes());
+
+    let set = Set::<K, C>::open_archive(&line.bytes, line.width);
+    let set = line.ok("open", set);
+    line.same("len", set.len(), items.len());
+    for item in &items {
+        line.same("contains", (*item, set.contains(item)), (*item, true));
     }
     let absent = K::absent();
-    line.same("an absent key", map.contains_key(absent.borrow()), false);
-    line.same("the end", map.get_index(pairs.len()).is_none(), true);
-    let listed: Vec<_> = map.iter().collect();
-    let listed = listed
-        .iter()
-        .map(|(key, value)| (key.borrow(), value.borrow()));
-    line.same("iter", listed.collect(), pairs.clone());
+    line.same("an absent item", set.contains(absent.borrow()), false);
+    let listed: Vec<_> = set.iter().collect();
+    let listed = listed.iter().map(Borrow::borrow);
+    line.same("iter", sorted(listed), sorted(items.clone()));
+    true
+}
+
+fn test_index_set<K: Key + Field + ?Sized>(line: &Line) -> bool {
+    test_set::<K, IndexKind>(line);
+    let set = IndexSet::<K>::open_archive(&line.bytes, line.width);
+    let set = line.ok("open", set);
+    for (index, item) in line.items::<K>().iter().enumerate() {
+        line.same("get_index_of", set.get_index_of(item.borrow()), Some(index));
+        let found = set.get_index(index);
+        line.same(
+            "get_index",
+            found.as_ref().map(Borrow::borrow),
+            Some(item.borrow()),
+        );
+    }
     true
 }
 
 /// Tests a line of a map. The result is `false` if the crate doesn't have its types.
 macro_rules! test_of_maps {
-    ($line:ident, $test:ident) => {
+    ($line:ident, $test:ident $(, $kind:ty)?) => {
         match $line.types {
-            ("u32", "u32") => $test::<u32, u32>($line),
-            ("u32", "u64") => $test::<u32, u64>($line),
-            ("u64", "u64") => $test::<u64, u64>($line),
-            ("i16", "u8") => $test::<i16, u8>($line),
-            ("i64", "i32") => $test::<i64, i32>($line),
-            ("text", "u32") => $test::<str, u32>($line),
-            ("text", "u64") => $test::<str, u64>($line),
-            ("text", "text") => $test::<str, str>($line),
+            ("u32", "u32") => $test::<u32, u32 $(, $kind)?>($line),
+            ("u32", "u64") => $test::<u32, u64 $(, $kind)?>($line),
+            ("u64", "u64") => $test::<u64, u64 $(, $kind)?>($line),
+            ("i16", "u8") => $test::<i16, u8 $(, $kind)?>($line),
+            ("i64", "i32") => $test::<i64, i32 $(, $kind)?>($line),
+            ("text", "u32") => $test::<str, u32 $(, $kind)?>($line),
+            ("text", "u64") => $test::<str, u64 $(, $kind)?>($line),
+            ("text", "text") => $test::<str, str $(, $kind)?>($line),
             _ => false,
         }
     };
 }
 
+/// The same of a set.
 macro_rules! test_of_sets {
-    ($line:ident, $test:ident) => {
+    ($line:ident, $test:ident $(, $kind:ty)?) => {
         match $line.types {
-            ("u32", "-") => $test::<u32>($line),
-            ("u64", "-") => $test::<u64>($line),
-            ("text", "-") => $test::<str>($line),
+            ("u32", "-") => $test::<u32 $(, $kind)?>($line),
+            ("u64", "-") => $test::<u64 $(, $kind)?>($line),
+            ("text", "-") => $test::<str $(, $kind)?>($line),
             _ => false,
         }
     };
@@ -321,13 +306,13 @@ macro_rules! test_of_sets {
 
 #[test]
 fn maps_agree() {
-    let test: Test = |line| test_of_maps!(line, test_map);
+    let test: Test = |line| test_of_maps!(line, test_map, HashKind);
     assert_eq!(covered("map", test), (LINES, MAPS));
 }
 
 #[test]
 fn sets_agree() {
-    let test: Test = |line| test_of_sets!(line, test_set);
+    let test: Test = |line| test_of_sets!(line, test_set, HashKind);
     assert_eq!(covered("set", test), (LINES, SETS));
 }
 

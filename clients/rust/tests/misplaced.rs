@@ -5,10 +5,9 @@ mod common;
 use std::borrow::Borrow;
 use std::collections::HashSet;
 
-use common::WIDTHS;
+use common::{Built, WIDTHS};
 use hodkhaki::{
-    Builder, IndexMap, IndexMapBuf, IndexMapMut, Key, Map, MapBuf, MapMut, Set, SetBuf, SetBuilder,
-    Value, Width,
+    Builder, HashKind, IndexKind, Key, Kind, Map, MapBuf, MapMut, Set, SetBuilder, Width,
 };
 
 /// The least limit at which a count is not `None`.
@@ -39,23 +38,13 @@ fn expect(count: impl Fn(u64) -> Option<u64>, keys: usize, misplaced: usize) {
 }
 
 /// The number of pairs of a map that a lookup of their key doesn't find. No value repeats.
-fn missed_in_map<K: Key + ?Sized>(map: Map<'_, K, u64>) -> usize {
+fn missed<K: Key + ?Sized, C: Kind>(map: Map<'_, K, u64, C>) -> usize {
     let is_missed = |(key, value): &(K::Ref<'_>, u64)| map.get((*key).borrow()) != Some(*value);
     map.iter().filter(is_missed).count()
 }
 
-/// The number of indices that a lookup of their key doesn't find.
-fn missed_in_index<K: Key + ?Sized, V: Value + ?Sized>(map: IndexMap<'_, K, V>) -> usize {
-    let keys = map.keys().enumerate();
-    keys.filter(|(index, key)| map.get_index_of((*key).borrow()) != Some(*index))
-        .count()
-}
-
-/// Counts the misplaced keys of maps and sets of these keys, which repeat.
-fn test_keys<K: Key + ?Sized>(keys: &[&K]) {
-    let mut texts = HashSet::new();
-    let repeated = |key: &&&K| !texts.insert(key.to_string());
-    let misplaced = keys.iter().filter(repeated).count();
+/// Counts the misplaced keys of maps and sets of a kind, whose keys repeat.
+fn test_kind<K: Key + ?Sized, C: Built>(keys: &[&K], misplaced: usize) {
     let mut items = SetBuilder::<K>::new();
     let mut numbers = Builder::<K, u64>::new();
     let mut words = Builder::<K, str>::new();
@@ -65,27 +54,23 @@ fn test_keys<K: Key + ?Sized>(keys: &[&K]) {
         words.push(*key, "a text");
     }
     for width in WIDTHS {
-        let archive = items.build_archive(width).unwrap();
-        let set = archive.as_set();
+        let set = C::set(&items, width);
         expect(|limit| set.misplaced_up_to(limit), keys.len(), misplaced);
-        let set = items.build_index_archive(width).unwrap();
-        expect(|limit| set.misplaced_up_to(limit), keys.len(), misplaced);
-        let archive = words.build_archive(width).unwrap();
-        let map = archive.as_map();
+        let map = C::map(&words, width);
         expect(|limit| map.misplaced_up_to(limit), keys.len(), misplaced);
-        let archive = words.build_index_archive(width).unwrap();
-        let map = archive.as_map();
-        assert_eq!(missed_in_index(map), misplaced);
-        expect(|limit| map.misplaced_up_to(limit), keys.len(), misplaced);
-        let archive = numbers.build_archive(width).unwrap();
-        let map = archive.as_map();
-        assert_eq!(missed_in_map(map), misplaced);
-        expect(|limit| map.misplaced_up_to(limit), keys.len(), misplaced);
-        let archive = numbers.build_index_archive(width).unwrap();
-        let map = archive.as_map();
-        assert_eq!(missed_in_index(map), misplaced);
+        let map = C::map(&numbers, width);
+        assert_eq!(missed(map.as_map()), misplaced);
         expect(|limit| map.misplaced_up_to(limit), keys.len(), misplaced);
     }
+}
+
+/// Counts the misplaced keys of maps and sets of these keys, which repeat.
+fn test_keys<K: Key + ?Sized>(keys: &[&K]) {
+    let mut texts = HashSet::new();
+    let repeated = |key: &&&K| !texts.insert(key.to_string());
+    let misplaced = keys.iter().filter(repeated).count();
+    test_kind::<K, HashKind>(keys, misplaced);
+    test_kind::<K, IndexKind>(keys, misplaced);
 }
 
 #[test]
@@ -110,43 +95,31 @@ fn repeated_keys_are_misplaced() {
     }
 }
 
+/// Counts by each type of handle of a kind.
+fn test_handles<C: Built>() {
+    let pairs = Builder::<str, u64>::from([("tea", 3), ("cake", 4), ("tea", 5)]);
+    let items = SetBuilder::<str>::from(["tea", "cake", "tea"]);
+    for width in WIDTHS {
+        let mut bytes = C::map(&pairs, width).into_bytes();
+        let expect = |count: &dyn Fn(u64) -> Option<u64>| {
+            assert_eq!([2, 3].map(count), [None, Some(1)]);
+        };
+        let map = MapMut::<str, u64, C>::open_archive(&mut bytes, width).unwrap();
+        expect(&|limit| map.misplaced_up_to(limit));
+        drop(map);
+        let map = MapBuf::<str, u64, _, C>::open_archive(bytes, width).unwrap();
+        expect(&|limit| map.misplaced_up_to(limit));
+        expect(&|limit| map.as_map().misplaced_up_to(limit));
+        let set = C::set(&items, width);
+        expect(&|limit| set.misplaced_up_to(limit));
+        expect(&|limit| set.as_set().misplaced_up_to(limit));
+    }
+}
+
 #[test]
 fn each_type_of_handle_counts() {
-    let builder = Builder::<str, u64>::from([("tea", 3), ("cake", 4), ("tea", 5)]);
-    for width in WIDTHS {
-        let mut bytes: Vec<u8> = builder.build_archive(width).unwrap().into();
-        let map = MapMut::<str, u64>::open_archive(&mut bytes, width).unwrap();
-        assert_eq!(
-            [2, 3].map(|limit| map.misplaced_up_to(limit)),
-            [None, Some(1)]
-        );
-        drop(map);
-        let map = MapBuf::<str, u64>::open_archive(bytes, width).unwrap();
-        assert_eq!(
-            [2, 3].map(|limit| map.misplaced_up_to(limit)),
-            [None, Some(1)]
-        );
-        let mut bytes: Vec<u8> = builder.build_index_archive(width).unwrap().into();
-        let map = IndexMapMut::<str, u64>::open_archive(&mut bytes, width).unwrap();
-        assert_eq!(
-            [2, 3].map(|limit| map.misplaced_up_to(limit)),
-            [None, Some(1)]
-        );
-        drop(map);
-        let map = IndexMapBuf::<str, u64>::open_archive(bytes, width).unwrap();
-        assert_eq!(
-            [2, 3].map(|limit| map.misplaced_up_to(limit)),
-            [None, Some(1)]
-        );
-        let items = SetBuilder::<str>::from(["tea", "tea"]);
-        let set =
-            SetBuf::<str>::open_archive(Vec::from(items.build_archive(width).unwrap()), width)
-                .unwrap();
-        assert_eq!(
-            [1, 2].map(|limit| set.misplaced_up_to(limit)),
-            [None, Some(1)]
-        );
-    }
+    test_handles::<HashKind>();
+    test_handles::<IndexKind>();
 }
 
 /// The number of 32 bits at a position.
@@ -295,46 +268,36 @@ fn counts_of_damaged_sets_are_those_of_the_format() {
     assert!(nonzero > 300 && above_one > 100);
 }
 
-/// Whether no value of a map repeats.
-fn has_no_equal_values(map: &Map<'_, u32, u64>) -> bool {
-    map.values().collect::<HashSet<_>>().len() == map.len()
-}
-
-/// A byte of a map is changed. The count is that of the keys that lookups miss.
-#[test]
-fn keys_of_damaged_maps_are_misplaced() {
+/// A byte of a map is changed. If no value repeats, the count is that of the keys that lookups miss.
+/// Returns the counts.
+fn test_damaged<C: Built>() -> HashSet<usize> {
     let builder: Builder<u32, u64> = (0..20)
         .map(|key| (key * 3 % 19, 1000 + u64::from(key)))
         .collect();
     let mut different = HashSet::new();
     for width in WIDTHS {
-        let mut bytes: Vec<u8> = builder.build_archive(width).unwrap().into();
+        let mut bytes = C::map(&builder, width).into_bytes();
         for index in 0..bytes.len() {
             let byte = bytes[index];
             for other in [byte ^ 1, byte ^ 2, byte.wrapping_add(19)] {
                 bytes[index] = other;
-                let map = Map::<u32, u64>::open_archive(&bytes, width).ok();
+                let map = Map::<u32, u64, C>::open_archive(&bytes, width).ok();
+                let has_no_equal_values = |map: &Map<'_, u32, u64, C>| {
+                    map.values().collect::<HashSet<_>>().len() == map.len()
+                };
                 if let Some(map) = map.filter(has_no_equal_values) {
-                    let missed = missed_in_map(map) as u64;
-                    assert_eq!(map.misplaced_up_to(1000), Some(missed));
-                    different.insert(missed);
-                }
-            }
-            bytes[index] = byte;
-        }
-        let mut bytes: Vec<u8> = builder.build_index_archive(width).unwrap().into();
-        for index in 0..bytes.len() {
-            let byte = bytes[index];
-            for other in [byte ^ 1, byte ^ 2, byte.wrapping_add(19)] {
-                bytes[index] = other;
-                if let Ok(map) = IndexMap::<u32, u64>::open_archive(&bytes, width) {
-                    let missed = missed_in_index(map) as u64;
-                    assert_eq!(map.misplaced_up_to(1000), Some(missed));
-                    different.insert(missed);
+                    assert_eq!(map.misplaced_up_to(1000), Some(missed(map) as u64));
+                    different.insert(missed(map));
                 }
             }
             bytes[index] = byte;
         }
     }
-    assert!(different.len() > 1);
+    different
+}
+
+#[test]
+fn keys_of_damaged_maps_are_misplaced() {
+    assert!(test_damaged::<HashKind>().len() > 1);
+    assert!(test_damaged::<IndexKind>().len() > 1);
 }

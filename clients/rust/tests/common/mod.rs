@@ -5,7 +5,10 @@
 
 use std::fmt::Debug;
 
-use hodkhaki::{Checksum, Error, ErrorKind, ItemType, Width};
+use hodkhaki::{
+    Builder, Checksum, Error, ErrorKind, HashKind, IndexKind, ItemType, Key, Kind, MapBuf, SetBuf,
+    SetBuilder, Value, Width,
+};
 
 pub const WIDTHS: [Width; 2] = [Width::Narrow, Width::Wide];
 
@@ -38,6 +41,39 @@ pub fn sorted<T: Ord>(items: impl IntoIterator<Item = T>) -> Vec<T> {
     let mut items: Vec<T> = items.into_iter().collect();
     items.sort();
     items
+}
+
+/// A kind of collection, as builders build its archives.
+pub trait Built: Kind + Sized {
+    fn map<K, V>(builder: &Builder<K, V>, width: Width) -> MapBuf<K, V, Vec<u8>, Self>
+    where
+        K: Key + ?Sized,
+        V: Value + ?Sized;
+
+    fn set<K: Key + ?Sized>(builder: &SetBuilder<K>, width: Width) -> SetBuf<K, Vec<u8>, Self>;
+}
+
+macro_rules! built {
+    ($($kind:ty: $build:ident;)*) => {
+        $(impl Built for $kind {
+            fn map<K, V>(builder: &Builder<K, V>, width: Width) -> MapBuf<K, V, Vec<u8>, Self>
+            where
+                K: Key + ?Sized,
+                V: Value + ?Sized,
+            {
+                builder.$build(width).unwrap()
+            }
+
+            fn set<K: Key + ?Sized>(builder: &SetBuilder<K>, width: Width) -> SetBuf<K, Vec<u8>, Self> {
+                builder.$build(width).unwrap()
+            }
+        })*
+    };
+}
+
+built! {
+    HashKind: build_archive;
+    IndexKind: build_index_archive;
 }
 
 /// A type of keys or of values, with some of its values.
