@@ -197,7 +197,7 @@ where
     let owned = line.pairs::<K, V>();
     let pairs = borrowed::<K, V>(&owned);
     let builder: Builder<K, V> = pairs.iter().copied().collect();
-    line.same_bytes(C::map(&builder, line.width).as_bytes());
+    line.same_bytes(C::map(&builder, line.width, None).as_bytes());
 
     let map = Map::<K, V, C>::open_archive(&line.bytes, line.width);
     let map = line.ok("open", map);
@@ -243,7 +243,7 @@ fn test_set<K: Key + Field + ?Sized, C: Built>(line: &Line) -> bool {
     let owned = line.items::<K>();
     let items: Vec<&K> = owned.iter().map(Borrow::borrow).collect();
     let builder: SetBuilder<K> = items.iter().copied().collect();
-    line.same_bytes(C::set(&builder, line.width).as_bytes());
+    line.same_bytes(C::set(&builder, line.width, None).as_bytes());
 
     let set = Set::<K, C>::open_archive(&line.bytes, line.width);
     let set = line.ok("open", set);

@@ -6,10 +6,10 @@ mod common;
 use std::borrow::Borrow;
 use std::collections::HashMap;
 
-use common::{kind_of, sorted, Sample, CHECKSUMS, WIDTHS};
+use common::{kind_of, sorted, Built, Sample, CHECKSUMS, WIDTHS};
 use hodkhaki::{
-    container_kind, Builder, Collection, ErrorKind, HashKind, IndexKind, IndexMap, IndexMapBuf,
-    IndexSet, IndexSetBuf, Key, Kind, Map, MapBuf, Number, Set, SetBuf, SetBuilder, Value, Width,
+    container_kind, Builder, Collection, ErrorKind, HashKind, IndexKind, IndexMap, IndexSet, Key,
+    Kind, Map, MapBuf, Number, Set, SetBuf, SetBuilder, Value, Width,
 };
 
 /// The pairs of a map by their bits, in insertion order, and the keys that it doesn't have.
@@ -59,8 +59,8 @@ impl<K: Key + Sample + ?Sized, V: Value + Sample + ?Sized> Model<K, V> {
         first
     }
 
-    /// Tests a hash map, which is in a container or not.
-    fn check(&self, map: Map<'_, K, V>, width: Width) {
+    /// Tests a map of a kind, which is in a container or not.
+    fn check<C: Kind>(&self, map: Map<'_, K, V, C>, width: Width) {
         assert_eq!((map.len(), map.width()), (self.pairs.len(), width));
         let first = self.first();
         for (key, _) in self.pairs() {
@@ -71,182 +71,155 @@ impl<K: Key + Sample + ?Sized, V: Value + Sample + ?Sized> Model<K, V> {
         for key in &self.absent {
             assert!(map.get(key.borrow()).is_none() && !map.contains_key(key.borrow()));
         }
-        let iterated = map
-            .iter()
-            .map(|(key, value)| bits(key.borrow(), value.borrow()));
-        let iterated: Vec<_> = iterated.collect();
-        assert_eq!(sorted(iterated.clone()), sorted(self.bits()));
-        assert!(map
-            .keys()
-            .map(|key| key.borrow().bits())
-            .eq(iterated.iter().map(|pair| pair.0.clone())));
+        let pairs = map.iter().map(|(k, v)| bits(k.borrow(), v.borrow()));
+        assert_eq!(sorted(pairs.clone()), sorted(self.bits()));
+        let keys = map.keys().map(|key| key.borrow().bits());
+        assert!(keys.eq(pairs.clone().map(|pair| pair.0)));
         let values = map.values().map(|value| value.borrow().bits());
-        assert!(values.eq(iterated.into_iter().map(|pair| pair.1)));
+        assert!(values.eq(pairs.map(|pair| pair.1)));
         let repeated = self.pairs.len() - first.len();
         assert_eq!(map.misplaced_up_to(u64::MAX), Some(repeated as u64));
     }
 
     /// Tests an index map, which is in a container or not.
     fn check_index(&self, map: IndexMap<'_, K, V>, width: Width) {
-        assert_eq!((map.len(), map.width()), (self.pairs.len(), width));
+        self.check(map, width);
         let (first, all) = (self.first(), self.bits());
-        for (index, (key, value)) in self.pairs().enumerate() {
-            let (wanted, first) = &first[&key.bits()];
-            assert_eq!(map.get_index_of(key), Some(*wanted));
-            assert_eq!(map.get(key).unwrap().borrow().bits(), *first);
+        for (key, _) in self.pairs() {
+            let (index, value) = &first[&key.bits()];
+            assert_eq!(map.get_index_of(key), Some(*index));
             let (found, stored, of_found) = map.get_full(key).unwrap();
-            assert_eq!(
-                (found, stored.borrow(), of_found.borrow().bits()),
-                (*wanted, key, first.clone())
-            );
-            let (stored, of_index) = map.get_index(index).unwrap();
-            assert_eq!(bits(stored.borrow(), of_index.borrow()), bits(key, value));
+            assert_eq!((found, stored.borrow()), (*index, key));
+            assert_eq!(of_found.borrow().bits(), *value);
         }
-        for key in &self.absent {
-            assert!(map.get_full(key.borrow()).is_none() && !map.contains_key(key.borrow()));
-        }
+        let absent = |key: &K::Owned| map.get_full(key.borrow()).is_none();
+        assert!(self.absent.iter().all(absent) && map.get_index(usize::MAX).is_none());
         let pair = |(key, value): (K::Ref<'_>, V::Ref<'_>)| bits(key.borrow(), value.borrow());
-        assert!(map.get_index(all.len()).is_none() && map.get_index(usize::MAX).is_none());
+        assert!((0..)
+            .map_while(|index| map.get_index(index))
+            .map(pair)
+            .eq(all.iter().cloned()));
         assert_eq!(map.first().map(pair).as_ref(), all.first());
         assert_eq!(map.last().map(pair).as_ref(), all.last());
         assert!(map.iter().map(pair).eq(all.iter().cloned()));
         assert!(map.iter().rev().map(pair).eq(all.iter().rev().cloned()));
-        let repeated = self.pairs.len() - first.len();
-        assert_eq!(map.misplaced_up_to(u64::MAX), Some(repeated as u64));
+    }
+
+    /// Tests a set of a kind of the keys, which is in a container or not.
+    fn check_set<C: Kind>(&self, set: Set<'_, K, C>, width: Width) {
+        assert_eq!((set.len(), set.width()), (self.pairs.len(), width));
+        assert!(self.pairs().all(|(item, _)| set.contains(item)));
+        assert!(!self.absent.iter().any(|item| set.contains(item.borrow())));
+        let items = set.iter().map(|item| item.borrow().bits());
+        assert_eq!(
+            sorted(items),
+            sorted(self.pairs().map(|(item, _)| item.bits()))
+        );
+        let repeated = self.pairs.len() - self.first().len();
+        assert_eq!(set.misplaced_up_to(u64::MAX), Some(repeated as u64));
+    }
+
+    /// Tests an index set of the keys, which is in a container or not.
+    fn check_index_set(&self, set: IndexSet<'_, K>, width: Width) {
+        self.check_set(set, width);
+        let first = self.first();
+        let items: Vec<&K> = self.pairs().map(|(item, _)| item).collect();
+        for (index, item) in items.iter().enumerate() {
+            let wanted = first[&item.bits()].0;
+            assert_eq!(set.get_index_of(item), Some(wanted));
+            assert_eq!(set.get_full(item).map(|(i, _)| i), Some(wanted));
+            assert_eq!(set.get(item).unwrap().borrow(), *item);
+            assert_eq!(set.get_index(index).unwrap().borrow(), *item);
+        }
+        assert!(self
+            .absent
+            .iter()
+            .all(|item| set.get_full(item.borrow()).is_none()));
+        assert!(set.get_index(items.len()).is_none());
+        assert_eq!(set.first().unwrap().borrow(), items[0]);
+        assert_eq!(set.last().unwrap().borrow(), items[items.len() - 1]);
+        assert!(set.iter().zip(&items).all(|(a, b)| a.borrow() == *b));
+        assert!(set
+            .iter()
+            .rev()
+            .zip(items.iter().rev())
+            .all(|(a, b)| a.borrow() == *b));
     }
 }
 
-/// The contents of a container that a map or a set was built in, as `container_kind` and its bytes
-/// have them.
-fn check_container(
+/// Tests that a container opens as one of the four collections only, and records its contents.
+fn check_container<K: Key + Sample + ?Sized, V: Value + Sample + ?Sized>(
     container: &[u8],
-    kind: (u8, Collection),
-    key: (u8, hodkhaki::ItemType),
-    value: (u8, Option<hodkhaki::ItemType>),
+    collection: Collection,
     width: Width,
 ) {
+    let errors = [
+        kind_of(Map::<K, V>::open(container)),
+        kind_of(Set::<K>::open(container)),
+        kind_of(IndexMap::<K, V>::open(container)),
+        kind_of(IndexSet::<K>::open(container)),
+    ];
+    use Collection::{IndexMap as AnIndexMap, IndexSet as AnIndexSet, Map as AMap, Set as ASet};
+    let kinds = [AMap, ASet, AnIndexMap, AnIndexSet];
+    let wrong = |kind| (kind != collection).then_some(ErrorKind::WrongCollection);
+    assert_eq!(errors, kinds.map(wrong));
+    let error = kind_of(Map::<K, V>::open_archive(container, width));
+    assert_eq!(error, Some(ErrorKind::IsContainer));
+
+    let is_set = matches!(collection, ASet | AnIndexSet);
+    let (code, value) = if is_set {
+        (1, None)
+    } else {
+        (V::TYPE, Some(V::ITEM))
+    };
+    let kind = 1 + kinds.iter().position(|kind| *kind == collection).unwrap() as u8;
     let word = if width == Width::Wide { 8 } else { 4 };
-    assert_eq!(container[10..14], [kind.0, key.0, value.0, word]);
+    assert_eq!(container[10..14], [kind, K::TYPE, code, word]);
     let found = container_kind(container).unwrap();
-    assert_eq!(
-        (found.collection, found.key, found.value, found.width),
-        (kind.1, key.1, value.1, width)
-    );
+    let found = (found.collection, found.key, found.value, found.width);
+    assert_eq!(found, (collection, K::ITEM, value, width));
 }
 
-/// Tests the hash map and the index map of keys and values.
-fn test_map<K: Key + Sample + ?Sized, V: Value + Sample + ?Sized>() {
+/// Tests the map of a kind, in containers and without.
+fn test_map<K: Key + Sample + ?Sized, V: Value + Sample + ?Sized, C: Built>(
+    collection: Collection,
+    check: impl Fn(&Model<K, V>, Map<'_, K, V, C>, Width),
+) {
     let model = Model::<K, V>::new();
     let builder: Builder<K, V> = model.pairs().collect();
-    let (key, value) = ((K::TYPE, K::ITEM), (V::TYPE, Some(V::ITEM)));
     for width in WIDTHS {
+        let archive = C::map(&builder, width, None);
+        let opened = MapBuf::open_archive(archive.as_bytes(), width).unwrap();
+        check(&model, opened.as_map(), width);
         for checksum in CHECKSUMS {
-            let map = builder.build_with(width, checksum).unwrap();
-            model.check(map.as_map(), width);
-            model.check(Map::open(map.as_bytes()).unwrap(), width);
-            check_container(map.as_bytes(), (1, Collection::Map), key, value, width);
-            assert_eq!(map.to_container(checksum), map.as_bytes());
-            let error = kind_of(IndexMap::<K, V>::open(map.as_bytes()));
-            assert_eq!(error, Some(ErrorKind::WrongCollection));
-            let error = kind_of(Map::<K, V>::open_archive(map.as_bytes(), width));
-            assert_eq!(error, Some(ErrorKind::IsContainer));
-
-            let map = builder.build_index_with(width, checksum).unwrap();
-            model.check_index(map.as_map(), width);
-            model.check_index(IndexMap::open(map.as_bytes()).unwrap(), width);
-            check_container(map.as_bytes(), (3, Collection::IndexMap), key, value, width);
-            let error = kind_of(Set::<K>::open(map.as_bytes()));
-            assert_eq!(error, Some(ErrorKind::WrongCollection));
+            let map = C::map(&builder, width, Some(checksum));
+            check(&model, map.as_map(), width);
+            check(&model, Map::open(map.as_bytes()).unwrap(), width);
+            check_container::<K, V>(map.as_bytes(), collection, width);
+            assert_eq!(archive.to_container(checksum), map.as_bytes());
+            assert_eq!(map.as_archive(), archive.as_bytes());
         }
-        let archive = builder.build_archive(width).unwrap();
-        model.check(
-            MapBuf::open_archive(archive.as_bytes(), width)
-                .unwrap()
-                .as_map(),
-            width,
-        );
-        assert_eq!(
-            archive.as_bytes(),
-            builder
-                .build_with(width, CHECKSUMS[0])
-                .unwrap()
-                .as_archive()
-        );
-        let archive = builder.build_index_archive(width).unwrap();
-        model.check_index(
-            IndexMapBuf::open_archive(archive.as_bytes(), width)
-                .unwrap()
-                .as_map(),
-            width,
-        );
     }
 }
 
-/// Tests the set and the index set of keys.
-fn test_set<K: Key + Sample + ?Sized>() {
+/// Tests the set of a kind, in containers and without.
+fn test_set<K: Key + Sample + ?Sized, C: Built>(
+    collection: Collection,
+    check: impl Fn(&Model<K, u8>, Set<'_, K, C>, Width),
+) {
     let model = Model::<K, u8>::new();
-    let items: Vec<&K> = model.pairs().map(|(item, _)| item).collect();
-    let first = model.first();
     let mut builder = SetBuilder::<K>::new();
-    items.iter().for_each(|item| builder.push(*item));
-    let (key, unit) = ((K::TYPE, K::ITEM), (1, None));
+    model.pairs().for_each(|(item, _)| builder.push(item));
     for width in WIDTHS {
+        let archive = C::set(&builder, width, None);
+        let opened = SetBuf::open_archive(archive.as_bytes(), width).unwrap();
+        check(&model, opened.as_set(), width);
         for checksum in CHECKSUMS {
-            let built = builder.build_with(width, checksum).unwrap();
-            check_container(built.as_bytes(), (2, Collection::Set), key, unit, width);
-            let opened = Set::<K>::open(built.as_bytes()).unwrap();
-            let archive = SetBuf::<K, _>::open_archive(built.as_archive(), width).unwrap();
-            for set in [built.as_set(), opened, archive.as_set()] {
-                assert_eq!((set.len(), set.width()), (items.len(), width));
-                assert!(items.iter().all(|item| set.contains(item)));
-                assert!(!model.absent.iter().any(|item| set.contains(item.borrow())));
-                assert_eq!(
-                    set.misplaced_up_to(u64::MAX),
-                    Some((items.len() - first.len()) as u64)
-                );
-                let iterated = sorted(set.iter().map(|item| item.borrow().bits()));
-                assert_eq!(iterated, sorted(items.iter().map(|item| item.bits())));
-            }
-            let error = kind_of(Map::<K, u8>::open(built.as_bytes()));
-            assert_eq!(error, Some(ErrorKind::WrongCollection));
-
-            let built = builder.build_index_with(width, checksum).unwrap();
-            check_container(
-                built.as_bytes(),
-                (4, Collection::IndexSet),
-                key,
-                unit,
-                width,
-            );
-            let opened = IndexSet::<K>::open(built.as_bytes()).unwrap();
-            let archive = IndexSetBuf::<K, _>::open_archive(built.as_archive(), width).unwrap();
-            for set in [built.as_set(), opened, archive.as_set()] {
-                assert_eq!((set.len(), set.width()), (items.len(), width));
-                for (index, item) in items.iter().enumerate() {
-                    let wanted = first[&item.bits()].0;
-                    assert_eq!(set.get_index_of(item), Some(wanted));
-                    assert_eq!(set.get_full(item).map(|(i, _)| i), Some(wanted));
-                    assert_eq!(set.get(item).unwrap().borrow(), *item);
-                    assert_eq!(set.get_index(index).unwrap().borrow(), *item);
-                }
-                for item in &model.absent {
-                    assert!(set.get_full(item.borrow()).is_none() && !set.contains(item.borrow()));
-                }
-                assert!(set.get_index(items.len()).is_none());
-                assert_eq!(set.first().unwrap().borrow(), items[0]);
-                assert_eq!(set.last().unwrap().borrow(), items[items.len() - 1]);
-                assert!(set
-                    .iter()
-                    .zip(&items)
-                    .all(|(item, wanted)| item.borrow() == *wanted));
-                assert!(set
-                    .iter()
-                    .rev()
-                    .zip(items.iter().rev())
-                    .all(|(a, b)| a.borrow() == *b));
-            }
-            let error = kind_of(Set::<K>::open(built.as_bytes()));
-            assert_eq!(error, Some(ErrorKind::WrongCollection));
+            let set = C::set(&builder, width, Some(checksum));
+            check(&model, set.as_set(), width);
+            check(&model, Set::open(set.as_bytes()).unwrap(), width);
+            check_container::<K, u8>(set.as_bytes(), collection, width);
+            assert_eq!(archive.to_container(checksum), set.as_bytes());
         }
     }
 }
@@ -281,33 +254,36 @@ fn test_writing<K: Key + Sample + ?Sized, V: Number + Sample>() {
     }
 }
 
+/// Tests the maps of each kind to values of a type.
+fn test_maps<K: Key + Sample + ?Sized, V: Value + Sample + ?Sized>() {
+    test_map::<K, V, HashKind>(Collection::Map, Model::check);
+    test_map::<K, V, IndexKind>(Collection::IndexMap, Model::check_index);
+}
+
+/// Tests the maps of each kind to numbers of a type, whose values are written too.
+fn test_numbers<K: Key + Sample + ?Sized, V: Number + Sample>() {
+    test_maps::<K, V>();
+    test_writing::<K, V>();
+}
+
 /// Tests all collections with keys of a type.
 fn test_keys<K: Key + Sample + ?Sized>() {
-    test_map::<K, u8>();
-    test_map::<K, u16>();
-    test_map::<K, u32>();
-    test_map::<K, u64>();
-    test_map::<K, i8>();
-    test_map::<K, i16>();
-    test_map::<K, i32>();
-    test_map::<K, i64>();
-    test_map::<K, bool>();
-    test_map::<K, char>();
-    test_map::<K, f32>();
-    test_map::<K, f64>();
-    test_map::<K, str>();
-    test_map::<K, [u8]>();
-    test_set::<K>();
-    test_writing::<K, u8>();
-    test_writing::<K, u16>();
-    test_writing::<K, u32>();
-    test_writing::<K, u64>();
-    test_writing::<K, i8>();
-    test_writing::<K, i16>();
-    test_writing::<K, i32>();
-    test_writing::<K, i64>();
-    test_writing::<K, f32>();
-    test_writing::<K, f64>();
+    test_numbers::<K, u8>();
+    test_numbers::<K, u16>();
+    test_numbers::<K, u32>();
+    test_numbers::<K, u64>();
+    test_numbers::<K, i8>();
+    test_numbers::<K, i16>();
+    test_numbers::<K, i32>();
+    test_numbers::<K, i64>();
+    test_numbers::<K, f32>();
+    test_numbers::<K, f64>();
+    test_maps::<K, bool>();
+    test_maps::<K, char>();
+    test_maps::<K, str>();
+    test_maps::<K, [u8]>();
+    test_set::<K, HashKind>(Collection::Set, Model::check_set);
+    test_set::<K, IndexKind>(Collection::IndexSet, Model::check_index_set);
 }
 
 macro_rules! tests {

@@ -54,11 +54,11 @@ fn test_kind<K: Key + ?Sized, C: Built>(keys: &[&K], misplaced: usize) {
         words.push(*key, "a text");
     }
     for width in WIDTHS {
-        let set = C::set(&items, width);
+        let set = C::set(&items, width, None);
         expect(|limit| set.misplaced_up_to(limit), keys.len(), misplaced);
-        let map = C::map(&words, width);
+        let map = C::map(&words, width, None);
         expect(|limit| map.misplaced_up_to(limit), keys.len(), misplaced);
-        let map = C::map(&numbers, width);
+        let map = C::map(&numbers, width, None);
         assert_eq!(missed(map.as_map()), misplaced);
         expect(|limit| map.misplaced_up_to(limit), keys.len(), misplaced);
     }
@@ -100,7 +100,7 @@ fn test_handles<C: Built>() {
     let pairs = Builder::<str, u64>::from([("tea", 3), ("cake", 4), ("tea", 5)]);
     let items = SetBuilder::<str>::from(["tea", "cake", "tea"]);
     for width in WIDTHS {
-        let mut bytes = C::map(&pairs, width).into_bytes();
+        let mut bytes = C::map(&pairs, width, None).into_bytes();
         let expect = |count: &dyn Fn(u64) -> Option<u64>| {
             assert_eq!([2, 3].map(count), [None, Some(1)]);
         };
@@ -110,7 +110,7 @@ fn test_handles<C: Built>() {
         let map = MapBuf::<str, u64, _, C>::open_archive(bytes, width).unwrap();
         expect(&|limit| map.misplaced_up_to(limit));
         expect(&|limit| map.as_map().misplaced_up_to(limit));
-        let set = C::set(&items, width);
+        let set = C::set(&items, width, None);
         expect(&|limit| set.misplaced_up_to(limit));
         expect(&|limit| set.as_set().misplaced_up_to(limit));
     }
@@ -276,7 +276,7 @@ fn test_damaged<C: Built>() -> HashSet<usize> {
         .collect();
     let mut different = HashSet::new();
     for width in WIDTHS {
-        let mut bytes = C::map(&builder, width).into_bytes();
+        let mut bytes = C::map(&builder, width, None).into_bytes();
         for index in 0..bytes.len() {
             let byte = bytes[index];
             for other in [byte ^ 1, byte ^ 2, byte.wrapping_add(19)] {

@@ -43,37 +43,55 @@ pub fn sorted<T: Ord>(items: impl IntoIterator<Item = T>) -> Vec<T> {
     items
 }
 
-/// A kind of collection, as builders build its archives.
+/// A kind of collection, as builders build it: in a container with a checksum, or without a container.
 pub trait Built: Kind + Sized {
-    fn map<K, V>(builder: &Builder<K, V>, width: Width) -> MapBuf<K, V, Vec<u8>, Self>
+    fn map<K, V>(
+        builder: &Builder<K, V>,
+        width: Width,
+        checksum: Option<Checksum>,
+    ) -> MapBuf<K, V, Vec<u8>, Self>
     where
         K: Key + ?Sized,
         V: Value + ?Sized;
 
-    fn set<K: Key + ?Sized>(builder: &SetBuilder<K>, width: Width) -> SetBuf<K, Vec<u8>, Self>;
+    fn set<K: Key + ?Sized>(
+        builder: &SetBuilder<K>,
+        width: Width,
+        checksum: Option<Checksum>,
+    ) -> SetBuf<K, Vec<u8>, Self>;
 }
 
 macro_rules! built {
-    ($($kind:ty: $build:ident;)*) => {
+    ($($kind:ty: $with:ident, $archive:ident;)*) => {
         $(impl Built for $kind {
-            fn map<K, V>(builder: &Builder<K, V>, width: Width) -> MapBuf<K, V, Vec<u8>, Self>
+            fn map<K, V>(
+                builder: &Builder<K, V>,
+                width: Width,
+                checksum: Option<Checksum>,
+            ) -> MapBuf<K, V, Vec<u8>, Self>
             where
                 K: Key + ?Sized,
                 V: Value + ?Sized,
             {
-                builder.$build(width).unwrap()
+                let with = |checksum| builder.$with(width, checksum);
+                checksum.map_or_else(|| builder.$archive(width), with).unwrap()
             }
 
-            fn set<K: Key + ?Sized>(builder: &SetBuilder<K>, width: Width) -> SetBuf<K, Vec<u8>, Self> {
-                builder.$build(width).unwrap()
+            fn set<K: Key + ?Sized>(
+                builder: &SetBuilder<K>,
+                width: Width,
+                checksum: Option<Checksum>,
+            ) -> SetBuf<K, Vec<u8>, Self> {
+                let with = |checksum| builder.$with(width, checksum);
+                checksum.map_or_else(|| builder.$archive(width), with).unwrap()
             }
         })*
     };
 }
 
 built! {
-    HashKind: build_archive;
-    IndexKind: build_index_archive;
+    HashKind: build_with, build_archive;
+    IndexKind: build_index_with, build_index_archive;
 }
 
 /// A type of keys or of values, with some of its values.
