@@ -273,51 +273,39 @@ fn an_absent_key_panics_with_a_text() {
 fn errors_display_sentences() {
     use ErrorKind::*;
     let errors = [
-        [
-            OutOfRange,
-            Unaligned,
-            InvalidLength,
-            WrongNumberOfElements,
-            UnwrappedControlByte,
-        ],
-        [
-            PlaceOutOfRange,
-            InvalidValue,
-            IsContainer,
-            NoMemory,
-            CapacityTooLarge,
-        ],
-        [
-            PositionTooLarge,
-            DistanceTooLarge,
-            TextTooLong,
-            ContainerTooShort,
-            WrongMagic,
-        ],
-        [
-            UnsupportedVersion,
-            UnknownCollection,
-            UnknownKeyType,
-            UnknownValueType,
-            UnknownWidth,
-        ],
-        [
-            UnknownFlags,
-            UnexpectedChecksum,
-            NonzeroReserved,
-            WrongCollection,
-            WrongKeyType,
-        ],
-        [
-            WrongValueType,
-            WrongWidth,
-            WrongLength,
-            WrongChecksum,
-            UnsupportedKind,
-        ],
+        OutOfRange,
+        Unaligned,
+        InvalidLength,
+        WrongNumberOfElements,
+        UnwrappedControlByte,
+        PlaceOutOfRange,
+        InvalidValue,
+        IsContainer,
+        NoMemory,
+        CapacityTooLarge,
+        PositionTooLarge,
+        DistanceTooLarge,
+        TextTooLong,
+        ContainerTooShort,
+        WrongMagic,
+        UnsupportedVersion,
+        UnknownCollection,
+        UnknownKeyType,
+        UnknownValueType,
+        UnknownWidth,
+        UnknownFlags,
+        UnexpectedChecksum,
+        NonzeroReserved,
+        WrongCollection,
+        WrongKeyType,
+        WrongValueType,
+        WrongWidth,
+        WrongLength,
+        WrongChecksum,
+        UnsupportedKind,
     ];
     let mut texts = HashSet::from([Status(99).to_string()]);
-    for error in errors.as_flattened() {
+    for error in errors {
         let text = error.to_string();
         assert!(
             text.contains(' ') && !text.contains(&format!("{error:?}")),
