@@ -4,6 +4,8 @@
 //! leaves it, in `../../crates/ffi_rkyv/out`. If it isn't there, `cargo check`, `cargo clippy` and
 //! `cargo doc` work, building fails, and a warning says how to give the path.
 //!
+//! In a release, the crate itself has the C functions in `c` and the library in `lib`.
+//!
 //! The library is for x86-64 Linux. For another target, a path in `HODKHAKI_LIBRARY` is an error. If it
 //! isn't set, the same commands work, building fails, and a warning names the target.
 //!
@@ -76,6 +78,11 @@ fn check_compiler() {
     }
 }
 
+/// A path in the crate, if it is there: a release has its C files and its library in the crate.
+fn released(here: &Path, path: &str) -> Option<PathBuf> {
+    Some(here.join(path)).filter(|path| path.exists())
+}
+
 /// The library's absolute path, or `None` if it isn't given, and isn't built or isn't for the target.
 fn library(here: &Path) -> Option<PathBuf> {
     println!("cargo::rerun-if-env-changed={VARIABLE}");
@@ -88,7 +95,8 @@ fn library(here: &Path) -> Option<PathBuf> {
         )),
         Some(path) => PathBuf::from(path),
         None if !is_for_target() => return None,
-        None => here.join("../../crates/ffi_rkyv/out/libffi_rkyv.a"),
+        None => released(here, "lib/libffi_rkyv.a")
+            .unwrap_or_else(|| here.join("../../crates/ffi_rkyv/out/libffi_rkyv.a")),
     };
     println!("cargo::rerun-if-changed={}", path.display());
     match path.canonicalize() {
@@ -145,7 +153,8 @@ fn main() {
         println!("cargo::rustc-link-lib=static:+verbatim=libffi_rkyv.a");
         return;
     };
-    compile(&here.join("../c"), &out);
+    let sources = released(&here, "c").unwrap_or_else(|| here.join("../c"));
+    compile(&sources, &out);
     let folder = library.parent().expect("the path of a file has a parent");
     let name = library.file_name().expect("the path of a file has a name");
     println!("cargo::rustc-link-search=native={}", out.display());
