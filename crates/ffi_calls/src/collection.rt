@@ -141,6 +141,7 @@ fn wide_flag(code: u8) -> Option<bool>
 }
 
 /// Returns the collection with these codes, or `None` if the library has none.
+#[inline]
 pub(crate) fn collection_of(codes: Codes) -> Option<Collection>
     ensures { result ≡ collection_of codes }
 {
