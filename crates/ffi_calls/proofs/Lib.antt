@@ -10,5 +10,6 @@ pub mod Together
 pub mod IndexPairs
 pub mod IndexFound
 pub mod Found
+pub mod Lookups
 pub mod IndexWriting
 pub mod StoredArchive

@@ -54,9 +54,9 @@ unfoldable pub use TypesOf.{unit_values, value_members, value_type_of}
 pub use TypesOf.{KeyTypes, Types, ValueTypes}
 unfoldable pub use Iteration.{StoresItems, StoresItemsByCodes, StoresItemsIn}
 pub use Iteration.{CanIterate, StoresFromIndex}
-unfoldable pub use Lookup.{FindsKey, FindsShown, LooksUp, LooksUpIn, ReturnsByCodes, ReturnsIn}
-unfoldable pub use Lookup.{SetLookupsFindListed}
-pub use Lookup.{CanLookUp, FindsInIndex, FindsInMap}
+unfoldable pub use Lookup.{FindsKey, FindsShown, IsLookedUp, LooksUp, LooksUpIn, LooksUpMany}
+unfoldable pub use Lookup.{ReturnsByCodes, ReturnsIn, SetLookupsFindListed, StoresLookupsByCodes}
+pub use Lookup.{CanLookUp, CanLookUpMany, FindsInIndex, FindsInMap, StoresLookups}
 unfoldable pub use Collections.{CanDecode, CanValidate, DecodesTypes, ExplainsByCodes}
 unfoldable pub use Collections.{ExplainsTypes, IsArchiveOfTypes, IsHeaderByCodes, IsValidByCodes}
 unfoldable pub use Collections.{OpensByCodes, collection_by, collection_in, collection_of}

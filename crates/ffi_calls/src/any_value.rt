@@ -55,6 +55,16 @@ pub struct IndexedValue<'a> {
     pub value: AnyValue<'a>,
 }
 
+/// The result of one of several lookups: its status, and the value and the index that it finds.
+#[repr(C)]
+#[derive(Clone, Copy)]
+pub struct LookedUp<'a> {
+    /// The status of the lookup.
+    pub status: u32,
+    /// The value of the pair and its index, if the status is 0.
+    pub found: IndexedValue<'a>,
+}
+
 /// A scalar whose number has at most 64 bits.
 pub trait Number: Scalar {
     /// Returns the value of a number, or `None` if no value has the number.
