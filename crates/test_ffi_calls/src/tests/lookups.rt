@@ -4,6 +4,7 @@ mod index_maps;
 mod keys;
 mod maps;
 mod sets;
+mod several;
 mod types;
 
 use crate::tests::expect_equal;
