@@ -38,6 +38,9 @@ void hk_c_decode(const uint8_t *archive, size_t length, uint8_t kind, uint8_t ke
                  uint8_t width, hk_table_header *header);
 uint32_t hk_c_get(const uint8_t *archive, size_t length, uint8_t kind, uint8_t key, uint8_t value,
                   uint8_t width, const hk_table_header *header, const hk_value *of, hk_found *found);
+size_t hk_c_get_many(const uint8_t *archive, size_t length, uint8_t kind, uint8_t key, uint8_t value,
+                     uint8_t width, const hk_table_header *header, const hk_value *keys, size_t count,
+                     hk_looked_up *results, size_t room);
 uint32_t hk_c_set(uint8_t *archive, size_t length, uint8_t kind, uint8_t key, uint8_t value,
                   uint8_t width, const hk_value *of, uint64_t number);
 size_t hk_c_next(const uint8_t *archive, size_t length, uint8_t kind, uint8_t key, uint8_t value,
@@ -61,7 +64,7 @@ uint32_t hk_c_update_container(uint8_t *bytes, size_t length);
 
 /* A function without effect, whose name has the number of the library's interface: these files do not
  * link with a library of another interface. */
-void hk_c_interface_3(void);
+void hk_c_interface_4(void);
 
 #ifdef __cplusplus
 }
@@ -114,8 +117,7 @@ static const struct status {
     STATUS(HK_REFUSED, "the type has no valid values"),
     STATUS(HK_CAPACITY_TOO_LARGE, "the collection needs more buckets than the width can count"),
     STATUS(HK_POSITION_TOO_LARGE, "the archive would be longer than the width allows"),
-    STATUS(HK_DISTANCE_TOO_LARGE,
-           "a distance between two parts of the archive does not fit the width"),
+    STATUS(HK_DISTANCE_TOO_LARGE, "a distance between two parts of the archive does not fit the width"),
     STATUS(HK_TEXT_TOO_LONG, "a text is too long for the width"),
     STATUS(HK_INVALID_LOAD_FACTOR, "the load factor is invalid"),
     STATUS(HK_ITERATOR_LENGTH_MISMATCH, "the number of items differs from the expected one"),
@@ -228,6 +230,14 @@ static hk_status check_bytes(const void *bytes, size_t length) {
     return length <= PTRDIFF_MAX ? HK_OK : HK_TOO_LONG;
 }
 
+/* HK_OK if an array of `count` elements of this size may be at the address. */
+static hk_status check_array(const void *array, size_t count, size_t size) {
+    if (array == NULL && count != 0) {
+        return HK_NULL;
+    }
+    return count <= PTRDIFF_MAX / size ? HK_OK : HK_TOO_LONG;
+}
+
 /* HK_OK if the bytes of a value of the type may be at their address. */
 static hk_status check_value(uint8_t type, hk_value value) {
     return has_bytes(type) ? check_bytes(value.bytes, value.length) : HK_OK;
@@ -291,7 +301,7 @@ static bool is_container(const uint8_t *bytes, size_t length) {
 static hk_status open_archive(const uint8_t *archive, void *writable, size_t length, hk_types types,
                               hk_map *map) {
     hk_map found = {archive, (uint8_t *)writable, length, types, {0, 0, 0, 1, UINT64_MAX}};
-    hk_c_interface_3();
+    hk_c_interface_4();
     const hk_status status = (hk_status)hk_c_open(archive, length, CODES(types));
     if (status == HK_OK) {
         hk_c_decode(archive, length, CODES(types), &found.header);
@@ -463,6 +473,33 @@ hk_status hk_find(const hk_map *map, hk_value key, hk_found *found) {
     return status;
 }
 
+/* The number of keys that one call of the library looks up. */
+#define AT_ONCE ((size_t)64)
+
+/* Looks up at most AT_ONCE keys of an open collection. A key that is not passed is no text. */
+static void look_up_some(const hk_map *map, const hk_value *keys, size_t count, hk_looked_up *results) {
+    static const hk_value no_text = {0, "\xff", 1};
+    const uint8_t type = map->types.key;
+    hk_value of[AT_ONCE] = {NO_VALUE};
+    for (size_t i = 0; i < count; i++) {
+        of[i] = check_value(type, keys[i]) == HK_OK ? passed(type, keys[i]) : no_text;
+        results[i].found = none_found;
+    }
+    hk_c_get_many(map->bytes, map->length, CODES(map->types), &map->header, of, count, results, count);
+    for (size_t i = 0; i < count; i++) {
+        results[i].status = first(check_value(type, keys[i]), results[i].status);
+    }
+}
+
+hk_status hk_get_many(const hk_map *map, const hk_value *keys, size_t count, hk_looked_up *results) {
+    hk_status status = first(check_open(map), check_array(keys, count, sizeof *keys));
+    status = first(status, check_array(results, count, sizeof *results));
+    for (size_t i = 0; status == HK_OK && i < count; i += AT_ONCE) {
+        look_up_some(map, keys + i, count - i < AT_ONCE ? count - i : AT_ONCE, results + i);
+    }
+    return status;
+}
+
 hk_status hk_contains(const hk_map *map, hk_value key) {
     return hk_get(map, key, NULL);
 }
@@ -512,14 +549,6 @@ hk_status hk_next(const hk_map *map, hk_item *item) {
 hk_status hk_at(const hk_map *map, size_t index, hk_item *item) {
     const hk_status status = first(check_index(map), check_output(item));
     return status == HK_OK ? item_at(map, index, item) : status;
-}
-
-/* HK_OK if an array of `count` elements of this size may be at the address. */
-static hk_status check_array(const void *array, size_t count, size_t size) {
-    if (array == NULL && count != 0) {
-        return HK_NULL;
-    }
-    return count <= PTRDIFF_MAX / size ? HK_OK : HK_TOO_LONG;
 }
 
 hk_status hk_items(const hk_map *map, uint64_t from, hk_item *items, size_t room, size_t *count) {

@@ -257,6 +257,12 @@ typedef struct hk_found {
     hk_value value;
 } hk_found;
 
+/* The result of one of several lookups: its status, and what it finds if that is HK_OK. */
+typedef struct hk_looked_up {
+    hk_status status;
+    hk_found found;
+} hk_looked_up;
+
 /* The decoded header of a collection's table. Its members are private. */
 typedef struct hk_table_header {
     size_t controls_position;
@@ -481,6 +487,18 @@ hk_status hk_get(const hk_map *map, hk_value key, hk_value *value);
  *   - HK_TOO_LONG, HK_VALUE_TOO_LARGE or HK_NOT_TEXT: of the key;
  *   - HK_NOT_FOUND. */
 hk_status hk_find(const hk_map *map, hk_value key, hk_found *found);
+
+/* Looks up `count` keys, and stores their results, in order: one call in the place of many. The status
+ * of a result is that of `hk_get` for the key. If it is HK_OK, `found` has the value, and the index in
+ * an index map or an index set. Otherwise it is the index 0 and a unit. `keys` and `results` may be null
+ * if `count` is 0.
+ *
+ * Errors, after which no result is stored:
+ *   - HK_NULL: `map` is null;
+ *   - HK_CLOSED;
+ *   - HK_NULL: `keys` or `results` is null;
+ *   - HK_TOO_LONG: the keys or the results have more than PTRDIFF_MAX bytes. */
+hk_status hk_get_many(const hk_map *map, const hk_value *keys, size_t count, hk_looked_up *results);
 
 /* Looks up a key, and returns HK_OK if it is found. The errors are those of `hk_get`. */
 hk_status hk_contains(const hk_map *map, hk_value key);

@@ -72,6 +72,54 @@ static void in_archive(const hk_map *map, hk_value value) {
          || (map->bytes <= bytes && bytes + value.length <= map->bytes + map->length), 1);
 }
 
+/* The result of a lookup of one key. */
+static hk_looked_up looked_up(const hk_map *map, hk_value key) {
+    hk_looked_up result = {HK_OK, {0, NONE}};
+    result.status = hk_get(map, key, &result.found.value);
+    if (result.status == HK_OK && is_index(map->types)) {
+        returns("find", hk_find(map, key, &result.found), HK_OK);
+    }
+    return result;
+}
+
+/* The results of lookups of several keys by one call are those of as many calls for one. The keys are
+ * those of the pairs and others, also such as have errors. */
+static void looks_up_several(const hk_map *map, const hk_pair *pairs, size_t count) {
+    static const size_t numbers[] = {0, 1, 2, 63, 64, 65, 128, 150};
+    const hk_value others[] = {absent(map->types.key), hk_number(UINT64_MAX), hk_str("a\xff"),
+                               hk_text(NULL, 1), hk_text("\xff", SIZE_MAX), hk_text(NULL, 0)};
+    hk_value keys[150];
+    hk_looked_up results[COUNT(keys) + 1];
+    for (size_t i = 0; i < COUNT(keys); i++) {
+        const size_t k = i % (count + COUNT(others));
+        keys[i] = k < count ? pairs[k].key : others[k - count];
+    }
+    for (size_t n = 0; n < COUNT(numbers); n++) {
+        const size_t number = numbers[n];
+        hk_looked_up *after = results + number;
+        after->status = HK_END;
+        after->found.index = 99;
+        returns("get many", number != 0 ? hk_get_many(map, keys, number, results)
+                                        : hk_get_many(map, NULL, 0, NULL), HK_OK);
+        for (size_t i = 0; i < number; i++) {
+            const hk_looked_up wanted = looked_up(map, keys[i]);
+            returns("a status of several", results[i].status, wanted.status);
+            same("an index of several", results[i].found.index, wanted.found.index);
+            same_value("a value of several", results[i].found.value, wanted.found.value);
+            in_archive(map, results[i].found.value);
+        }
+        same("kept", after->status == HK_END && after->found.index == 99, 1);
+    }
+    results[0].status = HK_END;
+    returns("no keys", hk_get_many(map, NULL, 1, results), HK_NULL);
+    returns("no results", hk_get_many(map, keys, 1, NULL), HK_NULL);
+    returns("no keys, too many", hk_get_many(map, NULL, SIZE_MAX, results), HK_NULL);
+    returns("too many keys", hk_get_many(map, keys, SIZE_MAX, results), HK_TOO_LONG);
+    returns("too many results", hk_get_many(map, keys, PTRDIFF_MAX / sizeof *results + 1, results),
+            HK_TOO_LONG);
+    returns("kept", results[0].status, HK_END);
+}
+
 /* The lookups of a collection with these pairs. */
 static void looks_up(hk_map *map, const hk_pair *pairs, size_t count) {
     const hk_status of_index = is_index(map->types) ? HK_OK : HK_WRONG_KIND;
@@ -95,6 +143,7 @@ static void looks_up(hk_map *map, const hk_pair *pairs, size_t count) {
     returns("contains another", contains(map, absent(map->types.key)), HK_NOT_FOUND);
     returns("find another", find(map, absent(map->types.key)),
             of_index == HK_OK ? HK_NOT_FOUND : of_index);
+    looks_up_several(map, pairs, count);
     key_errors(map, get);
     key_errors(map, contains);
     if (of_index == HK_OK) {
@@ -443,6 +492,7 @@ static void sizes(void) {
     same("pair", sizeof(hk_pair), 48);
     same("item", sizeof(hk_item), 56);
     same("found", sizeof(hk_found), 32);
+    same("looked up", sizeof(hk_looked_up), 40);
     same("table header", sizeof(hk_table_header), 40);
     same("map", sizeof(hk_map), 72);
     same("error", sizeof(hk_error), 32);

@@ -538,11 +538,14 @@ static void handles(void) {
         size_t count = 9;
         uint64_t misplaced = 9;
         hk_item item = {9, NONE, NONE};
+        hk_looked_up result = {HK_END, {9, NONE}};
         returns("count", hk_count(map, &count), wanted);
         returns("count null", hk_count(map, NULL), wanted);
         returns("get", get(map, hk_text(NULL, 1)), wanted);
         returns("contains", contains(map, hk_text(NULL, 1)), wanted);
         returns("find", find(map, hk_text(NULL, 1)), wanted);
+        returns("get many", hk_get_many(map, &item.key, 1, &result), wanted);
+        returns("get many null", hk_get_many(map, NULL, SIZE_MAX, NULL), wanted);
         returns("set", hk_set(map, hk_text(NULL, 1), hk_number(1)), wanted);
         returns("next", hk_next(map, &item), wanted);
         returns("next null", hk_next(map, NULL), wanted);
@@ -552,7 +555,7 @@ static void handles(void) {
         returns("at null", hk_at(map, 0, NULL), wanted);
         returns("misplaced", hk_misplaced_up_to(map, 1, &misplaced), wanted);
         returns("misplaced null", hk_misplaced_up_to(map, 1, NULL), wanted);
-        same("kept", count == 9 && item.next == 9 && misplaced == 9, 1);
+        same("kept", count == 9 && item.next == 9 && misplaced == 9 && result.status == HK_END, 1);
     }
 }
 
