@@ -26,6 +26,17 @@ macro_rules! reads_as_map {
                 self.as_map().get(key)
             }
 
+            /// Returns the value of each key, as [`Map::get_many`](crate::Map::get_many) does.
+            pub fn get_many<'k>(
+                &self,
+                keys: impl IntoIterator<Item = &'k K>,
+            ) -> Vec<Option<V::Ref<'_>>>
+            where
+                K: 'k,
+            {
+                self.as_map().get_many(keys)
+            }
+
             /// Returns the value of a key, as [`Map::at`](crate::Map::at) does.
             ///
             /// # Panics

@@ -4,10 +4,13 @@ use std::marker::PhantomData;
 use crate::error::{found, within_limit};
 use crate::iter::{Iter, Keys, Values};
 use crate::open::{code, types, Opener, ARCHIVE, CONTAINER};
-use crate::raw::{self, RawFound, RawItem, RawMap, RawTypes};
+use crate::raw::{self, RawFound, RawItem, RawLookedUp, RawMap, RawTypes, RawValue};
 #[cfg(doc)]
 use crate::{Builder, ErrorKind, IndexMap, MapBuf, Set};
 use crate::{Error, HashKind, Key, Kind, Value, Width};
+
+/// The number of keys that one call of the library looks up.
+const AT_ONCE: usize = 64;
 
 /// A map of `K` to `V` that borrows its bytes, which are a container or an archive.
 ///
@@ -225,6 +228,57 @@ impl<'a, K: Key + ?Sized, V: Value + ?Sized, C: Kind> Map<'a, K, V, C> {
     #[inline]
     pub fn get(&self, key: &K) -> Option<V::Ref<'a>> {
         self.find(key).map(|(_, value)| value)
+    }
+
+    /// Returns the value of each key, as [`get`](Map::get) does, in the order of the keys.
+    ///
+    /// One call of the library looks up as many as 64 keys.
+    ///
+    /// # Examples
+    /// ```
+    /// use hodkhaki::Builder;
+    ///
+    /// # fn main() -> Result<(), hodkhaki::Error> {
+    /// let map = Builder::<str, u32>::from([("tea", 3), ("cake", 4)]).build()?;
+    /// assert_eq!(map.get_many(["cake", "milk", "tea"]), [Some(4), None, Some(3)]);
+    /// # Ok(())
+    /// # }
+    /// ```
+    pub fn get_many<'k>(&self, keys: impl IntoIterator<Item = &'k K>) -> Vec<Option<V::Ref<'a>>>
+    where
+        K: 'k,
+    {
+        let mut keys = keys.into_iter();
+        let mut values = Vec::with_capacity(keys.size_hint().0);
+        let mut chunk = [RawValue::NONE; AT_ONCE];
+        loop {
+            let mut count = 0;
+            for (raw, key) in chunk.iter_mut().zip(keys.by_ref()) {
+                *raw = K::raw(key);
+                count += 1;
+            }
+            // SAFETY: the bytes of the keys are borrowed for 'k.
+            unsafe { self.append_found(&chunk[..count], &mut values) };
+            if count < AT_ONCE {
+                return values;
+            }
+        }
+    }
+
+    /// Appends the values of at most `AT_ONCE` keys.
+    ///
+    /// # Safety
+    /// The keys are of the type `K`, and their bytes are borrowed.
+    unsafe fn append_found(&self, keys: &[RawValue], values: &mut Vec<Option<V::Ref<'a>>>) {
+        let mut results = [RawLookedUp::NONE; AT_ONCE];
+        let results = &mut results[..keys.len()];
+        // SAFETY: the map is open, of this kind and of these types, and borrows its bytes. The caller
+        // ensures that the bytes of the keys are borrowed.
+        unsafe { self.raw.get_many(self.types(), keys, results) };
+        values.extend(results.iter().map(|result| {
+            // SAFETY: the value is one of the map, whose bytes are borrowed for 'a.
+            found(result.status).then(|| unsafe { V::of(result.found.value) })
+        }));
     }
 
     /// Returns the value of a key.

@@ -106,6 +106,32 @@ impl RawMap {
         }
     }
 
+    /// Looks up keys, as `get` does, and stores their results, which are as many.
+    ///
+    /// # Safety
+    /// The collection is open, with these types, and its bytes are borrowed. The bytes of the keys are
+    /// borrowed.
+    pub unsafe fn get_many(&self, types: RawTypes, keys: &[RawValue], results: &mut [RawLookedUp]) {
+        // SAFETY: the caller ensures that the collection is open, with these types. So the bytes are a
+        // valid archive of these codes, and the header is the decoded one. The keys and the results each
+        // have the pointer and the length of one slice, and no bytes of them are null.
+        unsafe {
+            hk_c_get_many(
+                self.bytes,
+                self.length,
+                types.kind,
+                types.key,
+                types.value,
+                types.width,
+                &self.header,
+                keys.as_ptr(),
+                keys.len(),
+                results.as_mut_ptr(),
+                results.len(),
+            )
+        };
+    }
+
     /// Stores the next items from a bucket or an index on, and returns their number.
     ///
     /// # Safety
@@ -274,6 +300,22 @@ impl RawFound {
     };
 }
 
+/// The result of one of several lookups: the `hk_looked_up` of the header.
+#[repr(C)]
+#[derive(Clone, Copy)]
+pub struct RawLookedUp {
+    pub status: u32,
+    pub found: RawFound,
+}
+
+impl RawLookedUp {
+    /// A result that a call overwrites.
+    pub const NONE: RawLookedUp = RawLookedUp {
+        status: NOT_FOUND,
+        found: RawFound::NONE,
+    };
+}
+
 /// An error of opening, with its numbers: the `hk_error` of the header.
 #[repr(C)]
 #[derive(Clone, Copy, Debug, Default, PartialEq, Eq, Hash)]
@@ -290,6 +332,7 @@ const _: () = {
     assert!(size_of::<RawTypes>() == 4 && size_of::<RawError>() == 32);
     assert!(size_of::<RawValue>() == 24 && size_of::<RawItem>() == 56);
     assert!(size_of::<RawPair>() == 48 && size_of::<RawFound>() == 32);
+    assert!(size_of::<RawLookedUp>() == 40);
 };
 
 pub const OK: u32 = 0;
@@ -315,6 +358,19 @@ unsafe extern "C" {
         of: &RawValue,
         found: &mut RawFound,
     ) -> u32;
+    fn hk_c_get_many(
+        archive: *const u8,
+        length: usize,
+        kind: u8,
+        key: u8,
+        value: u8,
+        width: u8,
+        header: &RawTableHeader,
+        keys: *const RawValue,
+        count: usize,
+        results: *mut RawLookedUp,
+        room: usize,
+    ) -> usize;
     fn hk_c_next(
         archive: *const u8,
         length: usize,

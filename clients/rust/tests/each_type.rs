@@ -71,6 +71,11 @@ impl<K: Key + Sample + ?Sized, V: Value + Sample + ?Sized> Model<K, V> {
         for key in &self.absent {
             assert!(map.get(key.borrow()).is_none() && !map.contains_key(key.borrow()));
         }
+        let absent = self.absent.iter().map(|key| key.borrow());
+        let keys: Vec<&K> = self.pairs().map(|(key, _)| key).chain(absent).collect();
+        let of = |found: Option<V::Ref<'_>>| found.map(|value| value.borrow().bits());
+        let several = map.get_many(keys.iter().copied()).into_iter().map(of);
+        assert!(several.eq(keys.iter().map(|key| of(map.get(key)))));
         let pairs = map.iter().map(|(k, v)| bits(k.borrow(), v.borrow()));
         assert_eq!(sorted(pairs.clone()), sorted(self.bits()));
         let keys = map.keys().map(|key| key.borrow().bits());

@@ -414,6 +414,30 @@ fn a_pair_that_panics_is_not_appended() {
     }
 }
 
+#[test]
+fn several_keys_have_the_values_that_each_has() {
+    let pairs = (0..300).map(|key| (key * 3, key));
+    let builder: Builder<u32, u32> = pairs.collect();
+    let (map, index_map) = (builder.build().unwrap(), builder.build_index().unwrap());
+    for count in [0, 1, 2, 63, 64, 65, 127, 128, 129, 900] {
+        let keys: Vec<u32> = (0..count).rev().collect();
+        let wanted: Vec<_> = keys
+            .iter()
+            .map(|key| (key % 3 == 0).then_some(key / 3))
+            .collect();
+        assert_eq!(map.get_many(&keys), wanted);
+        assert_eq!(index_map.get_many(&keys), wanted);
+        assert_eq!(map.as_map().get_many(keys.iter().filter(|_| true)), wanted);
+    }
+    let texts = Builder::<str, str>::from([("tea", "Tee"), ("cake", "Kuchen"), ("tea", "Thee")]);
+    let texts = texts.build().unwrap();
+    let words = ["cake", "", "tea", "cake"].map(String::from);
+    assert_eq!(
+        texts.get_many(words.iter().map(String::as_str)),
+        [Some("Kuchen"), None, Some("Tee"), Some("Kuchen")]
+    );
+}
+
 /// Compares a map with one of std that has the first value of each key.
 fn compare_with_std<K: Key + ?Sized, V: Number + Ord>(pairs: &[(&K, V)], absent: &[&K]) {
     let mut first = HashMap::new();
