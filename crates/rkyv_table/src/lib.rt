@@ -22,5 +22,5 @@ pub use controls::find::Strides;
 pub use table::decoded::Decoded;
 pub use table::raw_iter::RawIter;
 pub use table::raw_iter_seal::RawIterSeal;
-pub use table::resolve::HashTableResolver;
+pub use table::write::resolve::HashTableResolver;
 pub use table::{ArchivedHashTable, TableOf};

@@ -1,6 +1,6 @@
 //! Tables of items.
 //!
-//! - `serialize` writes the items and control bytes, and `resolve` writes the header.
+//! - `write::serialize` writes the items and control bytes, and `write::resolve` the header.
 //! - `verify` validates a table, and `accessors` opens it.
 //! - `lookup` finds an item, `raw_iter` iterates over all items, and `misplaced` counts the items
 //!   that a lookup of the same item doesn't return.
@@ -16,8 +16,6 @@ ghost use Rattle.rkyv_table.specs.Table.Layout.{table_spec};
 ghost use Rattle.rkyv_table.specs.Lemmas.TableLaws.{table_element};
 
 mod accessors;
-mod buckets;
-mod bytes;
 pub mod decoded;
 mod element;
 mod header;
@@ -26,16 +24,11 @@ pub mod laws;
 pub mod list_inputs;
 mod lookup;
 pub mod misplaced;
-mod parts;
 pub mod raw_iter;
 pub mod raw_iter_seal;
-pub mod resolve;
 mod sealed;
-mod serialize;
-mod source;
-pub mod take;
-mod take_two;
 mod verify;
+pub mod write;
 
 use crate::table::decoded::Decoded;
 use rkyv_base::width::Word;

@@ -22,7 +22,7 @@ pub mod written;
 use crate::table::decoded::Decoded;
 use crate::table::list_inputs::{PairRefs, Refs, WithUnits};
 use crate::table::raw_iter::RawIter;
-use crate::table::resolve::{HashTableResolver, resolved_capacity};
+use crate::table::write::resolve::{HashTableResolver, resolved_capacity};
 use crate::table::{ArchivedHashTable, TableOf};
 use rkyv_base::width::Word;
 use rkyv_base::{Archive, Element, HasSpec, Lend, Scalar, Width};

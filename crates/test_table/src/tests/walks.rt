@@ -6,7 +6,7 @@ use rkyv_base::access::access;
 use rkyv_base::{Element, Entry, Narrow, VerifyError};
 use rkyv_table::table::laws;
 use rkyv_table::table::list_inputs::{PairRefs, Refs, WithUnits};
-use rkyv_table::table::take::next_item;
+use rkyv_table::table::write::take::next_item;
 use rkyv_table::{ArchivedHashTable, RawIter, TableOf};
 use test_support::archives::{four_pairs, no_items, one_key_twice, two_units};
 

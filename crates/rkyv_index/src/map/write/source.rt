@@ -7,7 +7,7 @@ ghost use Rattle.rkyv_table.specs.{YieldsOtherCount};
 ghost use Rattle.rkyv_index.specs.{pairs_of};
 
 use rkyv_base::{EntryAdapter, Lend};
-use rkyv_table::table::take::next_item;
+use rkyv_table::table::write::take::next_item;
 use std::alloc::{AllocError, Global};
 
 #[derive(Drop)]
