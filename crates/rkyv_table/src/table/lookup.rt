@@ -19,7 +19,7 @@ use rkyv_scan::simd::paired;
 
 impl<'a, T: Element, W: Width> ArchivedHashTable<'a, T, W> {
     #[inline]
-    fn find_by<G: GroupKind, F: Fn(View<'a, T>) -> bool>(
+    fn get_counted_by<G: GroupKind, F: Fn(View<'a, T>) -> bool>(
         self,
         hash: u64,
         cmp: F,
@@ -76,7 +76,7 @@ impl<'a, T: Element, W: Width> ArchivedHashTable<'a, T, W> {
         requires callable { CanCompare (F.pre cmp) self }
         ensures { FindsItem (F.post cmp) generic_kind self.entry hash result }
     {
-        self.get_by::<paired::Group, F>(hash, cmp)
+        self.get_counted_by::<paired::Group, F>(hash, cmp, &mut Strides::new())
     }
 
     /// Looks up as `get_with` does, but at the indices that the kind of group `G` marks.
@@ -92,7 +92,7 @@ impl<'a, T: Element, W: Width> ArchivedHashTable<'a, T, W> {
         requires callable { CanCompare (F.pre cmp) self }
         ensures { FindsItem (F.post cmp) G.kind self.entry hash result }
     {
-        self.find_by::<G, F>(hash, cmp, &mut Strides::new())
+        self.get_counted_by::<G, F>(hash, cmp, &mut Strides::new())
     }
 
     /// Looks up as `get_with` does, and returns the position of the item.
@@ -114,6 +114,6 @@ impl<'a, T: Element, W: Width> ArchivedHashTable<'a, T, W> {
         ensures counts { CountsStrides (F.post cmp) generic_kind self.entry hash
             strides.old strides.new }
     {
-        self.find_by::<paired::Group, F>(hash, cmp, strides)
+        self.get_counted_by::<paired::Group, F>(hash, cmp, strides)
     }
 }

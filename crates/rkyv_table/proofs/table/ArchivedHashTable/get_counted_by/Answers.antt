@@ -1,7 +1,7 @@
 use Rattle.std.proofs.Common.{None, Some, refl}
 use Rattle.rkyv_table.proofs.FoundItems.{item_found, none_found, strides_counted}
 use Rattle.rkyv_table.proofs.ValidTable.{read_accepted, read_walked}
-use Rattle.rkyv_table.proofs.table.ArchivedHashTable.find_by.Goals as goal
+use Rattle.rkyv_table.proofs.table.ArchivedHashTable.get_counted_by.Goals as goal
 
 pub find_from-bucket-requires : goal.find_from-bucket-requires
 find_from-bucket-requires g c κs =
