@@ -5,7 +5,7 @@ use Rattle.rkyv_base.specs.{IsAt, bytes_of, pos_of}
 use Rattle.rkyv_base.specs.declared.view.View.{View}
 
 module _ {T : Type 0} (v : View T) (archive : Bor (List ℕ)) (p : ℕ) (at : IsAt v archive p) where
-  -- a function of the bytes and the position of a view is that of the archive and `p`
+  -- a function of a view's bytes and position has the value for the archive and `p`
   pub read_at : {X : Type 0} (f : List ℕ → ℕ → X) → f (bytes_of v) (pos_of v) ≡ f archive.now p
   read_at f = ap (λ (a : Bor (List ℕ)). f a.now (pos_of v)) at.0 ∙ ap (f archive.now) at.1
 

@@ -30,7 +30,7 @@ inline_stops x xs h = rw h refl
 inline_continues : (x : ℕ) (xs : List ℕ) → (x == 255) ≡ false → inline_text (x ∷ xs) ≡ x ∷ inline_text xs
 inline_continues x xs h = grind (arith, common_steps)
 
--- the inline text of `uppercase_front s` is that of `s` in upper case
+-- the inline text of `uppercase_front s` is the text of `s` in upper case
 inline_text_uppercase : (s : List ℕ) → inline_text (uppercase_front s) ≡ map to_ascii_uppercase (inline_text s)
 inline_text_uppercase [] = refl
 inline_text_uppercase (x ∷ xs) = grind (arith, common_steps, cases_Bool, inline_stops, inline_continues, not_ff, inline_text_uppercase xs)

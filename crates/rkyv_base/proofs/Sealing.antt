@@ -90,7 +90,7 @@ module _ (k v : ElementSpec) (kl : IsElement k) (vl : IsElement v) where
 pub viewable_kept : (s : ElementSpec) (b c : List ℕ) (p : ℕ) → length c ≡ length b → StaysValid s b c p → Viewable s b p → Viewable s c p
 viewable_kept s b c p n keeps h = grind (arith, common_steps)
 
--- the archive is cut at `q`, after a value
+-- the archive is split at `q`, after a value
 module _ (s : ElementSpec) (laws : IsElement s) (b : List ℕ) (q : ℕ) where
   same_in_front : (i j : ℕ) → i ≤ j → j ≤ q → AgreeOn b (take q b) i j
   same_in_front i j o h = grind (arith, common_steps, take-take q q b (omega arith), part_of_front b i j q o h, part_of_front (take q b) i j q o h)

@@ -1,4 +1,4 @@
--- Zeros that are cut from a fixed array of eight.
+-- Zeros that are slices of a fixed array of eight.
 use Rattle.std.specs.Prelude.{◌≡◌, ℕ, ◌%◌, ◌≤◌, take, replicate}
 use Rattle.std.proofs.Common.{arith, ap, ◌∙◌}
 use Rattle.std.proofs.lemmas.Grind.{common_steps}

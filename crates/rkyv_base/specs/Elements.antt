@@ -1,4 +1,4 @@
--- What is known of the types of elements, as records that the types of collections carry.
+-- Facts on the types of elements, as records that the types of collections carry.
 use Rattle.rkyv_base.specs.Entries.{entry_spec}
 use Rattle.rkyv_base.specs.Lemmas.Entry.{entry_element}
 use Rattle.rkyv_base.specs.declared.element.HasSpec.{Ghosts as Specs}

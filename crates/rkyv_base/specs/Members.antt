@@ -1,4 +1,4 @@
--- The ghost members of bounds, as clauses name them: those of a width, and those of an element.
+-- The ghost members of bounds, as clauses name them: a width's members, and an element's.
 use Rattle.std.specs.Prelude.{ℕ, List}
 use Rattle.std.specs.Int.{Width}
 use Rattle.rkyv_base.specs.ElementSpecs.{ElementSpec, IsElement}

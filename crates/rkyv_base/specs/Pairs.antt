@@ -22,7 +22,7 @@ abbrev pub PairRepresents : {V W : Type 0} → ElementSpec → ElementSpec → (
 PairRepresents k v key value b p pair = key b p pair.0 × value b (p + value_offset k v) pair.1
 
 module _ {V W R Q : Type 0} (k v : ElementSpec) (kf : Format V R) (vf : Format W Q) where
-  -- `part`: parts of the key, followed by those of the value
+  -- `part`: parts of the key, followed by the value's parts
   abbrev pub PairParts : V × W → ℕ → List ℕ → EntryResolver R Q → Type 0
   PairParts pair p part r =
       IsSmall k v × (a : List ℕ) × (b : List ℕ) × kf.parts pair.0 p a r.key

@@ -72,7 +72,7 @@ WritesRoot limit root v o o' result = MatchResult result
 abbrev pub fresh : Output
 fresh = record { start = 0; bytes = []; failures = 0 }
 
--- `b`: archive of the value `v` alone. It is accepted, and its root represents `v`
+-- `b`: archive of only the value `v`. It is accepted, and its root represents `v`
 abbrev pub ArchiveOf : {V R : Type 0} → ℕ → ElementSpec → (List ℕ → ℕ → V → Type 0) → Format V R → V
     → List ℕ → Type 0
 ArchiveOf limit s represents f v b =

@@ -27,15 +27,15 @@ pub record Encodes {V : Type 0} (encoding : Encoding V) (v : V) (out : List ℕ)
   pub is_code : encoding.IsCode (encoding.code v)
   pub reads_back : encoding.value (encoding.code v) ≡ v
 
--- the number at `p` is that of a value. A scalar has no parts
+-- the number at `p` encodes a value. A scalar has no parts
 abbrev pub IsValidScalar : {V : Type 0} → Encoding V → List ℕ → ℕ → ℕ → ℕ → ℕ → Type 0
 IsValidScalar e b p lo hi l = (l ≡ lo) × e.IsCode (number_at e.word b p)
 
--- `error`: `InvalidValue` of `p`, whose number is that of no value
+-- `error`: `InvalidValue` of `p`, whose number encodes no value
 abbrev pub ScalarFails : {V : Type 0} → Encoding V → List ℕ → ℕ → ℕ → ℕ → VerifyError → Type 0
 ScalarFails e b p lo hi error = (error ≡ InvalidValue p) × (e.IsCode (number_at e.word b p) → ⊥)
 
--- a scalar as an element: one aligned word, whose number is that of a value
+-- a scalar as an element: one aligned word, whose number encodes a value
 abbrev pub scalar_spec : {V : Type 0} → Encoding V → ElementSpec
 scalar_spec e = record {
   size = byte_len e.word;
@@ -44,7 +44,7 @@ scalar_spec e = record {
   fails = ScalarFails e;
 }
 
--- the number at `p` is that of the value `v`
+-- the number at `p` encodes the value `v`
 abbrev pub ScalarRepresents : {V : Type 0} → Encoding V → List ℕ → ℕ → V → Type 0
 ScalarRepresents e b p v = e.value (number_at e.word b p) ≡ v
 
@@ -52,7 +52,7 @@ ScalarRepresents e b p v = e.value (number_at e.word b p) ≡ v
 abbrev pub AreProps : {V : Type 0} → Encoding V → Type 0
 AreProps e = (n : ℕ) → IsProp (e.IsCode n)
 
--- the spec `s` is that of scalars with the encoding `e`
+-- the spec `s` is the spec of scalars with the encoding `e`
 pub record IsScalar {V : Type 0} (s : ElementSpec) (e : Encoding V) : Type 0 where
   pub word : IsWord e.word
   pub size : s.size ≡ byte_len e.word

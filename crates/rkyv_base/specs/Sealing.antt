@@ -18,7 +18,7 @@ with_value e b p v = with_bytes b p (byte_len e.word) (to_le_bytes e.word (e.cod
 abbrev pub value_pos : ElementSpec → ElementSpec → ℕ → ℕ
 value_pos k v p = p + value_offset k v
 
--- the number at position `p` is that of a value
+-- the number at position `p` encodes a value
 abbrev pub IsCodeAt : {V : Type 0} → Encoding V → List ℕ → ℕ → Type 0
 IsCodeAt e b p = e.IsCode (number_at e.word b p)
 
@@ -37,7 +37,7 @@ abbrev pub StaysValid : ElementSpec → List ℕ → List ℕ → ℕ → Type 0
 StaysValid s b c p = (lo hi l : ℕ) → lo ≤ hi → hi ≤ p → s.is_valid b p lo hi l
     → s.is_valid c p lo hi l
 
--- the entry at `p` stays valid after each write to its value's bytes alone
+-- the entry at `p` stays valid after each write to only its value's bytes
 -- that keeps the value valid
 abbrev pub EntryStaysValid : ElementSpec → ElementSpec → List ℕ → ℕ → Type 0
 EntryStaysValid k v b p = (c : List ℕ) → ModifiesOnly b (value_pos k v p) v.size c

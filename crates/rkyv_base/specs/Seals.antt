@@ -61,6 +61,6 @@ ArchiveStays s s' = IsSameBorrow s.archive s'.archive s.pos s'.pos
 abbrev pub LiesIn : {T : Type 0} → ElementSpec → Seal T → Type 0
 LiesIn s x = x.pos + s.size ≤ length x.bytes.now
 
--- the final bytes of the archive `s` are those of the front `r.0`, then those of the back `r.1`
+-- the final bytes of the archive `s` are the front's, `r.0`, and then the back's, `r.1`
 abbrev pub LendsFrontAndBack : MutBor (List ℕ) → MutBor (List ℕ) × MutBor (List ℕ) → Fml
 LendsFrontAndBack s r = LendsBoth (Array u8 0) (Array u8 0) (Array u8 0) s r ◌++◌

@@ -56,7 +56,7 @@ text_at w b p = text_of w (fixed_bytes w b p) b p
 abbrev pub TextReads : Width → List ℕ → ℕ → List ℕ → Type 0
 TextReads w b p t = text_at w b p ≡ t
 
--- the text at position `p` is that of the value `q`
+-- the text at position `p` has the bytes of the value `q`
 abbrev pub IsTextOf : {Q : Type 0} → Width → (Q → List ℕ) → List ℕ → ℕ → Q → Type 0
 IsTextOf w as_value b p q = TextReads w b p (as_value q)
 

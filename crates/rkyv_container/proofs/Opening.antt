@@ -1,4 +1,4 @@
--- Containers from their checks, and the uniqueness of what opening returns.
+-- Containers from their checks, and the uniqueness of the result of opening.
 use Rattle.std.proofs.Common.{◌≡◌, ℕ, ◌⊎◌, ◌↔◌, List, drop, Result, Ok, Err, MatchResult, IsOk, IsOkAnd, refl, sym, ◌∙◌, subst, inl, inr, arith}
 use Rattle.std.proofs.lemmas.Grind.{common_steps}
 use Rattle.std.proofs.lemmas.List.{drop_at, take-append-drop, take_at}

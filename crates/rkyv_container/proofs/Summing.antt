@@ -1,4 +1,4 @@
--- The two sums of Adler-32 over the bytes so far.
+-- The two sums of Adler-32 over the bytes that were read.
 use Rattle.std.proofs.Common.{◌≡◌, ℕ, ◌+◌, ◌-◌, ◌*◌, ◌%◌, ◌<◌, ◌≤◌, List, [], ◌∷◌, ◌++◌, length, take, drop, get_or, sum, refl, arith, length-drop}
 use Rattle.std.specs.Prelude.{slice_range}
 use Rattle.std.proofs.lemmas.List.{get_or_at, length-take-le, take_all, take_more}

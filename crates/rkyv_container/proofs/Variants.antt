@@ -1,4 +1,4 @@
--- `==` of an enum is sameness if that of each variant's fields is.
+-- `==` of an enum is sameness if `==` of each variant's fields is.
 use mathlib.Core.Path.{◌≡◌, refl, ap, subst}
 use mathlib.Core.Logic.{inl, inr, ◌↔◌}
 use mathlib.Core.Bool.{Bool, true, false, ◌&&◌, true≢false}

@@ -7,7 +7,7 @@ pub data Checks : Type 1 where
   done : Checks
   check : Type 0 → ContainerError → Checks → Checks
 
--- the checks of `p`, then those of `q`
+-- the checks of `p`, then the checks of `q`
 abbrev pub followed_by : Checks → Checks → Checks
 followed_by done q = q
 followed_by (check P e rest) q = check P e (followed_by rest q)

@@ -13,7 +13,7 @@ use Rattle.rkyv_container.specs.Checksum.{adler32_of}
 use Rattle.rkyv_container.specs.Headers.{Fits, IsHeader, checksum_field, header_bytes}
 use Rattle.rkyv_container.specs.Headers.{header_checks}
 
--- the checksum `c`, if there is one, is that of the archive `a`
+-- the checksum `c`, if there is one, is the checksum of the archive `a`
 abbrev pub ChecksumMatches : Option ℕ → List ℕ → Type 0
 ChecksumMatches None a = Unit {0}
 ChecksumMatches (Some c) a = c ≡ adler32_of a

@@ -18,7 +18,7 @@ kind_text HashSet = codes "hash set"
 kind_text IndexMap = codes "index map"
 kind_text IndexSet = codes "index set"
 
--- the text of a type of keys or values: Rust's name, or that of text or bytes of any length
+-- the text of a type of keys or values: Rust's name, or `str` or `[u8]` for any length
 abbrev pub type_text : ItemType → List ℕ
 type_text UnitType = codes "()"
 type_text BoolType = codes "bool"

@@ -26,7 +26,7 @@ is_full control = nat_lt control 128
 abbrev pub is_equal_at : List ℕ → ℕ → ℕ → Bool
 is_equal_at controls byte index = slice_index controls index == byte
 
--- the control byte at `index` is `byte`, or differs from it in the lowest bit alone
+-- the control byte at `index` is `byte`, or differs from it only in the lowest bit
 -- and follows an index that matches
 abbrev pub is_word_match_at : List ℕ → ℕ → ℕ → Bool
 is_word_match_at controls byte zero = is_equal_at controls byte 0
@@ -61,7 +61,7 @@ pub record IsKind (kind : Kind) : Type 0 where
 abbrev pub bytewise_kind : Kind
 bytewise_kind = record { width = 8; marks = is_equal_at }
 
--- the kind with eight control bytes that marks those of `is_word_match_at`
+-- the kind with eight control bytes that marks as `is_word_match_at` says
 abbrev pub generic_kind : Kind
 generic_kind = record { width = 8; marks = is_word_match_at }
 

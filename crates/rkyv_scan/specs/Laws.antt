@@ -1,4 +1,4 @@
--- Laws of the hash, over its definition alone. Each is for every rule for `usize`
+-- Laws of the hash, over only its definition. Each is for every rule for `usize`
 -- and `isize`, and so for both hashers.
 use Rattle.std.specs.Prelude.{◌≡◌, ℕ, ◌%◌, List, ◌++◌, length, All, flat_map}
 use Rattle.std.specs.Int.{from_le_bytes, w64}

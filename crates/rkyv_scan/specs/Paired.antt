@@ -12,7 +12,7 @@ half_of controls index = take 8 (drop (index / 8 * 8) controls)
 abbrev pub is_half_match_at : List ℕ → ℕ → ℕ → Bool
 is_half_match_at controls byte index = is_word_match_at (half_of controls index) byte (index % 8)
 
--- the kind with sixteen control bytes that marks those of `is_half_match_at`
+-- the kind with sixteen control bytes that marks as `is_half_match_at` says
 abbrev pub paired_kind : Kind
 paired_kind = record { width = 16; marks = is_half_match_at }
 

@@ -52,7 +52,7 @@ module _ {T W : Type 0} {ts : Specs T} {wt : Words W} (b : List ℕ) (p : ℕ) (
         subst (P b) pos (subst (λ (c : List ℕ). P c t.view.pos) bytes
         (counted_lookup _ _ _ after (cap_small t) here.bounded (here.counted accept (compares_by_of accept compares))))
 
-  -- each write of an item of the table alone that keeps it valid keeps the table
+  -- each write of only an item of the table that keeps it valid keeps the table
   pub item_at_found : IsElement ts.spec → Viewable (table_spec wt.word ts.spec) b p → (q : ℕ) → IsItemPos t q → (i : ℕ) × IsItemAt wt.word ts.spec b p i q
   item_at_found law table q is =
       let i = is.0 in

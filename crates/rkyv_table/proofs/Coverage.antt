@@ -46,7 +46,7 @@ unturn a t u n pos e =
     ap (λ w. w % n) s ∙ m) in
     grind (arith, common_steps, mod-add-mod (a + t) n b, mod-add-mod (a + u) n b)
 
--- each residue is that of exactly one index
+-- exactly one index has each residue
 index_hit : (s n j : ℕ) → j < 2 ^ n → (k : ℕ) × (k < 2 ^ n) × (probe_index s (16 * 2 ^ n) k ≡ 16 * j + s % 16)
 index_hit s n j h =
     let pos : 0 < 2 ^ n = pow_pos n in

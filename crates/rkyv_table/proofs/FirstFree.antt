@@ -47,7 +47,7 @@ index_inside P n j ps e h = grind (arith, common_steps, first_range, head_filter
 
 -- ---- all strides
 
--- the control byte at an index is that of its bucket
+-- the control byte at an index is the control byte of its bucket
 same_test : (cap : ℕ) (controls : List ℕ) (q : ℕ) → 0 < cap → IsWrapped cap controls → q < 2 * cap → q < control_count cap → is_empty_at controls q ≡ is_empty_at controls (q % cap)
 same_test cap controls q pos r two c = ap (leb 128) (control_of cap controls q pos r two c)
 
@@ -66,7 +66,7 @@ none_shown cap controls p pos r lp h =
           (any_range (is_empty_at controls) p 16 q lo hi (same_test cap controls q pos r l (omega arith) ∙ t))))
     ])
 
--- the first empty index of a stride is that of the first free bucket that the stride shows
+-- the first empty index of a stride belongs to the first free bucket that the stride shows
 pub some_shown : (h cap : ℕ) (controls : List ℕ) (p q b : ℕ) → IsWrapped cap controls → b < cap → is_empty_at controls b ≡ true
     → list_any (eqb p) (strides h cap) ≡ true → p < probe_capacity cap
     → (list_any (is_empty_at controls) (buckets_at cap (start h cap)) ≡ false) ⊎ (p ≡ start h cap)
@@ -184,7 +184,7 @@ first_from h cap b controls (p ∷ ps) r hb fb members c same =
           (p, q, find_front (stride_has_empty controls) p ps e, empty_index_is controls p ∙ some.1, s.0, first_at h cap p (q % cap) free ps (p ∷ ps) refl s.1 same)
     ]
 
--- the first empty index of all strides is that of the first free bucket that a hash shows
+-- the first empty index of all strides belongs to the first free bucket that a hash shows
 pub first_of_all : (h cap : ℕ) (controls : List ℕ) → IsWrapped cap controls → HasRoom cap controls
     → (p : ℕ) × (q : ℕ) × (find (stride_has_empty controls) (strides h cap) ≡ Some p) × (empty_index controls p ≡ Some q) × (q < 2 * cap) × (find (is_empty_at controls) (probed h cap) ≡ Some (q % cap))
 first_of_all h cap controls r w =

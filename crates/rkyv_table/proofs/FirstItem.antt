@@ -12,7 +12,7 @@ use Rattle.rkyv_table.specs.{AgreesAt, AreUnder, IsFirstOf, IsUnderHash, IsWritt
 use Rattle.rkyv_table.proofs.FirstFound.{first_found}
 use Rattle.rkyv_table.specs.Lemmas.Homes.{home_count}
 
--- the first accepted position is that of the first accepted item
+-- the first accepted position is the position of the first accepted item
 first_along : {X : Type 0} (represents : List ℕ → ℕ → X → Type 0) (c : List ℕ) (accept : X → Bool) (accept_at : ℕ → Bool) (items : List X) (qs : List ℕ)
     → length items ≡ length qs → ((i : ℕ) (x : X) → slice_get items i ≡ Some x → represents c (slice_index qs i) x) → AgreesAt qs items accept accept_at → IsFirstOf represents c accept items (find accept_at qs)
 first_along represents c accept accept_at [] [] n there agrees = refl

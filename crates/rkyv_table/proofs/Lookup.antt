@@ -68,7 +68,7 @@ ends_somewhere kind controls cap len h t accept a =
     let e : 128 ≤ get_or controls q 0 = rw (k, v.6) w.2 in
     search (rules, any_range, le-leb, or_right, first_within, any_member)
 
--- a full control byte of a stride is that of a full bucket
+-- a full control byte of a stride belongs to a full bucket
 pub stride_full : (cap len : ℕ) (controls stride : List ℕ) (p q : ℕ) → AreValidControls cap len controls → p < probe_capacity cap → q < 16 → stride ≡ take 16 (drop p controls) → get_or stride q 0 < 128
     → (p + q < 2 * cap) × IsFullBucket cap controls ((p + q) % cap)
 stride_full cap len controls stride p q a lp lq e f = grind (arith, common_steps, get_or-take 16 (drop p controls) q 0 lq, get_or-drop p controls q 0, cases_lt (p + q) (2 * cap), mod_below, control_of)

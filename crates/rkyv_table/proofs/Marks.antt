@@ -42,7 +42,7 @@ pub index_full : (kind : Kind) → IsKind kind → (t : ℕ) (stride group ps : 
 unfolding indices_where
 index_full kind law t stride group ps at k ht e p h = grind (arith, common_steps, in_filter, get_or-take, get_or-drop)
 
--- the bucket of a marked index is that of a full control byte of the stride
+-- the bucket of a marked index has a full control byte of the stride
 pub marked_bucket_full : (kind : Kind) → IsKind kind → (t p cap at : ℕ) (stride group ps : List ℕ) → t < 128 → at + kind.width ≤ 16 → group ≡ take kind.width (drop at stride)
     → ps ≡ indices_where (kind.marks group t) kind.width → (b : ℕ) → IsMarked (p + at) cap ps b → IsFullInStride stride p cap b
 marked_bucket_full kind law t p cap at stride group ps ht fits e m b k = grind (arith, common_steps, index_full kind law t stride group ps at k.0 ht e m k.1)

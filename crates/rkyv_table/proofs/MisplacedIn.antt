@@ -36,7 +36,7 @@ module _ {T W : Type 0} {ts : Specs T} {wt : Words W} (t : ArchivedHashTable T W
   pub left_walked : All (IsWalked wt.word (table_bytes t) (table_pos t)) left
   left_walked = All-rest (IsWalked wt.word (table_bytes t) (table_pos t)) bucket left buckets steps walked
 
--- the counted items and those of the remaining buckets are all misplaced items
+-- the counted items and the misplaced ones of the remaining buckets are all misplaced items
 module _ {T W : Type 0} {ts : Specs T} {wt : Words W} (t : ArchivedHashTable T W ts wt) (hashes : View T → ℕ → Type 0) (compares : View T → View T → Bool → Type 0) where
   abbrev pub Counting : ℕ → List ℕ → Type 0
   Counting count left = (hash_of : ℕ → ℕ) (same : ℕ → ℕ → Bool) → HashesAs hashes t hash_of → ComparesAs compares t same
@@ -49,7 +49,7 @@ module _ {T W : Type 0} {ts : Specs T} {wt : Words W} (t : ArchivedHashTable T W
     pub counted_none : returned ≡ false → Counting count left
     counted_none miss = grind (arith, common_steps, count_passed)
 
--- the strides that were read and those of the remaining buckets are the strides of all items
+-- the strides that were read and the remaining buckets' strides are the strides of all items
 module _ {T W : Type 0} {ts : Specs T} {wt : Words W} (t : ArchivedHashTable T W ts wt) (hashes : View T → ℕ → Type 0) (compares : View T → View T → Bool → Type 0) where
   abbrev pub Spending : ℕ → List ℕ → Type 0
   Spending read left = (hash_of : ℕ → ℕ) (same : ℕ → ℕ → Bool) → HashesAs hashes t hash_of → ComparesAs compares t same

@@ -18,7 +18,7 @@ module _ (b c : List ℕ) (lo l : ℕ) (o : lo ≤ l) (sealed : ModifiesOnly b l
   pub same_above : (i j : ℕ) → i ≤ j → l ≤ i → AgreeOn b c i j
   same_above i j ij h = same_outside b lo (l - lo) c sealed i j ij (inr (omega arith))
 
--- two valid values in turn: the parts of the first are before those of the second
+-- two valid values in turn: the parts of the first are before the second's
 record InTurn (s : ElementSpec) (b : List ℕ) (q r lo hi l : ℕ) : Type 0 where
   pub first : IsValidWithin s b q lo hi l
   pub second : IsValidWithin s b r lo hi l

@@ -12,7 +12,7 @@ use Rattle.rkyv_table.proofs.SealedTable.{item_stays, table_kept, written_kept}
 use Rattle.rkyv_table.specs.Lemmas.Homes.{home_count, home_pos}
 use Rattle.rkyv_table.proofs.WrittenTables.{home_walked, homes_differ}
 
--- the hashes are those of the list before, and the items are those with the new one
+-- the hashes are the hashes of the list before, and the items are its items with the new one
 pub same_hashes : {X : Type 0} (pairs : List (ℕ × X)) (n hash : ℕ) (old new : X) → slice_get pairs n ≡ Some (hash, old) → hashes_of (slice_set pairs n (hash, new)) ≡ hashes_of pairs
 same_hashes [] n hash old new e = absurd (none-some (hash, old) e)
 same_hashes (x ∷ xs) zero hash old new e = ap (λ h. h ∷ hashes_of xs) (sym (ap (λ y. y.0) (same_Some x (hash, old) e)))

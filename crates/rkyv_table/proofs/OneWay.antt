@@ -1,4 +1,4 @@
--- If items are written in one way alone, so are tables of them.
+-- If items are written in only one way, so are tables of them.
 use Rattle.std.proofs.Common.{◌≡◌, ℕ, ◌+◌, ◌-◌, ◌<◌, ◌∙◌, inl, inr, sym, ap, subst, arith, List, [], ◌∷◌, ◌++◌, length, slice_index, Option, Some, None, get_or, eqb}
 use Rattle.std.proofs.lemmas.Grind.{common_steps}
 use Rattle.std.specs.Int.{Width}

@@ -14,7 +14,7 @@ twice_below : (k : ℕ) → 2 * (k * (k - 1) / 2) ≡ k * (k - 1)
 twice_below zero = refl
 twice_below (suc j) = grind (arith, common_steps, twice j)
 
--- the offset of the index with the number `k`, from that of the one before
+-- the offset of the index with the number `k`, from the offset of the one before
 triangle_step : (k : ℕ) → 0 < k → 16 * (k * (k - 1) / 2) + 16 * k ≡ 16 * triangle k
 triangle_step zero h = absurd (omega arith)
 triangle_step (suc j) h = grind (arith, common_steps, twice_below (suc j), twice (suc j))

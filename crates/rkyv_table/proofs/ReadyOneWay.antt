@@ -1,4 +1,4 @@
--- The ready elements are written in one way alone.
+-- The ready elements are written in only one way.
 use Rattle.std.proofs.Common.{arith}
 use Rattle.std.proofs.lemmas.Grind.{common_steps}
 use Rattle.std.specs.Int.{Width}

@@ -139,7 +139,7 @@ module _ (w : Width) (s : ElementSpec) (b c : List ℕ) (p i : ℕ) (kept : Keep
   pub written_kept : (hashes homes : List ℕ) → WrittenAt w b p hashes homes → WrittenAt w c p hashes homes
   written_kept hashes homes x = written_there w b c p kept.header (λ some. sym kept.controls) hashes homes x
 
--- a write of the value of an entry alone keeps the table and the key
+-- a write of only the value of an entry keeps the table and the key
 module _ (w : Width) (k v : ElementSpec) (kl : IsElement k) (vl : IsElement v) (b : List ℕ) (p i : ℕ) (view : Viewable (table_spec w (entry_spec k v)) b p) (walked : IsWalked w b p i)
     (c : List ℕ) (sealed : ModifiesOnly b (value_pos k v (item_at w (entry_spec k v).size b p i)) v.size c) (keeps : StaysValid v b c (value_pos k v (item_at w (entry_spec k v).size b p i))) where
   pub value_kept : KeepsTable w (entry_spec k v) b c p i × SameValue k b c (item_at w (entry_spec k v).size b p i)

@@ -21,7 +21,7 @@ cases_option (Some x) = inr (x, refl)
 
 -- ---- the control bytes
 
--- a control byte below `2 * cap` is that of its bucket
+-- a control byte below `2 * cap` is the control byte of its bucket
 pub control_of : (cap : ℕ) (controls : List ℕ) (q : ℕ) → 0 < cap → IsWrapped cap controls → q < 2 * cap → q < control_count cap → get_or controls q 0 ≡ get_or controls (q % cap) 0
 control_of cap controls q pos r two c = elim (cases_lt q cap) [
   | inl a ↦ ap (λ z. get_or controls z 0) (sym (mod-eq_of_lt a))

@@ -26,7 +26,7 @@ pub own_counted : {F : Type 0} (len : ℕ) (factor : ℕ × ℕ) (max : ℕ) (ot
     → (e : WriteError F) → OwnCause len factor max other e → OwnCause len factor max other' e
 own_counted len factor max other other' f e h = grind (arith, common_steps)
 
--- the result of writing the outer items is that of writing the inner ones
+-- writing the outer items has the result of writing the inner ones
 module _ {F X Y V R : Type 0} (inner_of : X → Y) (yields : List X → Type 0) (yields' : List Y → Type 0) (other other' : ℕ → Type 0) (exactly : (xs : List X) → yields xs → yields' (map inner_of xs))
     (counted : (n : ℕ) → other n → other' n) (of_outer : List X → V) (of_inner : List Y → V) (same : (xs : List X) → of_outer xs ≡ of_inner (map inner_of xs))
     (base : Format V R) (len : ℕ) (factor : ℕ × ℕ) (max limit : ℕ) (o o' : Output) where

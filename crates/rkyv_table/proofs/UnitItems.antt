@@ -21,7 +21,7 @@ module _ {T S BK : Type 0} (inner : T → S) (steps : S → Option BK → S → 
     abbrev AsKeys : Format (List BK) R
     AsKeys = written_as (key_values key) (written_as with_units base)
 
-    -- the result of writing the map of the keys is that of writing the set
+    -- writing the map of the keys has the result of writing the set
     pub results_set : {F : Type 0} (limit : ℕ) (result : Result R (WriteError F))
         → MatchResult result (WroteItems (Drains UnitSteps s) len factor max AsPairs o o' limit) (WriteItemsFails (Drains UnitSteps s) len factor max AsPairs o o' limit (YieldsOtherCount UnitSteps len s))
         → MatchResult result (WroteItems (Drains steps (inner s)) len factor max AsKeys o o' limit) (WriteItemsFails (Drains steps (inner s)) len factor max AsKeys o o' limit (YieldsOtherCount steps len (inner s)))

@@ -110,7 +110,7 @@ one_more cap h b hashes homes controls pos w fits hh e =
       past = λ q g c. let x = at_other controls cap b t q (λ z. omega arith) (λ z. omega arith) in x ∙ w.past q g c;
     }
 
--- the fresh control bytes are those of no item
+-- the fresh control bytes are the control bytes of no item
 pub fresh : (cap : ℕ) → 0 < cap → AreWrittenControls cap [] [] (replicate (control_count cap) 255)
 fresh cap pos = grind (arith, common_steps)
 

@@ -1,4 +1,4 @@
--- Definitions on control bytes, indices and buckets alone.
+-- Definitions on only control bytes, indices and buckets.
 pub mod Numbers
 pub mod Capacity
 pub mod Probe

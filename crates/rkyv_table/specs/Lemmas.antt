@@ -1,4 +1,4 @@
--- Lemmas for the laws of traits and of their impls. A law can import from specs/ alone.
+-- Lemmas for the laws of traits and of their impls. A law can only import from specs/.
 pub mod ValidItemLaws
 pub mod TableLaws
 pub mod ItemPositions

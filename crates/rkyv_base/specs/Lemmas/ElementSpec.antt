@@ -34,7 +34,7 @@ by_align P p1 p2 p4 p8 a h = grind (arith, common_steps)
 pub align_small : (a : ℕ) → IsAlign a → (0 < a) × (a ≤ 8)
 align_small a al = grind (arith, common_steps, by_align)
 
--- the greater of two alignments is one, and its multiples are those of both
+-- the greater of two alignments is one, and its multiples are the multiples of both
 pub max_align : (a b : ℕ) → IsAlign a → IsAlign b → IsAlign (max a b)
 max_align a b ha hb = grind (arith, common_steps, by_align)
 

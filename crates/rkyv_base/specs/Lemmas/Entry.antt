@@ -75,7 +75,7 @@ module _ (k v : ElementSpec) (kl : IsElement k) (vl : IsElement v) where
   same_value b c p small fixed =
       grind (arith, common_steps, size_of_small, key_and_value_inside, agree_on_part)
 
-  -- two lists that agree on an entry and its parts agree on those of its key and its value
+  -- two lists that agree on an entry and its parts agree on the parts of its key and its value
   pub same_parts : (b c : List ℕ) (p lo hi l : ℕ) → lo ≤ hi → (h : IsValidEntry k v b p lo hi l)
       → AgreeOn b c p (p + size_of_whole (whole_size k v)) → AgreeOn b c lo l
       → EntriesAgree k v b c p lo hi h.1 l

@@ -7,7 +7,7 @@ use Rattle.std.proofs.lemmas.Int.{ints}
 use Rattle.rkyv_base.specs.declared.errors.VerifyError.{VerifyError}
 use Rattle.rkyv_base.specs.{PartFails, PartIn}
 
--- a part has one position alone
+-- a part has only one position
 pub part_one : (begin : ℤ) (size align lo hi at at' : ℕ) → PartIn begin size align lo hi at
     → PartIn begin size align lo hi at' → at ≡ at'
 part_one begin size align lo hi at at' p q = omega (arith, ints, p.begins, q.begins)
@@ -20,7 +20,7 @@ pub part_exclusive : (begin : ℤ) (size align lo hi at : ℕ) (e : VerifyError)
     → PartIn begin size align lo hi at → PartFails begin size align lo hi e → ⊥
 part_exclusive begin size align lo hi at e p h = grind (arith, common_steps, ints)
 
--- a part has one fault alone
+-- a part has only one fault
 pub part_one_failure : (begin : ℤ) (size align lo hi : ℕ) (e e' : VerifyError)
     → PartFails begin size align lo hi e → PartFails begin size align lo hi e' → e ≡ e'
 part_one_failure begin size align lo hi e e' (inl h) (inl k) = h.1 ∙ sym k.1

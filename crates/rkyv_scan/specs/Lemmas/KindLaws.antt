@@ -35,6 +35,6 @@ word_lawful = record {
   lowest = λ s t k h low. lowest_is_equal s t k h low;
 }
 
--- a kind that marks the equal bytes alone is lawful
+-- a kind that only marks the equal bytes is lawful
 pub equal_lawful : (k : ℕ) → k ≤ 4 → IsKind (record { width = 2 ^ k; marks = is_equal_at })
 equal_lawful k small = grind (arith, common_steps)

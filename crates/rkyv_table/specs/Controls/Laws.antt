@@ -98,7 +98,7 @@ MarkedAreWalked = (kind : Kind) (cap len hash tag p q : ℕ) (controls : List �
     → Contains (strides hash cap) p → p ≤ q → q < p + 16 → marked kind controls tag p q ≡ true
     → (q < 2 * cap) × Contains (walk controls cap) (q % cap)
 
--- each accepted home bucket is that of an item under `hash`
+-- each accepted home bucket has an item under `hash`
 abbrev pub IsUnderHash : ℕ → List ℕ → List ℕ → (ℕ → Bool) → Type 0
 IsUnderHash hash hashes xs accept = (i : ℕ) → i < length hashes → accept (slice_index xs i) ≡ true
     → slice_index hashes i ≡ hash

@@ -28,7 +28,7 @@ with_home cap taken hash = taken ++ unwrap_or (find (is_free taken) (probed hash
 abbrev pub homes : ℕ → List ℕ → List ℕ
 homes cap hashes = fold (with_home cap) [] hashes
 
--- the control bytes mirror those of the buckets: from `cap` on they repeat the first ones,
+-- the control bytes mirror the buckets' ones: from `cap` on they repeat the first ones,
 -- and from `2 * cap` on they are empty
 pub record IsWrapped (cap : ℕ) (controls : List ℕ) : Type 0 where
   pub count : length controls ≡ control_count cap
@@ -41,7 +41,7 @@ unfoldable pub walk : List ℕ → ℕ → List ℕ
 walk controls cap = filter (λ b. is_full (slice_index controls b)) (range_with_len 0 cap)
 
 -- the valid control bytes of a table of `len` items. Some bucket is empty, `len` are full,
--- and the control bytes mirror those of the buckets
+-- and the control bytes mirror the buckets' ones
 pub record AreValidControls (cap len : ℕ) (controls : List ℕ) : Type 0 where
   pub room : len < cap
   pub full : length (walk controls cap) ≡ len

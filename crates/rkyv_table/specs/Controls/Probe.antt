@@ -8,7 +8,7 @@ use Rattle.rkyv_table.specs.Controls.Numbers.{control_count, modulus, probe_capa
 abbrev pub probe_index : ℕ → ℕ → ℕ → ℕ
 probe_index s m k = (s + 16 * (k * (k + 1) / 2)) % m
 
--- the indices at which the strides of a hash begin: those of the probe sequence
+-- the indices at which the strides of a hash begin: the indices of the probe sequence
 -- below the probe capacity, in order
 unfoldable pub strides : ℕ → ℕ → List ℕ
 strides hash cap = filter (λ p. ltb p (probe_capacity cap))

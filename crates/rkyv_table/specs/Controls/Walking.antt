@@ -23,7 +23,7 @@ pub record IsWalk (controls : List ℕ) (cap base width : ℕ) (indices : List �
   pub marks : indices ≡ filter (λ j. is_full (slice_index controls (base + j)))
       (range_with_len (first_index width indices) (width - first_index width indices))
 
--- the remaining buckets of a walk: those of the current mask below `cap`, and the full buckets
+-- the remaining buckets of a walk: the current mask's below `cap`, and the full buckets
 -- of the groups after it
 unfoldable pub left : List ℕ → ℕ → ℕ → ℕ → List ℕ → List ℕ
 left controls cap base width indices =

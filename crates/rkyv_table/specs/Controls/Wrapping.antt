@@ -1,8 +1,8 @@
--- The first control byte that fails to mirror that of its bucket.
+-- The first control byte that fails to mirror its bucket's control byte.
 use Rattle.std.specs.Prelude.{◌≡◌, ℕ, ◌*◌, ◌-◌, ◌<◌, ◌≤◌, List, slice_index}
 use Rattle.rkyv_table.specs.Controls.Numbers.{control_count}
 
--- the control byte at index `q` mirrors that of its bucket, or is empty from `2 * cap` on
+-- the control byte at index `q` mirrors its bucket's, or is empty from `2 * cap` on
 abbrev pub IsWrappedAt : ℕ → List ℕ → ℕ → Type 0
 IsWrappedAt cap controls q = (q < 2 * cap → slice_index controls q ≡ slice_index controls (q - cap))
     × (2 * cap ≤ q → 128 ≤ slice_index controls q)

@@ -51,7 +51,7 @@ pub walk_below : (controls : List ℕ) (cap : ℕ) → AllBelow cap (walk contro
 unfolding walk
 walk_below controls cap = range_below (λ b. is_full (slice_index controls b)) cap
 
--- control bytes that mirror those of the buckets have no first failure
+-- control bytes that mirror the buckets' control bytes have no first failure
 repeats_exclusive : (cap q : ℕ) (controls : List ℕ) → IsWrapped cap controls
     → FirstUnwrapped cap controls q → ⊥
 repeats_exclusive cap q controls r u =

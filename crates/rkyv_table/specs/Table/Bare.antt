@@ -80,8 +80,8 @@ WritesFound {R} Writes b found result c =
     (λ q. (r : R) × (result ≡ Some r) × Writes r b q c)
 
 -- a writer was called with the item that a lookup under `hash` finds in the table `t`. A write
--- of the item alone that keeps it valid keeps the table. If nothing is found, the bytes `c`
--- afterwards are those of the table
+-- of only the item that keeps it valid keeps the table. If nothing is found, the bytes `c`
+-- afterwards are the bytes of the table
 pub record LendsFound {T R : Type 0} (t : TableIn) (post : View T → Bool → Type 0)
     (Writes : R → List ℕ → ℕ → List ℕ → Type 0) (hash : ℕ) (result : Option R)
     (c : List ℕ) : Type 0 where

@@ -31,7 +31,7 @@ IsFirstOf {X} represents c accept items result =
     (λ q. (x : X) × (first_of accept items ≡ Some x) × represents c q x)
 
 -- the position of the first accepted item, or `None` if no item is accepted.
--- `positions`: those of the items, in the same order
+-- `positions`: positions of the items, in the same order
 abbrev pub first_pos : {X : Type 0} → List ℕ → (X → Bool) → List X → Option ℕ
 first_pos positions accept items = option_map (slice_index positions) (position accept items)
 

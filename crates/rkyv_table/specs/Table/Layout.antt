@@ -33,15 +33,15 @@ AreValidItems s b begin cap lo l =
     AreValidAt s (bucket_at s.size begin cap) b begin
     (walk (controls_at s.size b begin cap) cap) lo l
 
--- the buckets and control bytes at `begin` are valid: the control bytes are those of `len` items,
+-- the buckets and control bytes at `begin` are valid: there are `len` items,
 -- and each item is valid
 pub record IsPart (s : ElementSpec) (b : List ℕ) (cap len lo begin : ℕ) : Type 0 where
   pub controls : AreValidControls cap len (controls_at s.size b begin cap)
   pub last : ℕ
   pub items : AreValidItems s b begin cap lo last
 
--- `e`: first fault of the buckets and control bytes. It is that of an item, or else of the number
--- of items, or else of a control byte after those of the buckets
+-- `e`: first fault of the buckets and control bytes: an item's fault, or else of the number
+-- of items, or else of a control byte after the buckets' control bytes
 abbrev pub FailsInside : ElementSpec → List ℕ → ℕ → ℕ → ℕ → ℕ → VerifyError → Type 0
 FailsInside s b cap len lo begin e =
     FirstFails s (bucket_at s.size begin cap) b begin (walk (controls_at s.size b begin cap) cap) lo
@@ -72,7 +72,7 @@ TableFailsAt s b decoded cap len lo hi e =
     ⊎ ((len < cap) × (begin : ℕ) × PartIn decoded (part_size s.size cap) s.align lo hi begin
     × FailsInside s b cap len lo begin e)
 
--- the header at `p` is that of a valid table
+-- the header at `p` is the header of a valid table
 abbrev pub IsValidTable : Width → ElementSpec → List ℕ → ℕ → ℕ → ℕ → ℕ → Type 0
 IsValidTable w s b p lo hi l =
     TableAt s b (decode_begin w s.size b p) (cap_at w b p) (len_at w b p) lo hi l

@@ -30,6 +30,6 @@ pub record StaysAt (s : ElementSpec) (b c : List ℕ) (q : ℕ) : Type 0 where
   pub fixed : AgreeOn b c q (q + s.size)
   pub parts : AgreeOn b c valid.lower valid.rest
 
--- `fits` of a key depends only on the bytes of the key and on those of its parts
+-- `fits` of a key depends only on the bytes of the key and of its parts
 abbrev pub RestsOnParts : ElementSpec → (List ℕ → ℕ → Bool) → Type 0
 RestsOnParts k fits = (b c : List ℕ) (q : ℕ) → StaysAt k b c q → fits c q ≡ fits b q

@@ -1,4 +1,4 @@
--- Values that are written in one way alone.
+-- Values that are written in only one way.
 use Rattle.std.specs.Prelude.{◌≡◌, ℕ, List}
 use Rattle.rkyv_base.specs.{Format}
 

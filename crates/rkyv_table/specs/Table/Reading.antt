@@ -81,7 +81,7 @@ module _ {T W : Type 0} {ts : Specs T} {wt : Words W} where
         (accept : ℕ → Bool) → ComparesBy t accept → result
         ≡ pos_found kind wt.word ts.spec.size (table_bytes t) (table_pos t) hash accept
 
-    -- the position that a lookup finds in a written table: that of the first accepted item
+    -- the position that a lookup finds in a written table: the position of the first accepted item
     -- in insertion order. This is for a comparison by positions that accepts only items under
     -- `hash`
     abbrev pub FindsFirst : ArchivedHashTable T W ts wt → ℕ → Option ℕ → Type 0

@@ -44,7 +44,7 @@ pub record SameArchive {T : Type 0} (before after : RawIterSeal T) : Type 0 wher
   pub reference : after.archive.ghost_name ≡ before.archive.ghost_name
   pub bytes : after.archive.now ≡ before.archive.now
 
--- `q`: position of the item in bucket `i` of the table at `p`. Each write of the item alone
+-- `q`: position of the item in bucket `i` of the table at `p`. Each write of only the item
 -- that keeps it valid keeps the table
 pub record IsItemAt (w : Width) (s : ElementSpec) (b : List ℕ) (p i q : ℕ) : Type 0 where
   pub walked : IsWalked w b p i

@@ -41,7 +41,7 @@ abbrev pub ComparesByAt : {T W : Type 0} → (View T → Bool → Type 0) → Wi
     → ArchiveSeal (TableOf T W) → (ℕ → Bool) → Type 0
 ComparesByAt post w s a accept = ComparesByOf post w s (archive_in a) (pos_in a) accept
 
--- `x`: seal of an item of the table. Each write through it alone that keeps the item valid keeps
+-- `x`: seal of an item of the table. Each write through only it that keeps the item valid keeps
 -- the table
 pub record IsItemSeal {T W : Type 0} (w : Width) (s : ElementSpec) (a : ArchiveSeal (TableOf T W))
     (x : Seal T) : Type 0 where
@@ -67,7 +67,7 @@ SealsFound post w s a hash result =
     (accept : ℕ → Bool) → ComparesByAt post w s a accept
     → result ≡ pos_found generic_kind w s.size (archive_in a) (pos_in a) hash accept
 
--- the position that a lookup finds in a written table: that of the first accepted item
+-- the position that a lookup finds in a written table: the position of the first accepted item
 -- in insertion order. This is for a comparison by positions that accepts only items under `hash`
 abbrev pub SealsFirst : {T W : Type 0} → (View T → Bool → Type 0) → Width → ElementSpec
     → ArchiveSeal (TableOf T W) → ℕ → Option ℕ → Type 0

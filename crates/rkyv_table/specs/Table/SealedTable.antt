@@ -31,12 +31,12 @@ pub record KeepsTable (w : Width) (s : ElementSpec) (b c : List ℕ) (p i : ℕ)
   pub controls : table_controls w c p ≡ table_controls w b p
   pub others : (j : ℕ) → IsWalked w b p j → j ≢ i → SameValue s b c (item_at w s.size b p j)
 
--- every write of the item in bucket `i` alone that keeps it valid keeps the table
+-- every write of only the item in bucket `i` that keeps it valid keeps the table
 abbrev pub KeptByWrites : Width → ElementSpec → List ℕ → ℕ → ℕ → Type 0
 KeptByWrites w s b p i = (c : List ℕ) → ModifiesOnly b (item_at w s.size b p i) s.size c
     → StaysValid s b c (item_at w s.size b p i) → KeepsTable w s b c p i
 
--- every write of the value alone of the entry in bucket `i` that keeps it valid keeps the table
+-- every write of only the value of the entry in bucket `i` that keeps it valid keeps the table
 -- and the key
 abbrev pub KeptByValueWrites : Width → ElementSpec → ElementSpec → List ℕ → ℕ → ℕ → Type 0
 KeptByValueWrites w k v b p i =

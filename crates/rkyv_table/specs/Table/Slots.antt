@@ -23,7 +23,7 @@ pub record ItemFormat (X R : Type 0) : Type 1 where
   pub spec : ElementSpec
   pub format : Format X R
 
--- the format of items that lend values in the format `f`, as `lent` says
+-- the format of items from which values are borrowed in the format `f`, as `lent` says
 abbrev pub item_format : {X V R : Type 0} → ElementSpec → (X → V) → Format V R → ItemFormat X R
 item_format s lent f = record { spec = s; format = written_as lent f }
 
@@ -156,8 +156,8 @@ module _ {X R : Type 0} (s : ElementSpec) (f : Format X R) (slots : List (Option
   BeforeBuckets a rs front = SlotParts f slots p a rs
       × (front ≡ a ++ zeros (padding s.align (p + length a)))
 
-  -- `step`: next step of writing the table, after `front`. It is that of a part, the zeros,
-  -- that of a bucket, or the control bytes
+  -- `step`: next step of writing the table, after `front`. It is the step of a part, the zeros,
+  -- the step of a bucket, or the control bytes
   abbrev pub TableNext : List ℕ → Step → Type 0
   TableNext front step = PartsNext f slots p front step
       ⊎ ((rs : List R) × SlotParts f slots p front rs

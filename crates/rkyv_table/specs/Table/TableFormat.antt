@@ -71,7 +71,7 @@ table_format w s f load_factor = record {
   overflow = λ pairs r p. HeaderOverflows w r.len r.pos p;
 }
 
--- the buckets from `begin` on represent the pairs: the control bytes are those of the hashes,
+-- the buckets from `begin` on represent the pairs: the control bytes have the hashes,
 -- and each item is in its home bucket
 pub record BucketsRepresent {X : Type 0} (size : ℕ) (represents : List ℕ → ℕ → X
     → Type 0) (c : List ℕ) (cap begin : ℕ) (pairs : List (ℕ × X)) : Type 0 where

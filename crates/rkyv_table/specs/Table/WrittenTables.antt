@@ -23,7 +23,7 @@ RepresentedWereWritten {X} w s represents factor =
     → IsWrittenOf w s.size represents c p pairs
 
 -- after a write of one item in place, a table that was written from pairs is one
--- that was written from the pairs with the new item. Its hash is that of the old item
+-- that was written from the pairs with the new item. Its hash is the old item's hash
 abbrev pub ItemsWrittenRepresent : {X : Type 0} → Width → ElementSpec → (List ℕ → ℕ → X → Type 0)
     → Type 0
 ItemsWrittenRepresent {X} w s represents =

@@ -22,7 +22,7 @@ first_marks-requires g c = λ some.
     let e = ap length (c.controls-controls.ensures (rw t.decoded.cap cap)) in
     omega (arith, long, e)
 
--- the remaining buckets are those of the walk
+-- the remaining buckets are the buckets of the walk
 module _ (g : _) (c : After-first_marks g) where
   abbrev walked : List ℕ
   walked = walk (table_controls g.W.Word.word (table_bytes c.args.self) (table_pos c.args.self)) (cap_at g.W.Word.word (table_bytes c.args.self) (table_pos c.args.self))
