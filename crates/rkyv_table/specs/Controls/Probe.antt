@@ -27,9 +27,10 @@ buckets_at cap p = map (λ q. q % cap) (filter (λ q. ltb q (2 * cap)) (range_wi
 abbrev pub probed : ℕ → ℕ → List ℕ
 probed hash cap = flat_map (buckets_at cap) (strides hash cap)
 
--- the invariant of a `Probe`. `offset`: offset of the last considered index, `index`: number
--- of considered indices
-pub record IsProbe (cap start offset index : ℕ) : Type 0 where
+-- the invariant of a `Probe`. `pos`: last considered index, or the start, `step`: 16 times
+-- the number of considered indices
+pub record IsProbe (cap start pos step : ℕ) : Type 0 where
   pub begun : start < cap
   pub fits : control_count cap ≤ 2 ^ 63
-  pub at : offset ≡ 16 * (index * (index - 1) / 2) % modulus cap
+  pub whole : step % 16 ≡ 0
+  pub at : pos ≡ probe_index start (modulus cap) (step / 16 - 1)

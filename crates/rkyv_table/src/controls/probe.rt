@@ -2,7 +2,7 @@
 //!
 //! The steps of the sequence grow by 16 each, modulo a power of two. Indices
 //! from the probe capacity on are skipped.
-ghost use Rattle.std.specs.Prelude.{List, ℕ, ◌%◌, ◌<◌, ◌^◌, ◌≡◌, ◌≤◌};
+ghost use Rattle.std.specs.Prelude.{List, ℕ, ◌%◌, ◌/◌, ◌<◌, ◌^◌, ◌≡◌, ◌≤◌};
 ghost use Rattle.std.specs.Iterator.{YieldsFirst, item_count};
 ghost use Rattle.rkyv_table.specs.{IsProbe, control_count, strides, strides_from};
 
@@ -14,18 +14,18 @@ use std::marker::Model;
 pub struct Probe {
     cap: usize,
     start: usize,
-    // The distance of the last considered index from the start, modulo the modulus.
-    offset: usize,
-    // The number of indices of the sequence that were considered.
-    index: usize,
+    // The last considered index of the sequence, or the start if there is none.
+    pos: usize,
+    // The distance of the next index from that one: 16 times the number of considered indices.
+    step: usize,
 }
 
 impl Model for Probe {
     ghost Value = { List ℕ };
 
-    ghost view = { λ p. strides_from p.cap p.start p.index };
+    ghost view = { λ p. strides_from p.cap p.start (p.step / 16) };
 
-    ghost invariant = { λ p. IsProbe p.cap p.start p.offset p.index };
+    ghost invariant = { λ p. IsProbe p.cap p.start p.pos p.step };
 }
 
 impl Probe {
@@ -49,8 +49,8 @@ impl Probe {
         Probe {
             cap,
             start,
-            offset: 0,
-            index: 0,
+            pos: start,
+            step: 0,
         }
     }
 }
@@ -65,18 +65,17 @@ impl Iterator for Probe {
     // The first index doesn't need the modulus.
     #[inline]
     fn next(&mut self) -> Option<usize> {
-        if self.index == 0 {
-            self.index = 1;
+        if self.step == 0 {
+            self.step = 16;
             return Some(self.start);
         }
         let limit = numbers::probe_capacity(self.cap);
         let modulus = numbers::modulus(self.cap);
-        while self.index < modulus / 16 {
-            self.offset = (self.offset + 16 * self.index) & (modulus - 1);
-            self.index += 1;
-            let pos = (self.start + self.offset) & (modulus - 1);
-            if pos < limit {
-                return Some(pos);
+        while self.step < modulus {
+            self.pos = (self.pos + self.step) & (modulus - 1);
+            self.step += 16;
+            if self.pos < limit {
+                return Some(self.pos);
             }
         }
         None
