@@ -134,6 +134,17 @@ later_started h cap p free c n = elim c [ inl m ↦ m | inr e ↦ rw e at n ]
 pub member_front : (p : ℕ) (ps qs : List ℕ) → qs ≡ p ∷ ps → list_any (eqb p) qs ≡ true
 member_front p ps qs e = ap (list_any (eqb p)) e ∙ or_left (eqb p p) (list_any (eqb p) ps) (eq-eqb p p refl)
 
+-- the first stride shows a free bucket
+pub first_shown : (h cap : ℕ) (controls : List ℕ) (q b : ℕ) → IsWrapped cap controls → b < cap → is_empty_at controls b ≡ true
+    → find (is_empty_at controls) (range_with_len (start h cap) 16) ≡ Some q → (q < 2 * cap) × (find (is_empty_at controls) (probed h cap) ≡ Some (q % cap))
+first_shown h cap controls q b r hb fb e =
+    let pos : 0 < cap = omega (arith, hb) in
+    let p = start h cap in
+    let head = strides_head h cap pos in
+    let member = member_front p head.0 (strides h cap) head.1 in
+    let s = some_shown h cap controls p q b r hb fb member (stride_below h cap p pos member) (inr refl) e in
+    (s.0, first_at h cap p (q % cap) (is_empty_at controls) head.0 (strides h cap) head.1 s.1 refl)
+
 pub member_rest : (p x : ℕ) (ps qs : List ℕ) → qs ≡ p ∷ ps → list_any (eqb x) ps ≡ true → list_any (eqb x) qs ≡ true
 member_rest p x ps qs e m = ap (list_any (eqb x)) e ∙ or_right (eqb x p) (list_any (eqb x) ps) m
 

@@ -38,6 +38,37 @@ pub fn place_one<G: GroupKind>(controls: &mut [u8], cap: usize, hash: u64) -> us
     place_from::<G>(controls, cap, start(hash, cap), hash)
 }
 
+// Returns the first empty bucket that a hash probes, by the start of the probe sequence.
+#[cold]
+#[inline(never)]
+fn later_home<G: GroupKind>(controls: &[u8], cap: usize, start: usize, hash: u64) -> usize
+    requires wrapped { IsWrapped cap controls.now }
+    requires room { HasRoom cap controls.now }
+    requires begun { start ≡ hash % cap }
+    ensures { find (is_empty_at controls.now) (probed hash cap) ≡ Some result }
+{
+    for pos in Probe::starting_at(start, cap) {
+        if let Some(index) = first_empty::<G>(controls, pos) {
+            return bucket_of(index, cap);
+        }
+    }
+    unreachable!()
+}
+
+// Returns the first empty bucket that a hash probes. The first stride mostly has it.
+#[inline]
+fn home<G: GroupKind>(controls: &[u8], cap: usize, start: usize, hash: u64) -> usize
+    requires wrapped { IsWrapped cap controls.now }
+    requires room { HasRoom cap controls.now }
+    requires begun { start ≡ hash % cap }
+    ensures { find (is_empty_at controls.now) (probed hash cap) ≡ Some result }
+{
+    match first_empty::<G>(controls, start) {
+        Some(index) => bucket_of(index, cap),
+        None => later_home::<G>(controls, cap, start, hash),
+    }
+}
+
 /// Places an item as `place_one` does, by the start of the probe sequence, `hash % cap`.
 #[inline]
 pub fn place_from<G: GroupKind>(controls: &mut [u8], cap: usize, start: usize, hash: u64) -> usize
@@ -47,18 +78,13 @@ pub fn place_from<G: GroupKind>(controls: &mut [u8], cap: usize, start: usize, h
     ensures first { find (is_empty_at controls.old) (probed hash cap) ≡ Some result }
     ensures after { controls.new ≡ with_control controls.old cap result (tag hash) }
 {
-    for pos in Probe::starting_at(start, cap) {
-        if let Some(index) = first_empty::<G>(controls, pos) {
-            let bucket = bucket_of(index, cap);
-            let tag = tag(hash);
-            controls[bucket] = tag;
-            if bucket < controls.len() - cap {
-                controls[cap + bucket] = tag;
-            }
-            return bucket;
-        }
+    let bucket = home::<G>(controls, cap, start, hash);
+    let tag = tag(hash);
+    controls[bucket] = tag;
+    if bucket < controls.len() - cap {
+        controls[cap + bucket] = tag;
     }
-    unreachable!()
+    bucket
 }
 
 /// Places an item for each hash, in order, and returns their buckets.

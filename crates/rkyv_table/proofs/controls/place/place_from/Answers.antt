@@ -1,72 +1,10 @@
-use Rattle.std.proofs.lemmas.Grind.{common_steps}
-use Rattle.std.proofs.Common.{arith, ◌≡◌, ◌*◌, ◌%◌, ◌<◌, get_or, inr, sym, ap, ◌∙◌, Some}
-use Rattle.std.specs.List.{find}
-use Rattle.std.proofs.lemmas.Bool.{le-leb}
-use Rattle.rkyv_table.specs.{is_empty_at, probed}
-use Rattle.rkyv_table.proofs.Coverage.{stride_below}
-use Rattle.rkyv_table.proofs.FirstFree.{begun, empty_index_is, first_at, later_started, member_front, member_rest, none_shown, passes_on, runs_out, some_shown}
+use Rattle.std.proofs.Common.{arith}
+use Rattle.rkyv_table.specs.{is_empty_at, strides}
+use Rattle.rkyv_table.proofs.Written.{probed_below}
 use Rattle.rkyv_table.proofs.controls.place.place_from.Goals as goal
-use Rattle.rkyv_table.proofs.controls.place.place_from.Goals.{In-Some-first_empty}
 
--- the first empty index belongs to the first probed bucket whose control byte is empty
-found_here : (g : _) (c : In-Some-first_empty g)
-    → (c.in-Some-first_empty.index < 2 * c.args.cap) × (find (is_empty_at c.args.controls.now) (probed c.args.hash c.args.cap) ≡ Some (c.in-Some-first_empty.index % c.args.cap))
-found_here g c =
-    let h = c.args.hash in
+pub bounds-controls-bucket : goal.bounds-controls-bucket
+bounds-controls-bucket g c =
     let cap' = c.args.cap in
-    let inv = c.loop-pos.invariant in
-    let more = c.in-Some.ensures.steps in
-    let lp = stride_below h cap' c.in-Some.pos (omega (arith, c.requires.room.1)) (inv.members c.in-Some.pos (member_front c.in-Some.pos c.next.new.self c.loop-pos.pos-iterator more)) in
-    let controls = c.args.controls.now in
-    let same = rw inv.kept at inv.same in
-    let st = rw inv.kept at inv.started in
-    let e = rw inv.kept at c.in-Some-first_empty.ensures in
-    let e' = sym (e ∙ empty_index_is controls c.in-Some.pos) in
-    let w = c.requires.room in
-    let before = c.loop-pos.pos-iterator in
-    let after = c.next.new.self in
-    let s = some_shown h cap' controls c.in-Some.pos c.in-Some-first_empty.index w.0 c.requires.wrapped w.1 (le-leb 128 (get_or controls w.0 0) w.2)
-    (inv.members c.in-Some.pos (member_front c.in-Some.pos after before more)) lp
-    (begun h cap' c.in-Some.pos (is_empty_at controls) after before (omega (arith, w.1)) st more) e' in
-    (s.0, first_at h cap' c.in-Some.pos (c.in-Some-first_empty.index % cap') (is_empty_at controls) after before more s.1 same)
-
-pub first_empty-requires : goal.first_empty-requires
-first_empty-requires g c = grind (arith, common_steps, member_front c.in-Some.pos c.next.new.self c.loop-pos.pos-iterator c.in-Some.ensures.steps, stride_below)
-
-pub bucket_of-bucket-requires : goal.bucket_of-bucket-requires
-bucket_of-bucket-requires g c = record { below = (found_here g c).0 }
-
-pub returns-then-bucket-controls-clause-first : goal.returns-then-bucket-controls-clause-first
-returns-then-bucket-controls-clause-first g c = (found_here g (goal.at.returns-then-bucket-controls-clause-first g c).In-Some-first_empty).1 ∙ ap Some (sym c.bucket_of-bucket.ensures)
-
-pub returns-else-bucket-controls-clause-first : goal.returns-else-bucket-controls-clause-first
-returns-else-bucket-controls-clause-first g c = (found_here g (goal.at.returns-else-bucket-controls-clause-first g c).In-Some-first_empty).1 ∙ ap Some (sym c.bucket_of-bucket.ensures)
-
-pub loop-pos-preserved : goal.loop-pos-preserved
-loop-pos-preserved g c =
-    let h = c.args.hash in
-    let cap' = c.args.cap in
-    let inv = c.loop-pos.invariant in
-    let more = c.in-Some.ensures.steps in
-    let lp = stride_below h cap' c.in-Some.pos (omega (arith, c.requires.room.1)) (inv.members c.in-Some.pos (member_front c.in-Some.pos c.next.new.self c.loop-pos.pos-iterator more)) in
-    let free = is_empty_at c.loop-pos.controls in
-    let w = c.requires.room in
-    let r = rw (← inv.kept) at c.requires.wrapped in
-    let e = sym (c.in_default.ensures ∙ empty_index_is c.loop-pos.controls c.in-Some.pos) in
-    let none = none_shown cap' c.loop-pos.controls c.in-Some.pos (omega (arith, w.1)) r lp e in
-    record {
-      kept = inv.kept;
-      same = passes_on h cap' c.in-Some.pos free c.next.new.self c.loop-pos.pos-iterator more none inv.same;
-      members = λ p m. inv.members p (member_rest c.in-Some.pos p c.next.new.self c.loop-pos.pos-iterator more m);
-      started = inr (later_started h cap' c.in-Some.pos free (begun h cap' c.in-Some.pos free c.next.new.self c.loop-pos.pos-iterator (omega (arith, w.1)) inv.started more) none);
-    }
-
-pub unreachable-requires : goal.unreachable-requires
-unreachable-requires g c =
-    let inv = c.loop-pos.invariant in
-    let w = c.requires.room in
-    let same = rw inv.kept at inv.same in
-    runs_out c.args.hash c.args.cap w.0 (is_empty_at c.args.controls.now) c.loop-pos.pos-iterator w.1 (le-leb 128 (get_or c.args.controls.now w.0 0) w.2) c.in-None.ensures.steps.0 same
-
-pub returns-else-bucket-controls-clause-after : goal.returns-else-bucket-controls-clause-after
-returns-else-bucket-controls-clause-after g c = grind (arith, common_steps)
+    let below = probed_below (is_empty_at c.args.controls.now) cap' c.home-bucket.result (strides c.args.hash cap') (omega (arith, c.requires.room.1)) c.home-bucket.ensures in
+    omega (arith, below, c.requires.wrapped.count)
