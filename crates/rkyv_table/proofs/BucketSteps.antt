@@ -75,6 +75,11 @@ module _ {X R : Type 0} (size limit : ℕ) (f : Format X R) (slots : List (Optio
         → Appends o1 o2 one → end_of o2 ≤ limit → BucketsWritten i more o2
     down_step slot more one e h len a lim = grind (arith, common_steps, down_none, down_some)
 
+    -- the bucket is the next piece
+    pub bucket_next : (s : Option X) → get_or slots i None ≡ s → (more : List R) (one : List ℕ) → Filled size f s left more (end_of o1) one → BucketNext size f slots rs (end_of o) d.out (piece one)
+    bucket_next slot e more one im =
+        (i, left, (d.done, d.all, shown_here), slot, read_at slot e, inl (more, one, subst (λ n. Filled size f slot left more n one) here im, refl))
+
     module _ {F : Type 0} (s : Option X) (e : get_or slots i None ≡ s) where
       abbrev BucketsFail : Output → WriteError F → Type 0
       BucketsFail o' err = WriteFails limit (BucketNext size f slots rs (end_of o)) o o' err

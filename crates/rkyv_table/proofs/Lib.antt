@@ -29,6 +29,8 @@ pub mod FirstFound
 pub mod PlacingSteps
 pub mod PartSteps
 pub mod BucketSteps
+pub mod Chunks
+pub mod ChunkSteps
 pub mod TableSteps
 pub mod TableResults
 pub mod RawWalks

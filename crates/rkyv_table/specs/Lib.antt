@@ -50,6 +50,7 @@ unfoldable pub use Table.Slots.{Filled, FillsBucket, PartsNext, SlotImages, Slot
 unfoldable pub use Table.Slots.{WritesBuckets, WritesParts, WritesSlots, WroteBuckets, bucket_with}
 unfoldable pub use Table.Slots.{filled, filled_from, item_format, placed_slots, slots_with}
 pub use Table.Slots.{Bucket, ItemFormat, PlacedSlots, ResolvedSlots, TableBytes}
+unfoldable pub use Table.Chunks.{AppendsFilled, FitInChunks, MadeRoom, MakesRoom}
 unfoldable pub use Table.PlacedItems.{HasEmptyBucket, hashes_of, items_of}
 pub use Table.PlacedItems.{AreInSlots, ArePlaced}
 unfoldable pub use Table.Counting.{Counted, CountedOn, CountsDiffer, YieldsBoth, YieldsOtherCount}

@@ -6,6 +6,7 @@ pub mod Positions
 pub mod Reading
 pub mod Decoded
 pub mod Slots
+pub mod Chunks
 pub mod PlacedItems
 pub mod Counting
 pub mod Input

@@ -6,7 +6,7 @@ use Rattle.rkyv_table.proofs.FirstFree.{empty_index_is, first_shown}
 use Rattle.rkyv_table.proofs.controls.place.home.Goals as goal
 use Rattle.rkyv_table.proofs.controls.place.home.Goals.{In-Some}
 
--- the first empty index is that of the first probed bucket whose control byte is empty
+-- the first empty index belongs to the first probed bucket whose control byte is empty
 found_here : (g : _) (c : In-Some g)
     → (c.in-Some.index < 2 * c.args.cap) × (find (is_empty_at c.args.controls.now) (probed c.args.hash c.args.cap) ≡ Some (c.in-Some.index % c.args.cap))
 found_here g c =

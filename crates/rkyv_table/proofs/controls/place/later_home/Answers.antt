@@ -8,7 +8,7 @@ use Rattle.rkyv_table.proofs.FirstFree.{begun, empty_index_is, first_at, later_s
 use Rattle.rkyv_table.proofs.controls.place.later_home.Goals as goal
 use Rattle.rkyv_table.proofs.controls.place.later_home.Goals.{In-Some-first_empty}
 
--- the first empty index is that of the first probed bucket whose control byte is empty
+-- the first empty index belongs to the first probed bucket whose control byte is empty
 found_here : (g : _) (c : In-Some-first_empty g)
     → (c.in-Some-first_empty.index < 2 * c.args.cap) × (find (is_empty_at c.args.controls.now) (probed c.args.hash c.args.cap) ≡ Some (c.in-Some-first_empty.index % c.args.cap))
 found_here g c =
