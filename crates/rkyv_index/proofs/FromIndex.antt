@@ -1,7 +1,7 @@
 -- From the index that a lookup finds to the clauses on its result.
 use Rattle.rkyv_base.specs.declared.element.HasSpec.{Ghosts as Specs}
 use Rattle.rkyv_base.specs.declared.width.Word.{Ghosts as Words}
-use Rattle.std.proofs.Common.{◌≡◌, ℕ, None, Some, Bool, List, Option, subst, sym, arith}
+use Rattle.std.proofs.Common.{◌≡◌, ℕ, None, Some, Bool, Option, subst, sym, arith}
 use Rattle.std.proofs.lemmas.Grind.{common_steps}
 use Rattle.std.specs.Option.{is_some}
 use Rattle.std.specs.Prelude.{IfSome}

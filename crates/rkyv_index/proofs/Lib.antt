@@ -10,6 +10,7 @@ pub mod SameEntries
 pub mod Completeness
 pub mod QueryIndices
 pub mod RowSteps
+pub mod RowChunks
 pub mod IndexSteps
 pub mod LentRow
 pub mod EntrySteps

@@ -1,5 +1,5 @@
 -- One more value of a row.
-use Rattle.std.proofs.Common.{◌≡◌, ℕ, suc, ◌+◌, ◌≤◌, refl, sym, ap, ◌∙◌, subst, arith, List, [], ◌∷◌, ◌++◌, length, take, drop, Some, append-nil, append_assoc, length-append}
+use Rattle.std.proofs.Common.{◌≡◌, ℕ, suc, ◌+◌, ◌≤◌, refl, sym, ap, ◌∙◌, subst, arith, inl, List, [], ◌∷◌, ◌++◌, length, take, drop, Some, append-nil, append_assoc, length-append}
 use Rattle.std.proofs.lemmas.Grind.{common_steps}
 use Rattle.std.specs.Prelude.{slice_get}
 use Rattle.std.proofs.lemmas.List.{drop-drop, get_or-drop, length-drop, take_more}
@@ -96,6 +96,10 @@ module _ {X R : Type 0} (f : Format X R) (limit : ℕ) (xs : List X) (rs : List 
       left = tail_dropped rs i r more dropped;
       within = lim;
     }
+
+    -- the own bytes of the value are the next piece
+    pub row_next : (one : List ℕ) → f.image x r (end_of o1) one → RowNext f xs rs (end_of o) w.out (piece one)
+    row_next one im = (i, x, r, before, inl (one, subst (λ n. f.image x r n one) here im, refl))
 
     module _ {F : Type 0} where
       abbrev RowFails : Output → WriteError F → Type 0

@@ -1,7 +1,7 @@
 -- The clauses of lookups on their results.
 use Rattle.rkyv_base.specs.declared.element.HasSpec.{Ghosts as Specs}
 use Rattle.rkyv_base.specs.declared.width.Word.{Ghosts as Words}
-use Rattle.std.specs.Prelude.{◌≡◌, ℕ, Bool, IfSome, List, Option}
+use Rattle.std.specs.Prelude.{◌≡◌, ℕ, Bool, IfSome, Option}
 use Rattle.rkyv_base.specs.declared.view.View.{View}
 use Rattle.rkyv_keys.specs.{KeyLookup, LookupHashes}
 use Rattle.rkyv_index.specs.Map.Complete.{FindsOneKey}

@@ -1,7 +1,7 @@
 use Rattle.std.proofs.Common.{◌≡◌, ◌<◌, length}
 use Rattle.std.specs.Vec.Iter.{into_iter_items}
 use Rattle.rkyv_index.proofs.RowSteps.{ValuesWritten}
-use Rattle.rkyv_index.proofs.map.write.row.write_row.Given as goal
+use Rattle.rkyv_index.proofs.map.write.row.write_by.Given as goal
 
 abbrev pub invariant-loop-value : goal.invariant-loop-value
 invariant-loop-value g l = record {

@@ -4,7 +4,7 @@ use Rattle.std.specs.Vec.Iter.{into_iter_items}
 use Rattle.std.proofs.lemmas.Option.{slice_get_read}
 use Rattle.std.proofs.lemmas.Result.{err_from_is_err_and}
 use Rattle.rkyv_index.proofs.RowSteps.{overflow_fails, piece_fails, written_more}
-use Rattle.rkyv_index.proofs.map.write.row.write_row.Goals as goal
+use Rattle.rkyv_index.proofs.map.write.row.write_by.Goals as goal
 
 pub returns-in_err-resolve : goal.returns-in_err-resolve
 returns-in_err-resolve g c =
