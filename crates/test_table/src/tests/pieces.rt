@@ -62,24 +62,23 @@ where
 }
 
 #[test]
-fn each_bucket_is_one_piece(rt: HostRuntime) {
+fn small_buckets_are_one_piece(rt: HostRuntime) {
     let alloc = rt.alloc();
     let large = (
         (1u64, 2u64),
         ((3u64, 4u64), (5u64, (6u64, (7u64, (8u64, 9u64))))),
     );
-    let mut sixteen = [1usize; 19];
-    sixteen[0] = 0;
-    sixteen[18] = 47;
     let written = [
-        is_narrow_in(alloc, &[(1u32, 2u32)], &[0], &[0, 8, 8, 31]),
-        is_narrow_in(alloc, &FOUR_PAIRS, &[0; 4], &[0, 2, 2, 2, 2, 2, 31]),
-        is_written_in::<Narrow, u8>(alloc, &SIXTEEN, &[16; 16], (1, 1), &[], &sixteen),
-        is_written_in::<Wide, u16>(alloc, &[7], &[0], (7, 8), &[], &[0, 2, 2, 31]),
-        // a bucket of more than 64 bytes
+        is_narrow_in(alloc, &[(1u32, 2u32)], &[0], &[0, 16, 31]),
+        is_narrow_in(alloc, &FOUR_PAIRS, &[0; 4], &[0, 10, 31]),
+        is_written_in::<Narrow, u8>(alloc, &SIXTEEN, &[16; 16], (1, 1), &[], &[0, 17, 47]),
+        is_written_in::<Wide, u16>(alloc, &[7], &[0], (7, 8), &[], &[0, 4, 31]),
+        // 145 buckets
+        is_narrow_in(alloc, &[7u64; 127], &[0; 127], &[0, 1024, 136, 175]),
+        // buckets of more than 64 bytes, each one piece
         is_one_in(alloc, &[large], &[0, 72, 72, 31]),
     ];
-    expect_eq!(rt; written, [true; 5]);
+    expect_eq!(rt; written, [true; 6]);
 }
 
 #[test]
@@ -87,21 +86,14 @@ fn the_zeros_before_the_buckets_are_one_piece(rt: HostRuntime) {
     let alloc = rt.alloc();
     let (items, hashes) = ([(1u32, 2u64)], [0]);
     let behind = [
-        is_written_in::<Narrow, (u32, u64)>(
-            alloc,
-            &items,
-            &hashes,
-            (7, 8),
-            &[9],
-            &[1, 7, 16, 16, 31],
-        ),
+        is_written_in::<Narrow, (u32, u64)>(alloc, &items, &hashes, (7, 8), &[9], &[1, 7, 32, 31]),
         is_written_in::<Narrow, (u32, u64)>(
             alloc,
             &items,
             &hashes,
             (7, 8),
             &[9; 8],
-            &[8, 0, 16, 16, 31],
+            &[8, 0, 32, 31],
         ),
     ];
     expect_eq!(rt; behind, [true; 2]);
@@ -114,16 +106,11 @@ fn the_parts_of_items_are_pieces_by_ascending_bucket(rt: HostRuntime) {
     let overflow = ["wonderful", "marvellous"];
     let pairs = [("wonderful", "splendidly"), ("hello", "marvellously")];
     let written = [
-        is_narrow_in(alloc, &overflow, &[1, 0], &[10, 9, 1, 8, 8, 8, 31]),
-        is_narrow_in(alloc, &overflow, &[0, 1], &[9, 10, 1, 8, 8, 8, 31]),
-        is_narrow_in(alloc, &pairs, &[1, 0], &[12, 9, 10, 1, 16, 16, 16, 31]),
+        is_narrow_in(alloc, &overflow, &[1, 0], &[10, 9, 1, 24, 31]),
+        is_narrow_in(alloc, &overflow, &[0, 1], &[9, 10, 1, 24, 31]),
+        is_narrow_in(alloc, &pairs, &[1, 0], &[12, 9, 10, 1, 48, 31]),
         // a text that is inline has no piece of its own
-        is_narrow_in(
-            alloc,
-            &["hello", "marvellous"],
-            &[0, 1],
-            &[10, 2, 8, 8, 8, 31],
-        ),
+        is_narrow_in(alloc, &["hello", "marvellous"], &[0, 1], &[10, 2, 24, 31]),
     ];
     expect_eq!(rt; written, [true; 4]);
 }
@@ -166,7 +153,7 @@ fn a_header_is_one_piece(rt: HostRuntime) {
     let written = write_seven(rt.alloc(), &mut writer);
     expect_eq!(rt;
         (written, writer.lengths()),
-        (true, [0, 1, 1, 31, 3, 12].as_slice())
+        (true, [0, 2, 31, 3, 12].as_slice())
     );
 }
 
@@ -188,21 +175,21 @@ fn write_up_to(alloc: Global, limit: u64) -> (bool, PieceWriter) {
 
 #[test]
 fn a_limit_cuts_one_piece(rt: HostRuntime) {
-    let (cut, in_a_bucket) = write_up_to(rt.alloc(), 6);
+    let (cut, in_the_buckets) = write_up_to(rt.alloc(), 6);
     let (still_cut, in_the_controls) = write_up_to(rt.alloc(), 38);
     let (none, whole) = write_up_to(rt.alloc(), 39);
     expect_eq!(rt;
         (
             [cut, still_cut, none],
-            in_a_bucket.lengths(),
+            in_the_buckets.lengths(),
             in_the_controls.lengths(),
             whole.lengths()
         ),
         (
             [true, true, false],
-            [0, 4, 2].as_slice(),
-            [0, 4, 4, 30].as_slice(),
-            [0, 4, 4, 31].as_slice()
+            [0, 6].as_slice(),
+            [0, 8, 30].as_slice(),
+            [0, 8, 31].as_slice()
         )
     );
 }
