@@ -48,16 +48,16 @@ where
 }
 
 #[test]
-fn the_entries_are_pieces_behind_the_table(rt: HostRuntime) {
+fn the_entries_are_one_piece_behind_the_table(rt: HostRuntime) {
     let alloc = rt.alloc();
-    let four = [0, 4, 4, 4, 4, 4, 31, 0, 2, 2, 2, 2];
+    let four = [0, 20, 31, 0, 8];
     let written = [
         is_written_in::<Narrow, i8, i8>(alloc, &FOUR_PAIRS, &four),
-        is_written_in::<Wide, i8, i8>(alloc, &[(1, 2)], &[0, 8, 8, 31, 0, 2]),
+        is_written_in::<Wide, i8, i8>(alloc, &[(1, 2)], &[0, 16, 31, 0, 2]),
         // the zeros before the entries are one piece
-        is_written_in::<Narrow, u32, u32>(alloc, &[(1, 2)], &[0, 4, 4, 31, 1, 8]),
+        is_written_in::<Narrow, u32, u32>(alloc, &[(1, 2)], &[0, 8, 31, 1, 8]),
         // a text out of line is a piece before the entries
-        is_written_in::<Narrow, &str, u32>(alloc, &[("wonderful", 1)], &[0, 4, 4, 31, 9, 0, 12]),
+        is_written_in::<Narrow, &str, u32>(alloc, &[("wonderful", 1)], &[0, 8, 31, 9, 0, 12]),
         is_written_in::<Narrow, i8, i8>(alloc, &[], &[0]),
     ];
     expect_eq!(rt; written, [true; 5]);
@@ -77,8 +77,8 @@ fn is_set_written_in(alloc: Global, lengths: &[usize]) -> bool {
 }
 
 #[test]
-fn the_keys_of_a_set_are_pieces(rt: HostRuntime) {
-    let written = is_set_written_in(rt.alloc(), &[0, 4, 4, 31, 0, 1]);
+fn the_keys_of_a_set_are_one_piece(rt: HostRuntime) {
+    let written = is_set_written_in(rt.alloc(), &[0, 8, 31, 0, 1]);
     assert!(rt; written);
 }
 
@@ -97,7 +97,7 @@ fn is_root_in(alloc: Global, pairs: &[(i8, i8)], lengths: &[usize]) -> Result<bo
 #[test]
 fn a_root_is_two_pieces_more(rt: HostRuntime) -> Result<(), Fail> {
     let alloc = rt.alloc();
-    let four = [0, 4, 4, 4, 4, 4, 31, 0, 2, 2, 2, 2, 1, 16];
+    let four = [0, 20, 31, 0, 8, 1, 16];
     let written = [
         is_root_in(alloc, &FOUR_PAIRS, &four)?,
         is_root_in(alloc, &[], &[0, 0, 16])?,
