@@ -1,10 +1,1 @@
 pub mod Coverings
-pub mod Histograms
-pub mod KeyLookups
-pub mod TextParts
-pub mod Dispatch
-pub mod FieldLists
-pub mod PartsAhead
-pub mod PartsLeft
-pub mod TableFields
-pub mod EntryRows

@@ -1,6 +1,4 @@
 //! The drawing of an archive's regions, as SVG.
-ghost use Rattle.std.specs.Prelude.{◌≡◌};
-ghost use Rattle.rkyv_inspect.specs.{drawn_inspection, drawn_len};
 
 use crate::inspection::Inspection;
 use crate::regions::{Region, RegionKind};
@@ -27,10 +25,7 @@ pub struct Drawing<'a> {
 
 impl<'a> Drawing<'a> {
     /// Returns the drawing of an inspection of an archive of `len` bytes.
-    pub fn new(inspection: &'a Inspection, len: usize) -> Drawing<'a>
-        ensures inspection { drawn_inspection result ≡ inspection.entry }
-        ensures len { drawn_len result ≡ len }
-    {
+    pub fn new(inspection: &'a Inspection, len: usize) -> Drawing<'a> {
         Drawing { inspection, len }
     }
 }

@@ -1,6 +1,9 @@
 //! Inspections of archives of all kinds, types and widths.
-ghost use Rattle.rkyv_inspect.specs.{Inspects, InspectsContents, InspectsKeys, InspectsValues};
-ghost use Rattle.rkyv_inspect.specs.{fx_keys, pair_type, target};
+ghost use Rattle.rkyv_base.specs.{entry_spec};
+ghost use Rattle.rkyv_collections.specs.{map_spec};
+ghost use Rattle.rkyv_index.specs.{index_spec};
+ghost use Rattle.rkyv_inspect.specs.{RegionsCover, Validates, ValidatesContents, ValidatesKeys};
+ghost use Rattle.rkyv_inspect.specs.{ValidatesValues, root_spec};
 
 use crate::errors::InspectError;
 use crate::fields::Field;
@@ -35,9 +38,8 @@ fn inspect_hash_map<K: KeyElement + Field, V: Field, W: IndexWidth>(
     contents: Contents,
     limit: u64,
 ) -> Result<Inspection, InspectError>
-    ensures { let keys = fx_keys K.spec K.same K.key_calls in
-        Inspects (target W.word W.LIMIT contents archive.now limit) Kind.HashMap keys
-        (pair_type K.spec V.spec K.part_at V.part_at) result }
+    ensures regions { RegionsCover archive.now result }
+    ensures validates { Validates W.LIMIT (map_spec W.word K.spec V.spec) archive.now result }
 {
     let root = access_in::<W, HashMapOf<K, V, FxHasher64, W>>(archive)?;
     let summary = map_summary(alloc, root, limit)?;
@@ -55,9 +57,9 @@ fn inspect_index_map<K: KeyElement + Field, V: Field, W: IndexWidth>(
     contents: Contents,
     limit: u64,
 ) -> Result<Inspection, InspectError>
-    ensures { let keys = fx_keys K.spec K.same K.key_calls in
-        Inspects (target W.word W.LIMIT contents archive.now limit) Kind.IndexMap keys
-        (pair_type K.spec V.spec K.part_at V.part_at) result }
+    ensures regions { RegionsCover archive.now result }
+    ensures validates { Validates W.LIMIT (index_spec W.word (entry_spec K.spec V.spec))
+        archive.now result }
 {
     let root = access_in::<W, IndexMapOf<K, V, FxHasher64, W>>(archive)?;
     let summary = index_summary(alloc, root, limit)?;
@@ -76,9 +78,9 @@ fn inspect_kind<K: KeyElement + Field, V: Field, W: IndexWidth>(
     contents: Contents,
     limit: u64,
 ) -> Result<Inspection, InspectError>
-    ensures { let keys = fx_keys K.spec K.same K.key_calls in
-        Inspects (target W.word W.LIMIT contents archive.now limit) contents.kind keys
-        (pair_type K.spec V.spec K.part_at V.part_at) result }
+    ensures regions { RegionsCover archive.now result }
+    ensures validates { Validates W.LIMIT (root_spec contents.kind W.word K.spec V.spec)
+        archive.now result }
 {
     match contents.kind {
         Kind::HashMap => inspect_hash_map::<K, V, W>(alloc, archive, contents, limit),
@@ -94,8 +96,8 @@ fn inspect_keys<K: KeyElement + Field, W: IndexWidth>(
     contents: Contents,
     limit: u64,
 ) -> Result<Inspection, InspectError>
-    ensures { let keys = fx_keys K.spec K.same K.key_calls in
-        InspectsValues (target W.word W.LIMIT contents archive.now limit) keys K.part_at result }
+    ensures regions { RegionsCover archive.now result }
+    ensures validates { ValidatesValues W.word W.LIMIT contents K.spec archive.now result }
 {
     match (contents.kind, contents.value) {
         (_, ItemType::Unit) => inspect_kind::<K, (), W>(alloc, archive, contents, limit),
@@ -113,7 +115,8 @@ fn inspect_width<W: IndexWidth>(
     contents: Contents,
     limit: u64,
 ) -> Result<Inspection, InspectError>
-    ensures { InspectsKeys (target W.word W.LIMIT contents archive.now limit) result }
+    ensures regions { RegionsCover archive.now result }
+    ensures validates { ValidatesKeys W.word W.LIMIT contents archive.now result }
 {
     match contents.key {
         ItemType::U32 => inspect_keys::<u32, W>(alloc, archive, contents, limit),
@@ -158,7 +161,8 @@ pub fn inspect(
     contents: Contents,
     limit: u64,
 ) -> Result<Inspection, InspectError>
-    ensures { InspectsContents contents archive.now limit result }
+    ensures regions { RegionsCover archive.now result }
+    ensures validates { ValidatesContents contents archive.now result }
 {
     match contents.width {
         Width::Narrow => inspect_width::<Narrow>(alloc, archive, contents, limit),

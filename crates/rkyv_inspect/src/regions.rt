@@ -1,6 +1,6 @@
 //! The regions of an archive: its bytes, field by field.
-ghost use Rattle.std.specs.Prelude.{IfOk, OnOk, [], length, max, min, ◌≡◌, ◌≤◌};
-ghost use Rattle.rkyv_inspect.specs.{Covers, AddsFields, IsRegionList, field, fields_of};
+ghost use Rattle.std.specs.Prelude.{IfOk, OnOk, length, max, min};
+ghost use Rattle.rkyv_inspect.specs.{AddsUpTo, Covers, IsRegionList};
 
 use std::alloc::{AllocError, Global};
 
@@ -45,38 +45,22 @@ pub struct Region {
 pub(crate) struct RegionList {
     pub(crate) regions: Vec<Region>,
     pub(crate) end: usize,
-    pub(crate) len: usize,
 }
 
 impl RegionList {
-    pub(crate) fn new(alloc: Global, len: usize) -> RegionList
-        ensures list { IsRegionList result }
-        ensures fields { fields_of result.regions.items ≡ [] }
-        ensures end { result.end ≡ 0 }
-        ensures len { result.len ≡ len }
-    {
-        RegionList {
-            regions: Vec::new(alloc),
-            end: 0,
-            len,
-        }
-    }
-
     /// Appends the region up to `end` or the end of the archive, if it has bytes.
-    pub(crate) fn add(
+    fn add(
         &mut self,
+        bytes: &[u8],
         end: usize,
         kind: RegionKind,
         text: String,
     ) -> Result<(), AllocError>
-        requires { IsRegionList self.old }
-        ensures adds { OnOk result (AddsFields self.old self.new
-            (field kind self.old.end (min end self.old.len))
-            (max self.old.end (min end self.old.len))) }
-        ensures len { self.new.len ≡ self.old.len }
+        requires { IsRegionList (length bytes.now) self.old }
+        ensures { OnOk result (AddsUpTo (length bytes.now) end self.old self.new) }
     {
         let begin = self.end;
-        let end = end.min(self.len);
+        let end = end.min(bytes.len());
         if end <= begin {
             return Ok(());
         }
@@ -90,59 +74,43 @@ impl RegionList {
         Ok(())
     }
 
-    pub(crate) fn add_named(
-        &mut self,
-        alloc: Global,
-        end: usize,
-        kind: RegionKind,
-        name: &str,
-    ) -> Result<(), AllocError>
-        requires { IsRegionList self.old }
-        ensures adds { OnOk result (AddsFields self.old self.new
-            (field kind self.old.end (min end self.old.len))
-            (max self.old.end (min end self.old.len))) }
-        ensures len { self.new.len ≡ self.old.len }
-    {
-        let text = String::from_str(alloc, name)?;
-        self.add(end, kind, text)
-    }
-
     /// Appends the bytes up to `end` as padding or unknown bytes.
-    pub(crate) fn add_gap(
-        &mut self,
-        alloc: Global,
-        bytes: &[u8],
-        end: usize,
-    ) -> Result<(), AllocError>
-        requires { IsRegionList self.old }
-        ensures adds { OnOk result (AddsFields self.old self.new []
-            (max self.old.end (min end self.old.len))) }
-        ensures len { self.new.len ≡ self.old.len }
+    fn add_gap(&mut self, alloc: Global, bytes: &[u8], end: usize) -> Result<(), AllocError>
+        requires { IsRegionList (length bytes.now) self.old }
+        ensures { OnOk result (AddsUpTo (length bytes.now) end self.old self.new) }
     {
-        if is_padding(bytes_in(bytes, self.end, end)) {
-            self.add_named(alloc, end, RegionKind::Padding, "padding")
+        let (kind, name) = if is_padding(bytes_in(bytes, self.end, end)) {
+            (RegionKind::Padding, "padding")
         } else {
-            self.add_named(alloc, end, RegionKind::Unknown, "unknown bytes")
-        }
-    }
-
-    /// Returns the regions, after a last one for the other bytes of the archive.
-    pub(crate) fn finish(mut self, alloc: Global) -> Result<Vec<Region>, AllocError>
-        requires { IsRegionList self }
-        ensures covers { IfOk result (λ regions. Covers 0 regions.items self.len) }
-        ensures fields { IfOk result (λ regions. fields_of regions.items
-            ≡ fields_of self.regions.items) }
-    {
-        let end = self.len;
-        self.add_named(alloc, end, RegionKind::Unknown, "unknown bytes")?;
-        Ok(self.regions)
+            (RegionKind::Unknown, "unknown bytes")
+        };
+        let text = String::from_str(alloc, name)?;
+        self.add(bytes, end, kind, text)
     }
 }
 
-/// Returns the bytes from `begin` on and before `end`, or no bytes if they aren't all there.
-pub(crate) fn bytes_in(bytes: &[u8], begin: usize, end: usize) -> &[u8]
-    ensures { length result.now ≤ length bytes.now }
+/// Returns the fields of an archive, which ascend, and the regions between and after them.
+pub(crate) fn with_gaps(
+    alloc: Global,
+    bytes: &[u8],
+    fields: Vec<Region>,
+) -> Result<Vec<Region>, AllocError>
+    ensures { IfOk result (λ regions. Covers 0 regions.items (length bytes.now)) }
 {
+    let mut list = RegionList {
+        regions: Vec::new(alloc),
+        end: 0,
+    };
+    for field in fields {
+        list.add_gap(alloc, bytes, field.begin)?;
+        list.add(bytes, field.end, field.kind, field.text)?;
+    }
+    list.add_gap(alloc, bytes, bytes.len())?;
+    Ok(list.regions)
+}
+
+/// Returns the bytes from `begin` on and before `end`, or no bytes if they aren't all there.
+pub(crate) fn bytes_in(bytes: &[u8], begin: usize, end: usize) -> &[u8] {
     bytes.get(begin..end).unwrap_or(&[])
 }
 

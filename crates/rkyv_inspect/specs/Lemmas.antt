@@ -1,2 +1,0 @@
--- Lemmas that the fields need.
-pub mod Fields

@@ -1,6 +1,0 @@
-pub mod Adding
-pub mod Arguments
-pub mod Executing
-pub mod MappedErrors
-pub mod Parsing
-pub mod Uniqueness
