@@ -78,36 +78,28 @@ fn strides_of(
 }
 
 #[test]
-fn hash_maps(rt: HostRuntime) -> Result<(), Fail> {
-    let alloc = rt.alloc();
+fn maps_and_sets(rt: HostRuntime) -> Result<(), Fail> {
     let names = narrow(Kind::HashMap, ItemType::Text, ItemType::U64);
     let wide_numbers = wide(Kind::HashMap, ItemType::U64, ItemType::U32);
-    let found = numbers_of(alloc, &ONE_NUMBER, numbers())?;
-    expect_eq!(rt; found, (1, 2, 48, Some(16), Some(0)));
-    let found = numbers_of(alloc, &NAMES, names)?;
-    expect_eq!(rt; found, (2, 3, 96, Some(64), Some(0)));
-    let found = numbers_of(alloc, &WIDE_NUMBERS, wide_numbers)?;
-    expect_eq!(rt; found, (2, 3, 80, Some(48), Some(0)));
-    let found = numbers_of(alloc, &EMPTY, numbers())?;
-    expect_eq!(rt; found, (0, 0, 0, None, Some(0)));
-    Ok(())
-}
-
-#[test]
-fn sets_and_index_maps(rt: HostRuntime) -> Result<(), Fail> {
-    let alloc = rt.alloc();
     let one_hash = wide(Kind::HashSet, ItemType::Text, ItemType::Unit);
     let index_number = narrow(Kind::IndexMap, ItemType::U32, ItemType::U32);
     let numbered = narrow(Kind::IndexMap, ItemType::U32, ItemType::Text);
     let wide_set = wide(Kind::IndexSet, ItemType::U64, ItemType::Unit);
-    let found = numbers_of(alloc, &ONE_HASH, one_hash)?;
-    expect_eq!(rt; found, (20, 22, 400, Some(352), Some(0)));
-    let found = numbers_of(alloc, &INDEX_NUMBER, index_number)?;
-    expect_eq!(rt; found, (1, 2, 48, Some(8), Some(0)));
-    let found = numbers_of(alloc, &NUMBERED_TEXTS, numbered)?;
-    expect_eq!(rt; found, (2, 3, 84, Some(12), Some(0)));
-    let found = numbers_of(alloc, &WIDE_SET, wide_set)?;
-    expect_eq!(rt; found, (3, 4, 88, Some(32), Some(0)));
+    let rows: [(&[u8], Contents, Numbers); 9] = [
+        (&ONE_NUMBER, numbers(), (1, 2, 48, Some(16), Some(0))),
+        (&MISPLACED, numbers(), (1, 2, 48, Some(16), Some(1))),
+        (&NAMES, names, (2, 3, 96, Some(64), Some(0))),
+        (&WIDE_NUMBERS, wide_numbers, (2, 3, 80, Some(48), Some(0))),
+        (&EMPTY, numbers(), (0, 0, 0, None, Some(0))),
+        (&ONE_HASH, one_hash, (20, 22, 400, Some(352), Some(0))),
+        (&INDEX_NUMBER, index_number, (1, 2, 48, Some(8), Some(0))),
+        (&NUMBERED_TEXTS, numbered, (2, 3, 84, Some(12), Some(0))),
+        (&WIDE_SET, wide_set, (3, 4, 88, Some(32), Some(0))),
+    ];
+    for (archive, contents, expected) in &rows {
+        let found = numbers_of(rt.alloc(), archive, *contents)?;
+        expect_eq!(rt; found, *expected);
+    }
     Ok(())
 }
 
@@ -129,36 +121,19 @@ fn summaries_of_other_keys(rt: HostRuntime) -> Result<(), Fail> {
 }
 
 #[test]
-fn one_stride(rt: HostRuntime) -> Result<(), Fail> {
+fn strides_and_their_limit(rt: HostRuntime) -> Result<(), Fail> {
     let numbered = narrow(Kind::IndexMap, ItemType::U32, ItemType::Text);
-    let strides = strides_of(rt.alloc(), &ONE_NUMBER, numbers(), 1000)?;
-    expect_eq!(rt; strides, Some([0, 1, 0, 0]));
-    let strides = strides_of(rt.alloc(), &NUMBERED_TEXTS, numbered, 1000)?;
-    expect_eq!(rt; strides, Some([0, 2, 0, 0]));
-    Ok(())
-}
-
-#[test]
-fn one_hash_takes_two_strides(rt: HostRuntime) -> Result<(), Fail> {
     let one_hash = wide(Kind::HashSet, ItemType::Text, ItemType::Unit);
-    let strides = strides_of(rt.alloc(), &ONE_HASH, one_hash, 1000)?;
-    expect_eq!(rt; strides, Some([0, 16, 4, 0]));
-    Ok(())
-}
-
-#[test]
-fn limit_of_strides(rt: HostRuntime) -> Result<(), Fail> {
-    let one_hash = wide(Kind::HashSet, ItemType::Text, ItemType::Unit);
-    let at_the_limit = strides_of(rt.alloc(), &ONE_HASH, one_hash, 24)?;
-    expect_eq!(rt; at_the_limit, Some([0, 16, 4, 0]));
-    let past_the_limit = strides_of(rt.alloc(), &ONE_HASH, one_hash, 23)?;
-    expect_eq!(rt; past_the_limit, None);
-    Ok(())
-}
-
-#[test]
-fn misplaced_key(rt: HostRuntime) -> Result<(), Fail> {
-    let found = numbers_of(rt.alloc(), &MISPLACED, numbers())?;
-    expect_eq!(rt; found, (1, 2, 48, Some(16), Some(1)));
+    let rows: [(&[u8], Contents, u64, Option<[usize; 4]>); 5] = [
+        (&ONE_NUMBER, numbers(), 1000, Some([0, 1, 0, 0])),
+        (&NUMBERED_TEXTS, numbered, 1000, Some([0, 2, 0, 0])),
+        (&ONE_HASH, one_hash, 1000, Some([0, 16, 4, 0])),
+        (&ONE_HASH, one_hash, 24, Some([0, 16, 4, 0])),
+        (&ONE_HASH, one_hash, 23, None),
+    ];
+    for (archive, contents, limit, expected) in &rows {
+        let strides = strides_of(rt.alloc(), archive, *contents, *limit)?;
+        expect_eq!(rt; strides, *expected);
+    }
     Ok(())
 }

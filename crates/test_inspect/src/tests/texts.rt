@@ -2,9 +2,8 @@
 
 use crate::tests::archives::{EMPTY, NAMES, NUMBERED_TEXTS, ONE_HASH, ONE_NUMBER};
 use crate::tests::support::{narrow, numbers, wide};
-use rkyv_base::{Narrow, Wide};
 use rkyv_container::{Contents, Header, ItemType, Kind};
-use rkyv_inspect::{ContainerLine, Printed, inspect, laws};
+use rkyv_inspect::{ContainerLine, Printed, inspect};
 use std::alloc::Global;
 use std::test::Fail;
 
@@ -33,6 +32,15 @@ bytes: 60
       56  02 00 00 00                 header: capacity 2
 ";
 
+const EMPTY_TEXT: &str = "\
+items: 0
+buckets: 0
+load: 0%
+control bytes at: none
+header at: 0
+misplaced keys: 0
+";
+
 #[test]
 fn one_number(rt: HostRuntime) -> Result<(), Fail> {
     let text = text_of(rt.alloc(), &ONE_NUMBER, numbers(), 1000)?;
@@ -41,53 +49,57 @@ fn one_number(rt: HostRuntime) -> Result<(), Fail> {
 }
 
 #[test]
-fn the_empty_map(rt: HostRuntime) -> Result<(), Fail> {
-    let text = text_of(rt.alloc(), &EMPTY, numbers(), 1000)?;
-    let lines = "items: 0\nbuckets: 0\nload: 0%\ncontrol bytes at: none\nheader at: 0\n\
-        misplaced keys: 0\n";
-    assert!(rt; text.as_str().starts_with(lines));
-    Ok(())
-}
-
-#[test]
-fn bytes_before_the_buckets(rt: HostRuntime) -> Result<(), Fail> {
-    let mut bytes = [0; 68];
-    bytes[8..].copy_from_slice(&ONE_NUMBER);
-    let text = text_of(rt.alloc(), &bytes, numbers(), 1000)?;
-    let line = "       0  00 00 00 00 00 00 00 00     unknown bytes\n";
-    assert!(rt; text.as_str().contains(line));
-    Ok(())
-}
-
-#[test]
 fn texts_of_fields(rt: HostRuntime) -> Result<(), Fail> {
-    laws::numbers_and_texts_are_shown::<Narrow>();
-    laws::only_texts_have_parts::<Wide>();
-    let contents = narrow(Kind::HashMap, ItemType::Text, ItemType::U64);
-    let text = text_of(rt.alloc(), &NAMES, contents, 1000)?;
-    assert!(rt;
-        text.as_str()
-            .contains("       0  77 6f 6e 64 65 72 66 75 ..  out-of-line text\n")
-    );
-    assert!(rt;
-        text.as_str()
-            .contains("  bucket 1: key \"wonderful day\", value 2\n")
-    );
-    assert!(rt;
-        text.as_str()
-            .contains("  bucket 0: key \"main\", value 1\n")
-    );
-    let contents = narrow(Kind::IndexMap, ItemType::U32, ItemType::Text);
-    let text = text_of(rt.alloc(), &NUMBERED_TEXTS, contents, 1000)?;
-    assert!(rt; text.as_str().contains("  bucket 2: index 1\n"));
-    assert!(rt;
-        text.as_str()
-            .contains("  entry 1: key 8, value \"the number eight\"\n")
-    );
-    assert!(rt;
-        text.as_str()
-            .contains("  header: distance -36 to the entries\n")
-    );
+    let mut shifted = [0; 68];
+    shifted[8..].copy_from_slice(&ONE_NUMBER);
+    let mut escaped = NAMES;
+    escaped[..2].copy_from_slice(b"\n\"");
+    let names = narrow(Kind::HashMap, ItemType::Text, ItemType::U64);
+    let numbered = narrow(Kind::IndexMap, ItemType::U32, ItemType::Text);
+    let rows: [(&[u8], Contents, &str); 10] = [
+        (&EMPTY, numbers(), EMPTY_TEXT),
+        (
+            &shifted,
+            numbers(),
+            "  00 00 00 00 00 00 00 00     unknown bytes\n",
+        ),
+        (
+            &NAMES,
+            names,
+            "       0  \"wonderful day\"             out-of-line text\n",
+        ),
+        (
+            &NAMES,
+            names,
+            "  bucket 1: key \"wonderful day\", value 2\n",
+        ),
+        (&NAMES, names, "  bucket 0: key \"main\", value 1\n"),
+        (
+            &escaped,
+            names,
+            "       0  \"\\n\\\"nderful day\"             out-of-line text\n",
+        ),
+        (&NUMBERED_TEXTS, numbered, "  bucket 2: index 1\n"),
+        (
+            &NUMBERED_TEXTS,
+            numbered,
+            "      43  \"the number eight\"          out-of-line text\n",
+        ),
+        (
+            &NUMBERED_TEXTS,
+            numbered,
+            "  entry 1: key 8, value \"the number eight\"\n",
+        ),
+        (
+            &NUMBERED_TEXTS,
+            numbered,
+            "  header: distance -36 to the entries\n",
+        ),
+    ];
+    for (archive, contents, line) in &rows {
+        let text = text_of(rt.alloc(), archive, *contents, 1000)?;
+        assert!(rt; text.as_str().contains(*line));
+    }
     Ok(())
 }
 
@@ -116,30 +128,36 @@ fn fields_are_colored(rt: HostRuntime) -> Result<(), Fail> {
 
 #[test]
 fn a_container_line_is_printed(rt: HostRuntime) -> Result<(), Fail> {
-    let header = Header {
-        contents: numbers(),
-        len: 60,
-        checksum: Some(0x6278_2117),
-    };
-    let text = format!(in rt.alloc(); "{}", ContainerLine(header))?;
-    let line =
-        "container: hash map of u32 to u32, narrow, archive of 60 bytes, checksum 62782117\n";
-    expect_eq!(rt; text.as_str(), line);
-    let header = Header {
-        contents: wide(Kind::IndexSet, ItemType::Text, ItemType::Unit),
-        len: 32,
-        checksum: None,
-    };
-    let text = format!(in rt.alloc(); "{}", ContainerLine(header))?;
-    let line = "container: index set of text, wide, archive of 32 bytes, no checksum\n";
-    expect_eq!(rt; text.as_str(), line);
-    let header = Header {
-        contents: narrow(Kind::IndexMap, ItemType::Text, ItemType::F64),
-        len: 44,
-        checksum: None,
-    };
-    let text = format!(in rt.alloc(); "{}", ContainerLine(header))?;
-    let line = "container: index map of text to f64, narrow, archive of 44 bytes, no checksum\n";
-    expect_eq!(rt; text.as_str(), line);
+    let texts = wide(Kind::IndexSet, ItemType::Text, ItemType::Unit);
+    let floats = narrow(Kind::IndexMap, ItemType::Text, ItemType::F64);
+    let rows: [(Contents, u64, Option<u32>, &str); 3] = [
+        (
+            numbers(),
+            60,
+            Some(0x6278_2117),
+            "container: hash map of u32 to u32, narrow, archive of 60 bytes, checksum 62782117\n",
+        ),
+        (
+            texts,
+            32,
+            None,
+            "container: index set of text, wide, archive of 32 bytes, no checksum\n",
+        ),
+        (
+            floats,
+            44,
+            None,
+            "container: index map of text to f64, narrow, archive of 44 bytes, no checksum\n",
+        ),
+    ];
+    for (contents, len, checksum, line) in &rows {
+        let header = Header {
+            contents: *contents,
+            len: *len,
+            checksum: *checksum,
+        };
+        let text = format!(in rt.alloc(); "{}", ContainerLine(header))?;
+        expect_eq!(rt; text.as_str(), *line);
+    }
     Ok(())
 }
