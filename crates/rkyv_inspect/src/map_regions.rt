@@ -12,11 +12,7 @@ use rkyv_collections::{ArchivedHashMap, HashMapOf};
 use rkyv_table::table::decoded::Decoded;
 use std::alloc::{AllocError, Global};
 
-fn add_part(
-    alloc: Global,
-    part: Option<Part>,
-    fields: &mut Vec<Region>,
-) -> Result<(), AllocError> {
+fn add_part(alloc: Global, part: Option<Part>, fields: &mut Vec<Region>) -> Result<(), AllocError> {
     if let Some(Part { begin, end }) = part {
         fields.push(Region {
             begin,
