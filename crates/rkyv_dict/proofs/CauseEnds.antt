@@ -5,7 +5,7 @@ use Rattle.rkyv_base.specs.{CauseApplies, Extends, Output, Reached, Step, Within
 use Rattle.rkyv_base.specs.declared.errors.WriteError.{WriteError}
 use Rattle.rkyv_base.specs.declared.errors.WriteError.TheVariants.{CapacityTooLarge, DistanceTooLarge, InvalidLoadFactor, IteratorLengthMismatch, Memory, PositionTooLarge, Refused as RefusedWrite, TextTooLong, Writer}
 use Rattle.rkyv_dict.specs.{write_error_text, is_allocation_failure}
-use Rattle.rkyv_dict.proofs.Ends.{Ends, IsKnown}
+use Rattle.rkyv_dict.proofs.Ends.{Ends, IsKnown, Run}
 
 -- the number and the name of an error
 abbrev error_text : WriteFailure → List ℕ
@@ -47,13 +47,13 @@ module _ (limit : ℕ) (next : List ℕ → Step → Type 0) where
     text_of_cause Memory m h = absurd cc
     text_of_cause (RefusedWrite n) m h = text_of_reached (refused n) _ (λ e. cc) h refl
 
-  module _ {writes : List ℕ → Type 0} (ends : Ends next writes) where
-    pub error_text_unique : (text told' : List ℕ) → IsErrorText text → IsErrorText told' → text ≡ told'
-    error_text_unique text told' (inl x) (inl y) = x.5 ∙ ap error_text (ends.unique x.2 y.2 x.0 y.0 x.1 y.1 x.4 y.4) ∙ sym y.5
-    error_text_unique text told' (inl x) (inr y) = absurd (omega (arith, x.3, y.3, ends.before y.0 x.2 y.1 x.0 x.1 y.2 x.4))
-    error_text_unique text told' (inr x) (inl y) = absurd (omega (arith, y.3, x.3, ends.before x.0 y.2 x.1 y.0 y.1 x.2 y.4))
-    error_text_unique text told' (inr x) (inr y) = x.4 ∙ sym y.4
+module _ (limit : ℕ) (run : Run (Unit {0})) (ends : Ends run) where
+  pub error_text_unique : (text told' : List ℕ) → IsErrorText limit run.next text → IsErrorText limit run.next told' → text ≡ told'
+  error_text_unique text told' (inl x) (inl y) = x.5 ∙ ap error_text (ends.unique x.2 y.2 x.0 y.0 x.1 y.1 x.4 y.4) ∙ sym y.5
+  error_text_unique text told' (inl x) (inr y) = absurd (omega (arith, x.3, y.3, ends.before y.0 x.2 y.1 x.0 x.1 y.2 x.4))
+  error_text_unique text told' (inr x) (inl y) = absurd (omega (arith, y.3, x.3, ends.before x.0 y.2 x.1 y.0 y.1 x.2 y.4))
+  error_text_unique text told' (inr x) (inr y) = x.4 ∙ sym y.4
 
-    pub error_text_exclusive : (text b : List ℕ) → IsErrorText text → writes b → length b ≤ limit → ⊥
-    error_text_exclusive text b (inl x) m h = ends.exclusive x.2 b x.0 x.1 x.4 m
-    error_text_exclusive text b (inr x) m h = omega (arith, x.3, h, ends.inside x.0 x.1 b x.2 m)
+  pub error_text_exclusive : (text b : List ℕ) → IsErrorText limit run.next text → run.writes b tt → length b ≤ limit → ⊥
+  error_text_exclusive text b (inl x) m h = ends.exclusive x.2 b tt x.0 x.1 x.4 m
+  error_text_exclusive text b (inr x) m h = omega (arith, x.3, h, ends.inside x.0 x.1 b tt x.2 m)

@@ -11,12 +11,13 @@ use Rattle.std.proofs.lemmas.Option.{unwrap_or-slice_get}
 use Rattle.std.specs.Option.{unwrap_or}
 use Rattle.rkyv_base.specs.{ElementSpec, Format, Step, failure}
 use Rattle.rkyv_table.proofs.HomeList.{homes_one_list, written_one_list}
+use Rattle.rkyv_table.proofs.OneWay.{tables_one_way}
 use Rattle.rkyv_table.proofs.Written.{first_within}
-use Rattle.rkyv_table.specs.{AreInSlots, ArePlaced, InBuckets, PairsNext, TableBytes, TableNext, TableParts, TableResolver, WritesOneWay, capacity, hashes_of, is_free, items_of, table_format}
+use Rattle.rkyv_table.specs.{AreInSlots, ArePlaced, InBuckets, TableBytes, TableNext, TableParts, TableResolver, WritesOneWay, capacity, hashes_of, is_free, items_of, table_format}
 use Rattle.rkyv_table.specs.Lemmas.SlotWalk.{item_below}
-use Rattle.rkyv_dict.proofs.Ends.{Ends}
-use Rattle.rkyv_dict.proofs.FormatEnds.{EndsOneWay}
-use Rattle.rkyv_dict.proofs.TableEnds.{table_ends}
+use Rattle.rkyv_dict.proofs.Ends.{Ends, serialization}
+use Rattle.rkyv_dict.proofs.FormatEnds.{EndsOneWay, IsSized}
+use Rattle.rkyv_dict.proofs.TableEnds.{table_ends, table_run}
 
 -- two lists of slots with the same items in the same homes
 module _ {X : Type 0} (cap : ℕ) (xs : List ℕ) (items : List X) (ss ts : List (Option X)) (s : AreInSlots cap xs items ss) (t : AreInSlots cap xs items ts) where
@@ -54,23 +55,20 @@ module _ {X : Type 0} (cap : ℕ) (pairs : List (ℕ × X)) (ss ts : List (Optio
         written_one_list cap hashes x.homes c some_bucket x.written ∙ sym (written_one_list cap hashes y.homes d some_bucket y.written),
       )
 
-module _ {X R : Type 0} (w : Width) (s : ElementSpec) (f : Format X R) (one : WritesOneWay f) (ends : EndsOneWay f)
-    (whole : (x : X) (r : R) (p : ℕ) (out : List ℕ) → f.image x r p out → length out ≡ s.size)
-    (exclusive : (x : X) (r : R) (p : ℕ) (out : List ℕ) → f.image x r p out → f.overflow x r p → ⊥) (factor : ℕ × ℕ) (pairs : List (ℕ × X)) (p : ℕ) where
-  placed_ends : (slots : List (Option X)) (controls : List ℕ) → Ends (TableNext s f slots controls p) (λ part. (z : ℕ) × TableBytes s f slots controls p z part)
-  placed_ends slots controls = table_ends s f one ends whole exclusive slots controls p
+module _ {X R : Type 0} (w : Width) (s : ElementSpec) (f : Format X R) (one : WritesOneWay f) (ends : EndsOneWay f) (sized : IsSized s.size f) (factor : ℕ × ℕ) (pairs : List (ℕ × X)) (p : ℕ) where
+  placed_ends : (slots : List (Option X)) (controls : List ℕ) → Ends (table_run s f slots controls p)
+  placed_ends slots controls = table_ends s f ends sized slots controls p
 
   module _ (ss ts : List (Option X)) (c d : List ℕ) (x : InBuckets factor pairs ss c) (y : InBuckets factor pairs ts d) where
-    same : (ss ≡ ts) × (c ≡ d)
-    same = placed_one (capacity (length pairs) factor) pairs ss ts c d x.0 x.1 y.1
-
     next_here : (front : List ℕ) (step : Step) → TableNext s f ts d p front step → TableNext s f ss c p front step
     next_here front step h =
-        subst (λ (l : List (Option X)). TableNext s f l c p front step) (sym same.0) (subst (λ (l : List ℕ). TableNext s f ts l p front step) (sym same.1) h)
+        let same = placed_one (capacity (length pairs) factor) pairs ss ts c d x.0 x.1 y.1 in
+        rw (same.0, same.1) h
 
     writes_here : (z : ℕ) (part : List ℕ) → TableBytes s f ts d p z part → TableBytes s f ss c p z part
     writes_here z part h =
-        subst (λ (l : List (Option X)). TableBytes s f l c p z part) (sym same.0) (subst (λ (l : List ℕ). TableBytes s f ts l p z part) (sym same.1) h)
+        let same = placed_one (capacity (length pairs) factor) pairs ss ts c d x.0 x.1 y.1 in
+        rw (same.0, same.1) h
 
   table_writes : (slots : List (Option X)) (controls part : List ℕ) (r : TableResolver) → InBuckets factor pairs slots controls → TableParts w s f factor pairs p part r
       → (z : ℕ) × TableBytes s f slots controls p z part
@@ -79,16 +77,18 @@ module _ {X R : Type 0} (w : Width) (s : ElementSpec) (f : Format X R) (one : Wr
     | inr some ↦ (r.pos, writes_here slots some.0 controls some.1 x some.2 r.pos part some.3)
   ]
 
-  pub pairs_ends : Ends (PairsNext w s f factor pairs p) (λ part. (r : TableResolver) × TableParts w s f factor pairs p part r)
-  pairs_ends = record {
-    unique = λ front front' c c' k k' x y.
-        (placed_ends x.0 x.1).unique front front' c c' k k' x.3 (next_here x.0 y.0 x.1 y.1 x.2 y.2 front' (failure c') y.3);
-    before = λ front front' bytes c k x y. (placed_ends x.0 x.1).before front front' bytes c k x.3 (next_here x.0 y.0 x.1 y.1 x.2 y.2 front' (failure c) y.3);
-    inside = λ front bytes part x y. (placed_ends x.0 x.1).inside front bytes part x.3 (table_writes x.0 x.1 part y.0 x.2 y.1);
-    exclusive = λ front part c k x y. (placed_ends x.0 x.1).exclusive front part c k x.3 (table_writes x.0 x.1 part y.0 x.2 y.1);
-  }
+  pub pairs_ends : Ends (serialization (table_format w s f factor) pairs p)
+  pairs_ends =
+      let tables = tables_one_way w s f one factor in
+      record {
+        same_length = λ a b r q x y. ap length (tables.parts pairs p a b r q x y).0;
+        same_result = λ a b r q x y. (tables.parts pairs p a b r q x y).1;
+        unique = λ front front' c c' k k' x y.
+            (placed_ends x.0 x.1).unique front front' c c' k k' x.3 (next_here x.0 y.0 x.1 y.1 x.2 y.2 front' (failure c') y.3);
+        before = λ front front' bytes c k x y. (placed_ends x.0 x.1).before front front' bytes c k x.3 (next_here x.0 y.0 x.1 y.1 x.2 y.2 front' (failure c) y.3);
+        inside = λ front bytes part r x y. (placed_ends x.0 x.1).inside front bytes part tt x.3 (table_writes x.0 x.1 part r x.2 y);
+        exclusive = λ front part r c k x y. (placed_ends x.0 x.1).exclusive front part tt c k x.3 (table_writes x.0 x.1 part r x.2 y);
+      }
 
-pub tables_end : {X R : Type 0} (w : Width) (s : ElementSpec) (f : Format X R) → WritesOneWay f → EndsOneWay f
-    → ((x : X) (r : R) (p : ℕ) (out : List ℕ) → f.image x r p out → length out ≡ s.size)
-    → ((x : X) (r : R) (p : ℕ) (out : List ℕ) → f.image x r p out → f.overflow x r p → ⊥) → (factor : ℕ × ℕ) → EndsOneWay (table_format w s f factor)
-tables_end w s f one ends whole exclusive factor = record { ends = pairs_ends w s f one ends whole exclusive factor }
+pub tables_end : {X R : Type 0} (w : Width) (s : ElementSpec) (f : Format X R) → WritesOneWay f → EndsOneWay f → IsSized s.size f → (factor : ℕ × ℕ) → EndsOneWay (table_format w s f factor)
+tables_end w s f one ends sized factor = record { ends = pairs_ends w s f one ends sized factor }
