@@ -19,8 +19,8 @@ pub mod Once
 pub mod Existence
 unfoldable pub use Forms.{buckets_of, limit_of, lookup_key, pairs_of, text_pair, word_of}
 pub use Forms.{LookupKey, Pairs, number_key, numbers, text_key, texts}
-unfoldable pub use Maps.{number_calls, number_parts, number_spec, number_text, parts_by, parts_in}
-unfoldable pub use Maps.{text_parts, types_of}
+unfoldable pub use Maps.{PrintableMembers, map_types, number_calls, number_parts, number_spec}
+unfoldable pub use Maps.{number_text, parts_by, parts_in, text_parts, types_of}
 pub use Maps.{MapTypes}
 unfoldable pub use Pushing.{AppendsText}
 unfoldable pub use Archives.{IsArchive, IsMapArchive, MapValidationFails, ValidationFails}

@@ -2,7 +2,8 @@
 use Rattle.std.specs.Prelude.{ℕ, ◌==◌, List, [], ◌∷◌, decimal}
 use Rattle.std.specs.Int.{Width, w32}
 use Rattle.rkyv_scan.specs.{HasherCall, U32}
-use Rattle.rkyv_base.specs.{ElementSpec, number_at, scalar_spec, text_at, text_spec, unsigned}
+use Rattle.rkyv_base.specs.{ElementSpec, IsElement, WidthMembers, number_at, scalar_spec, text_at}
+use Rattle.rkyv_base.specs.{text_spec, unsigned}
 use Rattle.rkyv_keys.specs.{Comparison, same_bytes, text_calls}
 use Rattle.rkyv_dict.specs.declared.form.ArchiveWidth.{ArchiveWidth}
 use Rattle.rkyv_dict.specs.declared.form.Form.{Form}
@@ -27,6 +28,21 @@ abbrev pub parts_by : Width → ℕ → ElementSpec → (List ℕ → ℕ → Li
     → (List ℕ → ℕ → List HasherCall) → MapTypes
 parts_by word limit spec text same calls =
     record { word = word; limit = limit; spec = spec; text = text; same = same; calls = calls }
+
+-- the members of a `Printable`
+abbrev pub PrintableMembers : Type 1
+PrintableMembers = record {
+  spec : ElementSpec;
+  laws : IsElement spec;
+  same : Comparison;
+  key_calls : List ℕ → ℕ → List HasherCall;
+  text : List ℕ → ℕ → List ℕ;
+}
+
+-- the types of a map in a width, of keys and values with these members
+abbrev pub map_types : WidthMembers → PrintableMembers → MapTypes
+map_types width part =
+    parts_by width.word width.LIMIT part.spec part.text part.same part.key_calls
 
 -- the spec of a number of 32 bits
 abbrev pub number_spec : ElementSpec

@@ -13,8 +13,8 @@ ghost use Rattle.rkyv_dict.specs.{AppendsText, Builds, FindsFirstValue, IsArchiv
 ghost use Rattle.rkyv_dict.specs.{MakesArchive, MapValidationFails, Pairs, RootRepresents};
 ghost use Rattle.rkyv_dict.specs.{ValidationFails, entry_count, first_value_text, form_of_pairs};
 ghost use Rattle.rkyv_dict.specs.{keys_misplaced, line, line_at, listing, lookup_key};
-ghost use Rattle.rkyv_dict.specs.{misplaced_count, natives, pair_count, pair_lines, pairs_of};
-ghost use Rattle.rkyv_dict.specs.{parts_by, root, value_found, value_line, value_under};
+ghost use Rattle.rkyv_dict.specs.{map_types, misplaced_count, natives, pair_count, pair_lines};
+ghost use Rattle.rkyv_dict.specs.{pairs_of, root, value_found, value_line, value_under};
 
 use crate::form::{ArchiveWidth, Form, Key, Kind};
 use crate::pairs::PairList;
@@ -33,8 +33,7 @@ pub(crate) fn push_line(out: &mut String, text: &str) -> Result<(), AllocError>
 }
 
 fn check_map<P: Printable, W: Width>(bytes: &[u8]) -> Result<usize, VerifyError>
-    ensures { let m = parts_by W.word W.LIMIT P.spec P.text P.same P.key_calls in
-        MatchResult result
+    ensures { let m = map_types W.Width P.Printable in MatchResult result
         (λ n. IsMapArchive m bytes.now × (n ≡ pair_count m bytes.now))
         (MapValidationFails m bytes.now) }
 {
@@ -43,10 +42,9 @@ fn check_map<P: Printable, W: Width>(bytes: &[u8]) -> Result<usize, VerifyError>
 }
 
 fn map_of<'a, P: Printable, W: Width>(bytes: &'a [u8]) -> ArchivedHashMap<'a, P, P, FxHasher64, W>
-    requires { let m = parts_by W.word W.LIMIT P.spec P.text P.same P.key_calls in
-        IsMapArchive m bytes.now }
-    ensures at { let m = parts_by W.word W.LIMIT P.spec P.text P.same P.key_calls in
-        IsAt (map_view result) bytes.entry (root m bytes.now) }
+    requires { IsMapArchive (map_types W.Width P.Printable) bytes.now }
+    ensures at { IsAt (map_view result) bytes.entry
+        (root (map_types W.Width P.Printable) bytes.now) }
 {
     ArchivedHashMap::of(access_unchecked(bytes))
 }
@@ -70,12 +68,11 @@ fn push_found<P: Printable, W: Width, Q: Query<P>>(
     key: &Q,
     out: &mut String,
 ) -> Result<(), AllocError>
-    requires { let m = parts_by W.word W.LIMIT P.spec P.text P.same P.key_calls in
-        IsMapArchive m bytes.now }
-    ensures found { let m = parts_by W.word W.LIMIT P.spec P.text P.same P.key_calls in
-        AppendsText result out.old out.new (value_line (value_under m bytes.now (Q.calls key.now)
-        (Q.fits key.now bytes.now))) }
-    ensures first { let m = parts_by W.word W.LIMIT P.spec P.text P.same P.key_calls in
+    requires { IsMapArchive (map_types W.Width P.Printable) bytes.now }
+    ensures found { let m = map_types W.Width P.Printable in
+        AppendsText result out.old out.new
+        (value_line (value_under m bytes.now (Q.calls key.now) (Q.fits key.now bytes.now))) }
+    ensures first { let m = map_types W.Width P.Printable in
         FindsFirstValue m bytes.now (Q.fits key.now bytes.now) (λ value.
         AppendsText result out.old out.new (value_line value)) }
 {
@@ -118,10 +115,9 @@ fn push_lines<P: Printable, W: Width>(
 }
 
 fn push_map<P: Printable, W: Width>(bytes: &[u8], out: &mut String) -> Result<(), AllocError>
-    requires { let m = parts_by W.word W.LIMIT P.spec P.text P.same P.key_calls in
-        IsMapArchive m bytes.now }
-    ensures { let m = parts_by W.word W.LIMIT P.spec P.text P.same P.key_calls in
-        AppendsText result out.old out.new (pair_lines m bytes.now) }
+    requires { IsMapArchive (map_types W.Width P.Printable) bytes.now }
+    ensures { AppendsText result out.old out.new
+        (pair_lines (map_types W.Width P.Printable) bytes.now) }
 {
     let map = map_of::<P, W>(bytes);
     push_count(map.len(), out)?;
@@ -129,10 +125,8 @@ fn push_map<P: Printable, W: Width>(bytes: &[u8], out: &mut String) -> Result<()
 }
 
 fn count_misplaced<P: Printable, W: Width>(bytes: &[u8]) -> usize
-    requires { let m = parts_by W.word W.LIMIT P.spec P.text P.same P.key_calls in
-        IsMapArchive m bytes.now }
-    ensures { let m = parts_by W.word W.LIMIT P.spec P.text P.same P.key_calls in
-        result ≡ keys_misplaced m bytes.now }
+    requires { IsMapArchive (map_types W.Width P.Printable) bytes.now }
+    ensures { result ≡ keys_misplaced (map_types W.Width P.Printable) bytes.now }
 {
     map_of::<P, W>(bytes).misplaced()
 }
@@ -144,8 +138,7 @@ fn build_map<A: NativeKey<A::Archived> + Serialize<VecWriter, W>, W: Width>(
 ) -> Result<Vec<u8>, WriteError<NoMemory>>
 where
     A::Archived: Printable,
-    ensures { MakesArchive (parts_by W.word W.LIMIT A.Archived.spec A.Archived.text
-        A.Archived.same A.Archived.key_calls) load_factor W.MAX_CAPACITY
+    ensures { MakesArchive (map_types W.Width A.Archived.Printable) load_factor W.MAX_CAPACITY
         (natives A.format A.calls A.Archived.represents) pairs.now result }
 {
     let list = MapPairs::<'_, A, A>::with_load_factor(pairs, load_factor);
