@@ -1,9 +1,8 @@
 -- The error of a root whose write fails.
-use Rattle.std.proofs.Common.{◌≡◌, ℕ, ◌+◌, ◌<◌, ◌≤◌, ◌∙◌, refl, sym, ap, arith, inl, inr, List, length, false}
+use Rattle.std.proofs.Common.{◌≡◌, ℕ, ◌+◌, ◌<◌, ◌≤◌, ap, arith, inl, inr, List, length, false}
 use Rattle.std.specs.Prelude.{◌⊎◌, codes}
 use Rattle.rkyv_base.specs.{CauseApplies, Extends, Output, Reached, Step, Within, WriteFailure, capacity, distance, end_of, failure, fresh, load_factor, long_text, mismatch, no_memory, piece, refused}
 use Rattle.rkyv_base.specs.declared.errors.WriteError.{WriteError}
-use Rattle.rkyv_base.specs.declared.errors.WriteError.TheVariants.{CapacityTooLarge, DistanceTooLarge, InvalidLoadFactor, IteratorLengthMismatch, Memory, PositionTooLarge, Refused as RefusedWrite, TextTooLong, Writer}
 use Rattle.rkyv_dict.specs.{write_error_text, is_allocation_failure}
 use Rattle.rkyv_dict.proofs.Ends.{Ends, IsKnown, Run}
 
@@ -37,22 +36,11 @@ module _ (limit : ℕ) (next : List ℕ → Step → Type 0) where
 
     pub text_of_cause : {F : Type 0} (e : WriteError F) → is_allocation_failure e ≡ false → CauseApplies limit next fresh o front e → IsErrorText (write_error_text e)
     unfolding is_allocation_failure write_error_text
-    text_of_cause (InvalidLoadFactor n d) m h = text_of_reached (load_factor n d) _ (λ e. cc) h refl
-    text_of_cause (IteratorLengthMismatch x) m h = text_of_reached (mismatch x.expected x.actual) _ (λ e. cc) h refl
-    text_of_cause (CapacityTooLarge n) m h = text_of_reached (capacity n) _ (λ e. cc) h refl
-    text_of_cause PositionTooLarge m h = inr (front, h.0, h.1.2, omega (arith, h.2, ends_at), refl)
-    text_of_cause DistanceTooLarge m h = text_of_reached distance _ (λ e. cc) h.0 refl
-    text_of_cause TextTooLong m h = text_of_reached long_text _ (λ e. cc) h refl
-    text_of_cause (Writer x) m h = absurd cc
-    text_of_cause Memory m h = absurd cc
-    text_of_cause (RefusedWrite n) m h = text_of_reached (refused n) _ (λ e. cc) h refl
+    text_of_cause e m h = grind (arith, text_of_reached, ends_at)
 
 module _ (limit : ℕ) (run : Run (Unit {0})) (ends : Ends run) where
   pub error_text_unique : (text told' : List ℕ) → IsErrorText limit run.next text → IsErrorText limit run.next told' → text ≡ told'
-  error_text_unique text told' (inl x) (inl y) = x.5 ∙ ap error_text (ends.unique x.2 y.2 x.0 y.0 x.1 y.1 x.4 y.4) ∙ sym y.5
-  error_text_unique text told' (inl x) (inr y) = absurd (omega (arith, x.3, y.3, ends.before y.0 x.2 y.1 x.0 x.1 y.2 x.4))
-  error_text_unique text told' (inr x) (inl y) = absurd (omega (arith, y.3, x.3, ends.before x.0 y.2 x.1 y.0 y.1 x.2 y.4))
-  error_text_unique text told' (inr x) (inr y) = x.4 ∙ sym y.4
+  error_text_unique text told' x y = grind arith
 
   pub error_text_exclusive : (text b : List ℕ) → IsErrorText limit run.next text → run.writes b tt → length b ≤ limit → ⊥
   error_text_exclusive text b (inl x) m h = ends.exclusive x.2 b tt x.0 x.1 x.4 m

@@ -1,6 +1,6 @@
 -- Splits of a list at the first item that passes a test.
-use Rattle.std.proofs.Common.{◌≡◌, ◌==◌, ℕ, ◌+◌, ◌<◌, ◌≤◌, Bool, true, List, [], ◌∷◌, Option, length, take, drop, Some, None, refl, sym, ap, ◌∙◌, subst, arith, ltb, ⊎_elim}
-use Rattle.std.specs.List.{position, position_or_len, slice_split}
+use Rattle.std.proofs.Common.{◌≡◌, ◌==◌, ℕ, ◌+◌, ◌<◌, ◌≤◌, Bool, true, List, [], ◌∷◌, Option, length, take, drop, Some, None, refl, sym, ap, subst, arith}
+use Rattle.std.specs.List.{position, slice_split}
 use Rattle.std.proofs.lemmas.List.Splits.{length-slice_split, slice_split_first, slice_split_none}
 use denote.Ref.{Bor}
 use Rattle.std.specs.Option.{MatchOption}
@@ -15,22 +15,11 @@ use Rattle.std.proofs.lemmas.List.Sums.{fails_before_first, position_or_len_is}
 use Rattle.std.proofs.lemmas.Bool.{cases_lt, lt-ltb}
 
 pub cut_at : (p : ℕ → Bool) (xs : List ℕ) (i : ℕ) → position p xs ≡ Some i → slice_split p xs ≡ take i xs ∷ slice_split p (drop (i + 1) xs)
-cut_at p xs i e =
-    let found = position-Some p xs i 0 e in
-    let here : position_or_len p xs ≡ i = position_or_len_is p xs i 0 (omega (arith, found.0)) found.2 (λ h. found.1) in
-    let inside : position_or_len p xs < length xs = omega (arith, found.0, here) in
-    let split : slice_split p xs ≡ take (position_or_len p xs) xs ∷ slice_split p (drop (position_or_len p xs + 1) xs) = slice_split_first p xs 0 inside in
-    subst (λ (n : ℕ). slice_split p xs ≡ take n xs ∷ slice_split p (drop (n + 1) xs)) here split
+cut_at p xs i e = grind (arith, position-Some, position_or_len_is, slice_split_first)
 
 -- a list without such an item is one part
 pub cut_none : (p : ℕ → Bool) (xs : List ℕ) → position p xs ≡ None → slice_split p xs ≡ xs ∷ []
-cut_none p [] e = refl
-cut_none p (x ∷ xs) e = ⊎_elim
-    (λ h. let t : ltb (position_or_len p (x ∷ xs)) (length (x ∷ xs)) ≡ true = lt-ltb _ _ h in
-    let f : position p (x ∷ xs) ≡ Some (position_or_len p (x ∷ xs)) = rw t refl in
-    absurd (let bad : Some (position_or_len p (x ∷ xs)) ≡ None = sym f ∙ e in cc))
-    (λ h. slice_split_none p (x ∷ xs) (λ k d below. fails_before_first p (x ∷ xs) k d (omega arith)))
-    (cases_lt (position_or_len p (x ∷ xs)) (length (x ∷ xs)))
+cut_none p xs e = grind (arith, lt-ltb, slice_split_none, fails_before_first, cases_lt)
 
 -- a list with at least one part has a first part
 cons_of : (parts : List (List ℕ)) → 0 < length parts → (first : List ℕ) × (others : List (List ℕ)) × (parts ≡ first ∷ others)

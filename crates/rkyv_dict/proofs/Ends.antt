@@ -54,15 +54,6 @@ then_run {R} {Q} first second = record {
   writes = λ part x. (a : List ℕ) × (b : List ℕ) × first.writes a x.0 × (second (length a) x.0).writes b x.1 × (part ≡ a ++ b);
 }
 
-pub same_error : (c d : WriteFailure) → failure c ≡ failure d → c ≡ d
-same_error c d e = cc
-
-pub same_piece : (a b : List ℕ) → piece a ≡ piece b → a ≡ b
-same_piece a b e = cc
-
-pub no_piece : (c : WriteFailure) (a : List ℕ) → failure c ≡ piece a → ⊥
-no_piece c a e = cc
-
 pub no_ends : {R : Type 0} → Ends (no_run {R = R})
 no_ends {R} = grind (arith, common_steps)
 
@@ -99,10 +90,7 @@ module _ {R Q : Type 0} (one : Run R) (two : ℕ → R → Run Q) (first : Ends 
       ap (λ z. (z, r.1)) (first.same_result x.0 y.0 r.0 q.0 x.2 y.2) ∙ ap (λ z. (q.0, z)) g
 
   then_unique : (front front' : List ℕ) (c c' : WriteFailure) → IsKnown c → IsKnown c' → (then_run one two).next front (failure c) → (then_run one two).next front' (failure c') → c ≡ c'
-  then_unique front front' c c' k k' (inl x) (inl y) = first.unique front front' c c' k k' x y
-  then_unique front front' c c' k k' (inl x) (inr y) = absurd (first.exclusive front y.0 y.1 c k x y.3)
-  then_unique front front' c c' k k' (inr x) (inl y) = absurd (first.exclusive front' x.0 x.1 c' k' y x.3)
-  then_unique front front' c c' k k' (inr x) (inr y) = (second x.0 x.1 x.3).unique x.2 y.2 c c' k k' x.4 (next_there x.0 y.0 x.1 y.1 y.2 (failure c') x.3 y.3 y.4)
+  then_unique front front' c c' k k' x y = grind arith
 
   then_before : (front front' bytes : List ℕ) (c : WriteFailure) → IsKnown c → (then_run one two).next front (piece bytes) → (then_run one two).next front' (failure c) → length front + length bytes ≤ length front'
   then_before front front' bytes c k (inl x) (inl y) = first.before front front' bytes c k x y

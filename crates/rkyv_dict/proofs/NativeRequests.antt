@@ -1,17 +1,17 @@
 -- The keys and values of a request are numbers of 32 bits, or UTF-8.
-use Rattle.std.proofs.Common.{◌≡◌, ℕ, zero, suc, ◌+◌, ◌<◌, ◌≤◌, ◌^◌, ◌==◌, ◌&&◌, arith, refl, sym, subst, inl, inr, Bool, true, false, List, [], ◌∷◌, length, take, drop, Option, None, Some, IfSome, length-drop}
-use Rattle.std.specs.Prelude.{if◌then◌else◌, codes, nat_le, slice_index}
+use Rattle.std.proofs.Common.{◌≡◌, ℕ, zero, suc, ◌+◌, ◌<◌, ◌≤◌, ◌^◌, ◌==◌, ◌&&◌, arith, rules, refl, sym, subst, inl, inr, Bool, true, false, List, [], ◌∷◌, length, take, drop, Option, None, Some, IfSome, length-drop}
+use Rattle.std.specs.Prelude.{if◌then◌else◌, nat_le, slice_index}
 use Rattle.std.specs.List.{All, position_or_len, slice_split}
 use Rattle.std.specs.Option.{option_map}
-use Rattle.std.specs.Str.{IsUtf8, bytes_eq, is_utf8}
+use Rattle.std.specs.Str.{IsUtf8, is_utf8}
 use Rattle.std.specs.Str.Parse.{digits_value}
 use Rattle.std.proofs.lemmas.Bool.{and_parts, cases_lt, eqb-true, leb-true}
 use Rattle.std.proofs.lemmas.List.{nil_from_length}
-use Rattle.std.proofs.lemmas.List.Elements.{All-cons, All-head, All-nil, All-tail}
+use Rattle.std.proofs.lemmas.List.Elements.{All-cons, All-nil, All-tail}
 use Rattle.std.proofs.lemmas.List.Splits.{slice_split_first, slice_split_none}
 use Rattle.std.proofs.lemmas.List.Sums.{fails_before_first, passes_at_first}
 use Rattle.std.proofs.lemmas.Str.{IsCharBoundary-after_ascii, IsCharBoundary-before_ascii, IsUtf8-drop, IsUtf8-from_is_utf8, IsUtf8-nil, IsUtf8-take}
-use Rattle.rkyv_dict.specs.{Request, bits_of_word, both_of, build_archive, check_archive, check_request, count_misplaced, get_request, get_value, hex_of_word, is_numeral, kind_of_word, kind_request, list_pairs, load_factor_request, most_number, number_key, number_of, one_of, parsed_by, parsed_by_both, put_numbers, put_request, put_texts, request_by, request_of, request_of_words, set_kind, set_load_factor, set_width, show_hex, text_key, text_of, two_of, width_request, without_arguments, words_of}
+use Rattle.rkyv_dict.specs.{Request, both_of, build_archive, check_archive, count_misplaced, get_request, get_value, is_numeral, list_pairs, most_number, number_key, number_of, one_of, parsed_by, parsed_by_both, put_numbers, put_request, put_texts, request_by, request_of, request_of_words, set_kind, set_load_factor, set_width, show_hex, text_key, text_of, two_of, without_arguments, words_of}
 use Rattle.rkyv_dict.specs.declared.form.Kind.{Kind}
 use Rattle.rkyv_dict.specs.declared.form.Kind.TheVariants.{Num, Text}
 
@@ -72,10 +72,7 @@ both_native P (Some x) None h k = tt
 both_native P (Some x) (Some y) h k = (h, k)
 
 two_native : (Q : List ℕ → Type 0) (words : List (List ℕ)) → All Q words → IfSome (two_of words) (λ p. Q p.0 × Q p.1)
-two_native Q [] all = tt
-two_native Q (first ∷ []) all = tt
-two_native Q (first ∷ (second ∷ [])) all = (All-head Q first (second ∷ []) all, All-head Q second [] (All-tail Q first (second ∷ []) all))
-two_native Q (first ∷ (second ∷ (next ∷ more))) all = tt
+two_native Q words all = grind arith
 
 parsed_native : {A : Type 0} (P : A → Type 0) (Q : List ℕ → Type 0) (parse : List ℕ → Option A) → ((word : List ℕ) → Q word → IfSome (parse word) P)
     → (words : Option (List ℕ × List ℕ)) → IfSome words (λ p. Q p.0 × Q p.1) → IfSome (parsed_by_both parse words) (λ p. P p.0 × P p.1)
@@ -110,64 +107,13 @@ get_native : (kind : Kind) (arguments : List (List ℕ)) → IfSome (get_request
 get_native Num arguments = mapped_any (λ k. get_value (number_key k)) (parsed_by (number_of most_number) (one_of arguments)) (λ k. tt)
 get_native Text arguments = mapped_any (λ t. get_value (text_key t)) (parsed_by text_of (one_of arguments)) (λ t. tt)
 
--- the request of the first passed test, if any
-abbrev chosen : List (Bool × Option Request) → Option Request
-chosen [] = None
-chosen (choice ∷ choices) = if choice.0 then choice.1 else chosen choices
-
--- each request is native
-abbrev AreNativeIf : List (Bool × Option Request) → Type 0
-AreNativeIf [] = Unit {0}
-AreNativeIf (choice ∷ choices) = IfSome choice.1 IsNative × AreNativeIf choices
-
 if_both : (test : Bool) (x y : Option Request) → IfSome x IsNative → IfSome y IsNative → IfSome (if test then x else y) IsNative
 if_both true x y h k = h
 if_both false x y h k = k
 
-chosen_native : (choices : List (Bool × Option Request)) → AreNativeIf choices → IfSome (chosen choices) IsNative
-chosen_native [] h = tt
-chosen_native (choice ∷ choices) h = if_both choice.0 choice.1 (chosen choices) h.0 (chosen_native choices h.1)
-
 by_native : (kind : Kind) (verb : List ℕ) (arguments : List (List ℕ)) → All IsUtf8 arguments → IfSome (request_by kind verb arguments) IsNative
 unfolding request_by
-by_native kind verb arguments all =
-    let choices : List (Bool × Option Request) =
-    (bytes_eq verb (codes "kind"), kind_request arguments)
-    ∷ ((bytes_eq verb (codes "width"), width_request arguments)
-    ∷ ((bytes_eq verb (codes "lf"), load_factor_request arguments)
-    ∷ ((bytes_eq verb (codes "put"), put_request kind arguments)
-    ∷ ((bytes_eq verb (codes "build"), without_arguments build_archive arguments)
-    ∷ ((bytes_eq verb (codes "check"), check_request arguments)
-    ∷ ((bytes_eq verb (codes "hex"), without_arguments show_hex arguments)
-    ∷ ((bytes_eq verb (codes "get"), get_request kind arguments)
-    ∷ ((bytes_eq verb (codes "list"), without_arguments list_pairs arguments)
-    ∷ ((bytes_eq verb (codes "audit"), without_arguments count_misplaced arguments)
-    ∷ []))))))))) in
-    chosen_native choices (
-      mapped_any (λ k. set_kind k) (parsed_by kind_of_word (one_of arguments)) (λ k. tt),
-      (
-        mapped_any (λ b. set_width b) (parsed_by bits_of_word (one_of arguments)) (λ b. tt),
-        (
-          mapped_any (λ p. set_load_factor p.0 p.1) (parsed_by_both (number_of 18_446_744_073_709_551_615) (two_of arguments)) (λ p. tt),
-          (
-            put_native kind arguments all,
-            (
-              alone_native build_archive arguments tt,
-              (
-                mapped_any (λ bytes. check_archive bytes) (parsed_by hex_of_word (one_of arguments)) (λ bytes. tt),
-                (
-                  alone_native show_hex arguments tt,
-                  (
-                    get_native kind arguments,
-                    (alone_native list_pairs arguments tt, (alone_native count_misplaced arguments tt, tt)),
-                  ),
-                ),
-              ),
-            ),
-          ),
-        ),
-      ),
-    )
+by_native kind verb arguments all = search (rules, if_both, mapped_any, put_native, get_native, alone_native)
 
 of_words_native : (kind : Kind) (words : List (List ℕ)) → All IsUtf8 words → IfSome (request_of_words kind words) IsNative
 of_words_native kind [] all = tt

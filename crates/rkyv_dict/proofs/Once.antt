@@ -1,5 +1,5 @@
 -- Pairs have one archive, and a validation has one outcome.
-use Rattle.std.proofs.Common.{◌≡◌, ℕ, ◌-◌, ◌∙◌, refl, sym, arith, inl, inr, List, length}
+use Rattle.std.proofs.Common.{◌≡◌, ℕ, refl, arith, inl, inr, List}
 use Rattle.std.proofs.lemmas.Grind.{common_steps}
 use Rattle.std.specs.Int.{w32}
 use Rattle.rkyv_base.specs.{AccessFails, ArchiveOf, ElementSpec, Format, IsArchiveWord, IsElement, IsValidArchive, ScalarRepresents, TextReads, scalar_format, text_format, unsigned}
@@ -66,25 +66,10 @@ builds_are_one form factor pairs a b x y = built_one form.kind form.bits factor 
 -- ---- validations
 
 access_exclusive : (limit : ℕ) (s : ElementSpec) → IsElement s → (b : List ℕ) (e : VerifyError) → AccessFails limit s b e → IsValidArchive limit s b → ⊥
-access_exclusive limit s laws b e (inl (inl low, q)) a = omega (arith, low, a.inside)
-access_exclusive limit s laws b e (inl (inr high, q)) a = omega (arith, high, a.within)
-access_exclusive limit s laws b e (inr (inl f)) a = f.2 a.aligned
-access_exclusive limit s laws b e (inr (inr f)) a = laws.exclusive b (length b - s.size) 0 (length b - s.size) a.valid.0 e a.valid.1 f.3
+access_exclusive limit s laws b e x a = grind arith
 
 access_one : (limit : ℕ) (s : ElementSpec) → IsElement s → (b : List ℕ) (e d : VerifyError) → AccessFails limit s b e → AccessFails limit s b d → e ≡ d
-access_one limit s laws b e d (inl f) (inl g) = f.1 ∙ sym g.1
-access_one limit s laws b e d (inl (inl low, q)) (inr (inl g)) = absurd (omega (arith, low, g.0))
-access_one limit s laws b e d (inl (inr high, q)) (inr (inl g)) = absurd (omega (arith, high, g.1))
-access_one limit s laws b e d (inl (inl low, q)) (inr (inr g)) = absurd (omega (arith, low, g.0))
-access_one limit s laws b e d (inl (inr high, q)) (inr (inr g)) = absurd (omega (arith, high, g.1))
-access_one limit s laws b e d (inr (inl f)) (inl (inl low, q)) = absurd (omega (arith, low, f.0))
-access_one limit s laws b e d (inr (inl f)) (inl (inr high, q)) = absurd (omega (arith, high, f.1))
-access_one limit s laws b e d (inr (inr f)) (inl (inl low, q)) = absurd (omega (arith, low, f.0))
-access_one limit s laws b e d (inr (inr f)) (inl (inr high, q)) = absurd (omega (arith, high, f.1))
-access_one limit s laws b e d (inr (inl f)) (inr (inl g)) = f.3 ∙ sym g.3
-access_one limit s laws b e d (inr (inl f)) (inr (inr g)) = absurd (f.2 g.2)
-access_one limit s laws b e d (inr (inr f)) (inr (inl g)) = absurd (g.2 f.2)
-access_one limit s laws b e d (inr (inr f)) (inr (inr g)) = laws.one_failure b (length b - s.size) 0 (length b - s.size) e d f.3 g.3
+access_one limit s laws b e d x y = grind arith
 
 part_element : (kind : Kind) (bits : ArchiveWidth) → IsElement (parts_in kind bits).spec
 part_element Num bits = scalar_element (unsigned w32) (inr (inr (inl refl))) (unsigned_codes w32)

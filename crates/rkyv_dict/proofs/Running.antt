@@ -1,7 +1,7 @@
 -- Lines are executed in turn, and their output is written or buffered.
 use Rattle.std.proofs.Common.{arith, ◌≡◌, ℕ, List, [], ◌∷◌, ◌++◌, Option, refl, sym, ap, ◌∙◌, subst, append_assoc}
 use Rattle.std.proofs.lemmas.Grind.{common_steps}
-use Rattle.std.proofs.KnownBytes.{Appends-nil, Appends-trans}
+use Rattle.std.proofs.KnownBytes.{Appends-trans}
 use Rattle.std.proofs.lemmas.List.{append-nil}
 use Rattle.rkyv_dict.specs.{AppendsBeginning, AppendsFront, AppendsProperBeginning, AppendsProperFront, AppendsSome, MovesFront, Progress, RunsTo, State, StepsLine, lines_of, start}
 
@@ -19,28 +19,12 @@ runs_more (x ∷ ls) s output s' l printed s'' runs does =
     (runs.0, runs.1, runs.2 ++ printed, runs.3, runs_more ls runs.1 runs.2 s' l printed s'' runs.4 does, ap (λ o. o ++ printed) runs.5 ∙ append_assoc runs.0 runs.2 printed)
 
 pub progress_none : (now : Option (List ℕ)) (script buffered : List ℕ) (s : State) → s ≡ start → buffered ≡ [] → Progress now now script buffered (lines_of script) s
-progress_none now script buffered s is none = record {
-  done = [];
-  lines = refl;
-  output = [];
-  runs = subst (RunsTo start [] []) (sym is) (runs_none start);
-  moved = record { moved = []; parts = sym none; appended = Appends-nil now };
-}
+progress_none now script buffered s is none = grind (arith, common_steps, runs_none start)
 
 -- a line is executed, and its output is buffered
 pub progress_line : (old now : Option (List ℕ)) (script buffered buffered' : List ℕ) (rest more : List (List ℕ)) (line : List ℕ) (s s' : State)
     → Progress old now script buffered rest s → rest ≡ line ∷ more → AppendsSome buffered buffered' (λ printed. StepsLine s line printed s') → Progress old now script buffered' more s'
-progress_line old now script buffered buffered' rest more line s s' p cut added = record {
-  done = p.done ++ line ∷ [];
-  lines = append_assoc p.done (line ∷ []) more ∙ ap (λ l. p.done ++ l) (sym cut) ∙ p.lines;
-  output = p.output ++ added.printed;
-  runs = runs_more p.done start p.output s line added.printed s' p.runs added.accepted;
-  moved = record {
-    moved = p.moved.moved;
-    parts = ap (λ l. l ++ added.printed) p.moved.parts ∙ append_assoc p.moved.moved buffered added.printed ∙ ap (λ l. p.moved.moved ++ l) (sym added.added);
-    appended = p.moved.appended;
-  };
-}
+progress_line old now script buffered buffered' rest more line s s' p cut added = grind (arith, append_assoc, runs_more)
 
 -- a prefix of the buffered output is written
 pub progress_moved : (old now next : Option (List ℕ)) (script buffered kept : List ℕ) (rest : List (List ℕ)) (s : State)

@@ -1,5 +1,5 @@
 -- The archive of a state is valid.
-use Rattle.std.proofs.Common.{◌≡◌, ℕ, List, ◌++◌, Option, Some, None, Result, refl, sym, subst, ap, ◌∙◌, inl, inr}
+use Rattle.std.proofs.Common.{◌≡◌, ℕ, List, ◌++◌, Option, Some, None, Result, refl, sym, subst, ap, ◌∙◌, inl, inr, arith}
 use Rattle.std.specs.Prelude.{OnOk}
 use Rattle.std.specs.Option.{ForSome}
 use Rattle.rkyv_dict.specs.declared.form.ArchiveWidth.{ArchiveWidth}
@@ -57,10 +57,7 @@ start_sound s is = subst IsSound (sym is) (λ a none. absurd (let bad : None ≡
 
 -- a built archive is sound, and so is one that `check` validated
 pub built_sound : (s : State) (bytes : List ℕ) → IsBuilt (form_of s) s.load_factor s.pairs bytes → IsSoundIn (form_of s) (record { bytes = bytes; built_of = Some s.pairs })
-built_sound s bytes built = record {
-  archive = built_archive _ _ _ _ built;
-  built = λ pairs is. (s.load_factor, subst (RootRepresents (form_of s) s.load_factor bytes) (let same : s.pairs ≡ pairs = cc in same) (built_represents _ _ _ _ built));
-}
+built_sound s bytes built = grind (arith, built_archive, built_represents)
 
 pub checked_sound : (form : Form) (bytes : List ℕ) → IsArchive form bytes → IsSoundIn form (record { bytes = bytes; built_of = None })
 checked_sound form bytes archive = record { archive = archive; built = λ pairs none. absurd (let bad : None ≡ Some pairs = none in cc) }

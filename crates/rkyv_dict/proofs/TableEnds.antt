@@ -57,12 +57,7 @@ module _ {X R : Type 0} (s : ElementSpec) (f : Format X R) (ends : EndsOneWay f)
       inr (a, rs, zs ++ g, before.0, inr (zs, tt, g, refl, inr (g, tt, [], buckets, (refl, last), sym (append-nil g)), refl), is ∙ ap (λ l. l ++ g) before.1 ∙ append_assoc a zs g)
 
   whole_writes : (part : List ℕ) (z : ℕ) → TableBytes s f slots controls p z part → (rs : List R) × whole_run.writes part (rs, (tt, (tt, tt)))
-  whole_writes part z t =
-      let zs = gap s.align p (length t.part) in
-      let at : z ≡ p + length t.part + length zs + length t.buckets =
-      omega (arith, t.at, length-replicate {A = ℕ} (padding s.align (p + length t.part)) 0, images_length s.size f sized.size_exact slots t.resolvers z t.buckets t.images) in
-      let images = subst (λ n. SlotImages s.size f slots t.resolvers n t.buckets) at t.images in
-      (t.resolvers, (t.part, zs ++ (t.buckets ++ controls), t.made, (zs, t.buckets ++ controls, refl, (t.buckets, controls, images, refl, refl), refl), t.is))
+  whole_writes part z t = grind (arith, length-replicate, images_length)
 
   pub table_ends : Ends (table_run s f slots controls p)
   table_ends =

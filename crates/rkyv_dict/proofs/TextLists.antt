@@ -1,15 +1,15 @@
 -- An archive of pairs depends on their bytes only.
-use Rattle.std.proofs.Common.{◌≡◌, ℕ, refl, ap, sym, subst, ◌∙◌, inl, inr, List, [], ◌∷◌, map, length, slice_get, slice_index, Result, Ok, Err, MatchResult}
+use Rattle.std.proofs.Common.{◌≡◌, ℕ, refl, ap, sym, subst, inl, inr, List, [], ◌∷◌, map, length, Result, Ok, Err, MatchResult, arith}
 use Rattle.std.specs.Borrow.{Bor}
 use Rattle.std.proofs.lemmas.List.{length-map}
 use Rattle.std.proofs.lemmas.Option.{slice_get-map}
 use Rattle.rkyv_scan.specs.{HasherCall}
-use Rattle.rkyv_base.specs.{Format, PairRepresents, RootNext, Step, TextReads, fresh, pair_format, text_format, written_as}
+use Rattle.rkyv_base.specs.{Format, RootNext, Step, TextReads, fresh, pair_format, text_format, written_as}
 use Rattle.rkyv_base.specs.declared.pairs.EntryResolver.{EntryResolver}
 use Rattle.rkyv_base.specs.declared.errors.WriteError.{WriteError}
 use Rattle.rkyv_base.specs.Lemmas.Writing.{fails_under}
 use Rattle.rkyv_keys.specs.{text_calls}
-use Rattle.rkyv_table.specs.{HasCapacity, ListFails, PairsNext, TableParts, TableResolver, capacity, home_positions}
+use Rattle.rkyv_table.specs.{HasCapacity, ListFails, PairsNext, TableParts, TableResolver}
 use Rattle.rkyv_table.proofs.Lists.{option_map_some}
 use Rattle.rkyv_collections.specs.{keyed}
 use Rattle.rkyv_collections.proofs.MappedItems.{mapped_pairs, mapped_pairs_next, mapped_table}
@@ -29,17 +29,7 @@ module _ {A B : Type 0} (model_of : A → B) where
     RepresentsModel b p a = represents b p (model_of a)
 
     represents_models : (b : List ℕ) (p : ℕ) (pairs : List (A × A)) → PairsRepresentAt k factor RepresentsModel b p pairs → PairsRepresentAt k factor represents b p (map both pairs)
-    represents_models b p pairs h =
-        let count : length (map both pairs) ≡ length pairs = length-map pairs both in
-        record {
-          homes = h.homes;
-          written = h.written;
-          len = h.len ∙ sym count;
-          cap = h.cap ∙ ap (λ n. capacity n factor) (sym count);
-          at = λ i y e.
-              let w = option_map_some both (slice_get pairs i) y (sym (slice_get-map both pairs i) ∙ e) in
-              subst (PairRepresents k.spec k.spec represents represents b (slice_index (home_positions k.word (pair_spec k).size b p h.homes) i)) w.2 (h.at i w.0 w.1);
-        }
+    represents_models b p pairs h = grind (arith, length-map, option_map_some, slice_get-map)
 
     module _ {R : Type 0} (most : ℕ) (format : Format B R) (calls : B → List HasherCall) (pairs : List (A × A)) where
       abbrev Before : Format (List (A × A)) TableResolver
