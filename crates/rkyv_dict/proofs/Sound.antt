@@ -1,11 +1,13 @@
 -- The archive of a state is valid.
 use Rattle.std.proofs.Common.{◌≡◌, ℕ, List, ◌++◌, Option, Some, None, Result, refl, sym, subst, ap, ◌∙◌, inl, inr, arith}
 use Rattle.std.specs.Prelude.{OnOk}
-use Rattle.std.specs.Option.{ForSome}
+use Rattle.std.specs.Option.{ForSome, option_map}
+use Rattle.rkyv_dict.specs.declared.dict.Dict.{Dict}
+use Rattle.rkyv_dict.specs.declared.dict.Stored.{Stored}
 use Rattle.rkyv_dict.specs.declared.form.ArchiveWidth.{ArchiveWidth}
 use Rattle.rkyv_dict.specs.declared.form.Form.{Form}
 use Rattle.std.proofs.lemmas.Result.{on_ok_weaker}
-use Rattle.rkyv_dict.specs.{AppendsSome, Archived, IsArchive, IsArchiveOf, IsBuilt, IsMapArchive, IsSound, IsSoundIn, LookupKey, Pairs, PairsRepresent, Request, RootRepresents, State, StepsTo, archive_output, build_archive, check_archive, count_misplaced, first_value_text, form_of, form_of_pairs, get_line, get_value, kind_of_pairs, list_pairs, numbers, put_numbers, put_texts, set_kind, set_load_factor, set_width, show_hex, start, texts, value_found, value_in, value_line, with_numbers, with_texts}
+use Rattle.rkyv_dict.specs.{AppendsSome, Archived, archived_of, pairs_of, state_of, IsArchive, IsArchiveOf, IsBuilt, IsMapArchive, IsSound, IsSoundIn, LookupKey, Pairs, PairsRepresent, Request, RootRepresents, State, StepsTo, archive_output, build_archive, check_archive, count_misplaced, first_value_text, form_of, form_of_pairs, get_line, get_value, kind_of_pairs, list_pairs, numbers, put_numbers, put_texts, set_kind, set_load_factor, set_width, show_hex, start, texts, value_found, value_in, value_line, with_numbers, with_texts}
 
 kind_with_numbers : (pairs : Pairs) (key value : ℕ) → kind_of_pairs (with_numbers pairs key value) ≡ kind_of_pairs pairs
 kind_with_numbers (numbers pairs) key value = refl
@@ -32,6 +34,10 @@ sound_here s a sound is = sound a is
 
 pub archive_here : (s : State) (a : Archived) (form : Form) (bytes : List ℕ) → IsSound s → s.archive ≡ Some a → form ≡ form_of s → bytes ≡ a.bytes → IsArchive form bytes
 archive_here s a form bytes sound is f b = rw (f, b) (sound_here s a sound is).archive
+
+-- the archive of a dictionary
+pub archive_of_dict : (d : Dict) (a : Stored) (form : Form) (bytes : List ℕ) → IsSound (state_of d) → d.archive ≡ Some a → form ≡ form_of (state_of d) → bytes ≡ a.bytes.items → IsArchive form bytes
+archive_of_dict d a form bytes sound is = archive_here (state_of d) (archived_of (pairs_of d.list) a) form bytes sound (ap (option_map (archived_of (pairs_of d.list))) is)
 
 -- `get` returns the value of the first pair of a built archive, else that of a lookup
 value_by : {U E : Type 0} (form : Form) (bytes : List ℕ) (built : Option Pairs) (r : Result U E) (now old : List ℕ) (key : LookupKey)

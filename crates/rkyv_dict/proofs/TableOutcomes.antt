@@ -17,7 +17,7 @@ use Rattle.rkyv_table.proofs.FirstFree.{first_of_all}
 use Rattle.rkyv_table.proofs.PartSteps.{parts_filled, step_fails, step_none, step_some}
 use Rattle.rkyv_table.proofs.PlacingSteps.{placed_more, placed_none, placed_room}
 use Rattle.rkyv_table.proofs.TableSteps.{stopped_buckets, stopped_controls, stopped_parts, stopped_zeros, table_wrote}
-use Rattle.rkyv_dict.proofs.WriteOutcomes.{CanResolve, CanSerialize, Fails, IsWritable, append_outcome, distance_reported, fits_or_not}
+use Rattle.rkyv_dict.proofs.WriteOutcomes.{CanResolve, CanSerialize, Fails, IsWritable, after_part, append_outcome, distance_reported, fits_or_not}
 
 -- ---- parts of the items
 
@@ -36,33 +36,20 @@ module _ {X R : Type 0} (limit : ℕ) (f : Format X R) (slots : List (Option X))
 
     parts_step : (n : ℕ) → n < length slots → (o1 : Output) → PartsWritten n o1 → (s : Option X) → get_or slots n None ≡ s → PartsOutcome (n + 1)
     parts_step n inside o1 w None e = inl (o1, (w.0, w.1, w.2, step_none f slots n inside o o1 w.1 w.0 w.2 w.3 e, w.4))
-    parts_step n inside o1 w (Some x) e = elim ((items n x (slice_get-get_or slots n None inside ∙ ap Some e)).serialize o1) [
-      | inr fault ↦ inr (fault.0, fault.1, fault.2, step_fails f slots n inside o o1 w.1 w.0 w.2 w.3 x e limit fault.0 fault.1 w.4 fault.3)
-      | inl s ↦ inl (
-        s.0,
-        (
-          w.0 ++ (s.1 ∷ []),
-          w.1 ++ s.2.0,
-          appends_after o o1 s.0 w.1 s.2.0 w.2 s.2.1,
-          step_some f slots n inside o o1 w.1 w.0 w.2 w.3 x e s.2.0 s.1 s.2.2,
-          within_after limit o1 s.0 w.1 s.2.0 (grows o1 s.0 s.2.0 s.2.1) w.4 s.2.3,
-        ),
-      )
-    ]
+    parts_step n inside o1 w (Some x) e =
+        after_part ((items n x (slice_get-get_or slots n None inside ∙ ap Some e)).serialize o1) (λ o' err h. step_fails f slots n inside o o1 w.1 w.0 w.2 w.3 x e limit o' err w.4 h)
+        (λ s. let within = within_after limit o1 s.0 w.1 s.2.0 (grows o1 s.0 s.2.0 s.2.1) w.4 s.2.3 in
+        inl (s.0, (w.0 ++ (s.1 ∷ []), w.1 ++ s.2.0, appends_after o o1 s.0 w.1 s.2.0 w.2 s.2.1, step_some f slots n inside o o1 w.1 w.0 w.2 w.3 x e s.2.0 s.1 s.2.2, within)))
 
     parts_to : (n : ℕ) → n ≤ length slots → PartsOutcome n
     parts_to zero h = inl (o, ([], [], none_appended o, (refl, refl), inl refl))
-    parts_to (suc n) h = elim (parts_to n (omega arith)) [
-      | inr fault ↦ inr fault
-      | inl w ↦ subst PartsOutcome (add-one n) (parts_step n (omega arith) w.0 w.1 (get_or slots n None) refl)
-    ]
+    parts_to (suc n) h = after_part (parts_to n (omega arith)) (λ o' e h. h) (λ w. subst PartsOutcome (add-one n) (parts_step n (omega arith) w.0 w.1 (get_or slots n None) refl))
 
     parts_outcome : ((o1 : Output) × (rs : List R) × (part : List ℕ) × Appends o o1 part × SlotParts f slots (end_of o) part rs × Within limit o1 part)
         ⊎ Fails (λ o1 e. WriteFails limit (PartsNext f slots (end_of o)) o o1 e)
-    parts_outcome = elim (parts_to (length slots) (omega arith)) [
-      | inr fault ↦ inr fault
-      | inl w ↦ inl (w.0, w.1.0, w.1.1, w.1.2, subst (λ (l : List (Option X)). SlotParts f l (end_of o) w.1.1 w.1.0) (take_all (length slots) slots (omega arith)) w.1.3, w.1.4)
-    ]
+    parts_outcome =
+        after_part (parts_to (length slots) (omega arith)) (λ o' e h. h)
+        (λ w. inl (w.0, w.1.0, w.1.1, w.1.2, subst (λ (l : List (Option X)). SlotParts f l (end_of o) w.1.1 w.1.0) (take_all (length slots) slots (omega arith)) w.1.3, w.1.4))
 
 -- ---- buckets
 
@@ -78,19 +65,17 @@ module _ {X R : Type 0} (size limit : ℕ) (f : Format X R) (sized : (x : X) (r 
 
   bucket_step : (i : ℕ) (left : List R) (o1 : Output) → BucketsWritten size limit f slots rs o (i + 1) left o1 → (s : Option X) → get_or slots i None ≡ s
       → ((more : List R) (o2 : Output) → BucketsWritten size limit f slots rs o i more o2 → BucketsOutcome) → BucketsOutcome
-  bucket_step i left o1 d None e others = elim (append_outcome limit (zeros size) o1) [
-    | inr fault ↦ inr (fault.0, fault.1, fault.2, bucket_fails size limit f slots rs o i left o1 fault.0 d None e left (zeros size) fault.1 (refl, refl) fault.3)
-    | inl a ↦ others left a.0 (down_none size limit f slots rs o i left o1 a.0 d e a.1.0 a.1.1)
-  ]
+  bucket_step i left o1 d None e others =
+      after_part (append_outcome limit (zeros size) o1) (λ o' err h. bucket_fails size limit f slots rs o i left o1 o' d None e left (zeros size) err (refl, refl) h)
+      (λ a. others left a.0 (down_none size limit f slots rs o i left o1 a.0 d e a.1.0 a.1.1))
   bucket_step i left o1 d (Some x) e others =
       let l = last_of left (down_room size limit f slots rs o i left o1 o1 d x e) in
       let inside : i < length slots = omega (arith, d.inside) in
       elim ((items i x (slice_get-get_or slots i None inside ∙ ap Some e)).resolve l.1 (end_of o1)) [
         | inr overflow ↦ inr (o1, DistanceTooLarge, distance_reported, overflow_fails size limit f slots rs o i left o1 o1 d (Some x) e (l.1, l.0, l.2, overflow))
-        | inl one ↦ elim (append_outcome limit one.0 o1) [
-          | inr fault ↦ inr (fault.0, fault.1, fault.2, bucket_fails size limit f slots rs o i left o1 fault.0 d (Some x) e l.0 one.0 fault.1 (l.1, l.2, one.1) fault.3)
-          | inl a ↦ others l.0 a.0 (down_some size limit f slots rs o i left o1 a.0 d x l.1 l.0 one.0 e l.2 one.1 (sized x l.1 (end_of o1) one.0 one.1) a.1.0 a.1.1)
-        ]
+        | inl one ↦
+            after_part (append_outcome limit one.0 o1) (λ o' err h. bucket_fails size limit f slots rs o i left o1 o' d (Some x) e l.0 one.0 err (l.1, l.2, one.1) h)
+            (λ a. others l.0 a.0 (down_some size limit f slots rs o i left o1 a.0 d x l.1 l.0 one.0 e l.2 one.1 (sized x l.1 (end_of o1) one.0 one.1) a.1.0 a.1.1))
       ]
 
   buckets_from : (i : ℕ) (left : List R) (o1 : Output) → BucketsWritten size limit f slots rs o i left o1 → BucketsOutcome
@@ -109,32 +94,24 @@ module _ {X R : Type 0} (limit : ℕ) (s : ElementSpec) (f : Format X R) (sized 
   module _ (o1 : Output) (a : List ℕ) (rs : List R) (aa : Appends o o1 a) (made : SlotParts f slots (end_of o) a rs) (inside : Within limit o1 a) where
     module _ (o2 : Output) (bb : Appended limit (zeros (padding s.align (end_of o1))) o1 o2) where
       after_buckets : (o3 : Output) → WroteBuckets s.size f limit slots rs o2 o3 → SlotsOutcome
-      after_buckets o3 w = elim (append_outcome limit controls o3) [
-        | inr fault ↦ inr (fault.0, fault.1, fault.2, stopped_controls NoMemory s limit f sized slots controls o o1 a rs aa made inside o2 bb o3 w fault.0 fault.1 fault.3)
-        | inl d ↦
-            let t = table_wrote NoMemory s limit f sized slots controls o o1 a rs aa made inside o2 bb o3 w d.0 d.1 in
-            inl (d.0, end_of o3, t.0, t.1, t.2)
-      ]
+      after_buckets o3 w =
+          after_part (append_outcome limit controls o3) (stopped_controls NoMemory s limit f sized slots controls o o1 a rs aa made inside o2 bb o3 w)
+          (λ d. let t = table_wrote NoMemory s limit f sized slots controls o o1 a rs aa made inside o2 bb o3 w d.0 d.1 in
+          inl (d.0, end_of o3, t.0, t.1, t.2))
 
       after_zeros : SlotsOutcome
       after_zeros =
           let start = down_init s.size limit f slots rs o2 (parts_filled f slots (end_of o) a rs made) bb.1 in
-          elim (buckets_from s.size limit f sized slots items rs o2 (length slots) rs o2 start) [
-            | inr fault ↦ inr (fault.0, fault.1, fault.2, stopped_buckets NoMemory s limit f sized slots controls o o1 a rs aa made inside o2 bb fault.0 fault.1 fault.3)
-            | inl w ↦ after_buckets w.0 w.1
-          ]
+          after_part (buckets_from s.size limit f sized slots items rs o2 (length slots) rs o2 start) (stopped_buckets NoMemory s limit f sized slots controls o o1 a rs aa made inside o2 bb)
+          (λ w. after_buckets w.0 w.1)
 
     after_parts : SlotsOutcome
-    after_parts = elim (append_outcome limit (zeros (padding s.align (end_of o1))) o1) [
-      | inr fault ↦ inr (fault.0, fault.1, fault.2, stopped_zeros NoMemory s limit f sized slots controls o o1 a rs aa made inside fault.0 fault.1 fault.3)
-      | inl bb ↦ after_zeros bb.0 bb.1
-    ]
+    after_parts =
+        after_part (append_outcome limit (zeros (padding s.align (end_of o1))) o1) (stopped_zeros NoMemory s limit f sized slots controls o o1 a rs aa made inside)
+        (λ bb. after_zeros bb.0 bb.1)
 
   slots_outcome : SlotsOutcome
-  slots_outcome = elim (parts_outcome limit f slots items o) [
-    | inr fault ↦ inr (fault.0, fault.1, fault.2, stopped_parts NoMemory s limit f sized slots controls o fault.0 fault.1 fault.3)
-    | inl w ↦ after_parts w.0 w.2 w.1 w.3 w.4 w.5
-  ]
+  slots_outcome = after_part (parts_outcome limit f slots items o) (stopped_parts NoMemory s limit f sized slots controls o) (λ w. after_parts w.0 w.2 w.1 w.3 w.4 w.5)
 
 -- ---- placing
 
@@ -192,24 +169,9 @@ module _ {X R : Type 0} (limit : ℕ) (w : Width) (kind : IsArchiveWord w) (s : 
       let some : 0 < length pairs = omega arith in
       let room = capacity_above (length pairs) factor some in
       let p = placed_from (IsWritable limit f) (capacity (length pairs) factor) (omega (arith, room)) pairs all room in
-      elim (slots_outcome limit s f sized p.0 p.1 p.3 o) [
-        | inr fault ↦ inr (
-          fault.0,
-          fault.1,
-          fault.2,
-          fails_under limit (PairsNext w s f factor pairs (end_of o)) (TableNext s f p.0 p.1 (end_of o)) o fault.0 fault.1 (λ front step h. (p.0, p.1, (some, p.2), h)) fault.3,
-        )
-        | inl t ↦ inl (
-          t.0,
-          resolver_of (length pairs) factor t.1,
-          (
-            t.2,
-            t.3.0,
-            record { len = refl; factor = refl; fits = fits; written = inr (p.0, p.1, (some, p.2), t.4) },
-            inr t.3.1,
-          ),
-        )
-      ]
+      after_part (slots_outcome limit s f sized p.0 p.1 p.3 o)
+      (λ o' e h. fails_under limit (PairsNext w s f factor pairs (end_of o)) (TableNext s f p.0 p.1 (end_of o)) o o' e (λ front step n. (p.0, p.1, (some, p.2), n)) h)
+      (λ t. inl (t.0, resolver_of (length pairs) factor t.1, (t.2, t.3.0, record { len = refl; factor = refl; fits = fits; written = inr (p.0, p.1, (some, p.2), t.4) }, inr t.3.1)))
 
   one_fits : FitsSigned w (pos 1)
   one_fits = by_archive_word (λ v. FitsSigned v (pos 1)) (record { sfits = omega arith }) (record { sfits = omega arith }) w kind

@@ -20,6 +20,12 @@ use Rattle.rkyv_dict.specs.declared.form.Kind.TheVariants.{Num, Text}
 abbrev IsDecided : ElementSpec → List ℕ → Type 0
 IsDecided s b = (p lo hi : ℕ) → ((l : ℕ) × s.is_valid b p lo hi l) ⊎ ((e : VerifyError) × s.fails b p lo hi e)
 
+-- a validation goes on by `next`, or fails as its first part
+after_valid : {A B : Type 0} {fails fails' : VerifyError → Type 0} → A ⊎ ((e : VerifyError) × fails e) → ((e : VerifyError) → fails e → fails' e) → (A → B ⊎ ((e : VerifyError) × fails' e))
+    → B ⊎ ((e : VerifyError) × fails' e)
+after_valid (inr fault) because next = inr (fault.0, because fault.0 fault.1)
+after_valid (inl part) because next = next part
+
 -- a part is in the range and aligned, or has a fault
 part_or_fault : (begin : ℤ) (size align lo hi : ℕ) → ((at : ℕ) × PartIn begin size align lo hi at) ⊎ ((e : VerifyError) × PartFails begin size align lo hi e)
 part_or_fault (negsuc n) size align lo hi = inr (OutOfRange (negsuc n) size, inl (inl (omega (arith, ints)), refl))
@@ -65,13 +71,9 @@ text_decided w b p lo hi =
 entry_decided : (k v : ElementSpec) (b : List ℕ) → IsDecided k b → IsDecided v b → IsDecided (entry_spec k v) b
 entry_decided k v b key value p lo hi = elim (cases_lt 1073741824 (whole_size k v)) [
   | inl large ↦ inr (Refused 0, inl (large, refl))
-  | inr small ↦ elim (key p lo hi) [
-    | inr fault ↦ inr (fault.0, inr (small, inl fault.1))
-    | inl first ↦ elim (value (p + value_offset k v) first.0 hi) [
-      | inr fault ↦ inr (fault.0, inr (small, inr (first.0, first.1, fault.1)))
-      | inl second ↦ inl (second.0, (small, first.0, first.1, second.1))
-    ]
-  ]
+  | inr small ↦
+      after_valid (key p lo hi) (λ e h. inr (small, inl h))
+      (λ first. after_valid (value (p + value_offset k v) first.0 hi) (λ e h. inr (small, inr (first.0, first.1, h))) (λ second. inl (second.0, (small, first.0, first.1, second.1))))
 ]
 
 -- ---- tables
@@ -79,13 +81,9 @@ entry_decided k v b key value p lo hi = elim (cases_lt 1073741824 (whole_size k 
 items_decided : (s : ElementSpec) (at : ℕ → ℕ) (b : List ℕ) → IsDecided s b → (hi : ℕ) (is : List ℕ) (lo : ℕ)
     → ((l : ℕ) × AreValidAt s at b hi is lo l) ⊎ ((e : VerifyError) × FirstFails s at b hi is lo e)
 items_decided s at b one hi [] lo = inl (lo, refl)
-items_decided s at b one hi (i ∷ is) lo = elim (one (at i) lo hi) [
-  | inr fault ↦ inr (fault.0, inl fault.1)
-  | inl first ↦ elim (items_decided s at b one hi is first.0) [
-    | inr fault ↦ inr (fault.0, inr (first.0, first.1, fault.1))
-    | inl others ↦ inl (others.0, (first.0, first.1, others.1))
-  ]
-]
+items_decided s at b one hi (i ∷ is) lo =
+    after_valid (one (at i) lo hi) (λ e h. inl h)
+    (λ first. after_valid (items_decided s at b one hi is first.0) (λ e h. inr (first.0, first.1, h)) (λ others. inl (others.0, (first.0, first.1, others.1))))
 
 module _ (cap : ℕ) (controls : List ℕ) where
   wrapped_or_not : (q : ℕ) → IsWrappedAt cap controls q ⊎ (IsWrappedAt cap controls q → ⊥)
@@ -148,13 +146,10 @@ module _ (s : ElementSpec) (b : List ℕ) (one : IsDecided s b) (cap len lo : �
 table_at_decided : (s : ElementSpec) (b : List ℕ) → IsDecided s b → (decoded : ℤ) (cap len lo hi : ℕ) → hi ≤ length b
     → ((l : ℕ) × TableAt s b decoded cap len lo hi l) ⊎ ((e : VerifyError) × TableFailsAt s b decoded cap len lo hi e)
 table_at_decided s b one decoded cap len lo hi inside = elim (cases_lt len cap) [
-  | inl room ↦ elim (part_or_fault decoded (part_size s.size cap) s.align lo hi) [
-    | inr fault ↦ inr (fault.0, inr (inl (room, fault.1)))
-    | inl part ↦ elim (inside_decided s b one cap len lo room part.0 (omega (arith, inside, part.1.below))) [
-      | inr fault ↦ inr (fault.0, inr (inr (room, part.0, part.1, fault.1)))
-      | inl is ↦ inl (part.0 + part_size s.size cap, inr (part.0, part.1, is, refl))
-    ]
-  ]
+  | inl room ↦
+      after_valid (part_or_fault decoded (part_size s.size cap) s.align lo hi) (λ e h. inr (inl (room, h)))
+      (λ part. after_valid (inside_decided s b one cap len lo room part.0 (omega (arith, inside, part.1.below))) (λ e h. inr (inr (room, part.0, part.1, h)))
+      (λ is. inl (part.0 + part_size s.size cap, inr (part.0, part.1, is, refl))))
   | inr above ↦ elim (cases_eq len 0) [
     | inl none ↦ inl (lo, inl (none, omega arith, refl))
     | inr some ↦ inr (InvalidLength len cap, inl (above, omega arith, refl))
@@ -180,10 +175,9 @@ module _ (w : Width) (s : ElementSpec) (limit : ℕ) (b : List ℕ) (one : IsDec
       | inl long ↦ inr (OutOfRange _ _, inl (inr long, refl))
       | inr within ↦ elim (cases_eq (root % align) 0) [
         | inr unaligned ↦ inr (Unaligned root align, inr (inl (inside, within, unaligned, refl)))
-        | inl aligned ↦ elim (table_at_decided s b one (decode_begin w s.size b root) (cap_at w b root) (len_at w b root) 0 root (omega arith)) [
-          | inr fault ↦ inr (fault.0, inr (inr (inside, within, aligned, fault.1)))
-          | inl valid ↦ inl (record { within = within; inside = inside; aligned = aligned; valid = valid })
-        ]
+        | inl aligned ↦
+            after_valid (table_at_decided s b one (decode_begin w s.size b root) (cap_at w b root) (len_at w b root) 0 root (omega arith)) (λ e h. inr (inr (inside, within, aligned, h)))
+            (λ valid. inl (record { within = within; inside = inside; aligned = aligned; valid = valid }))
       ]
     ]
   ]

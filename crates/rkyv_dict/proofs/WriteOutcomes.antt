@@ -20,6 +20,11 @@ use Rattle.rkyv_dict.specs.{is_allocation_failure}
 abbrev pub Fails : (Output → WriteError NoMemory → Type 0) → Type 0
 Fails fails = (o : Output) × (e : WriteError NoMemory) × (is_allocation_failure e ≡ false) × fails o e
 
+-- a write goes on by `next`, or fails as its first part
+pub after_part : {A B : Type 0} {fails fails' : Output → WriteError NoMemory → Type 0} → A ⊎ Fails fails → ((o : Output) (e : WriteError NoMemory) → fails o e → fails' o e) → (A → B ⊎ Fails fails') → B ⊎ Fails fails'
+after_part (inr fault) because next = inr (fault.0, fault.1, fault.2, because fault.0 fault.1 fault.3)
+after_part (inl part) because next = next part
+
 pub position_reported : is_allocation_failure {F = NoMemory} PositionTooLarge ≡ false
 unfolding is_allocation_failure
 position_reported = refl
@@ -95,10 +100,9 @@ module _ (limit : ℕ) (w : Width) (t : List ℕ) (u : IsUtf8 t) where
           cause = (inl refl, refl, inr (large, (refl, refl)));
         },
       )
-      | inl small ↦ elim (append_outcome limit t o) [
-        | inl done ↦ inl (done.0, record { pos = end_of o }, (t, done.1.0, (u, inr ((long, small), refl, refl)), inr done.1.1))
-        | inr fault ↦ inr (fault.0, fault.1, fault.2, fails_under limit (TextNext w t (end_of o)) (Only (piece t)) o fault.0 fault.1 (λ front step h. inl ((long, small), h)) fault.3)
-      ]
+      | inl small ↦
+          after_part (append_outcome limit t o) (λ o' e h. fails_under limit (TextNext w t (end_of o)) (Only (piece t)) o o' e (λ front step n. inl ((long, small), n)) h)
+          (λ done. inl (done.0, record { pos = end_of o }, (t, done.1.0, (u, inr ((long, small), refl, refl)), inr done.1.1)))
     ]
   ]
 
@@ -120,15 +124,11 @@ module _ (limit : ℕ) (w : Width) (t : List ℕ) (u : IsUtf8 t) where
 module _ {V W R Q : Type 0} (limit : ℕ) (k v : ElementSpec) (kf : Format V R) (vf : Format W Q) (small : IsSmall k v) (pair : V × W)
     (key : IsWritable limit kf pair.0) (value : IsWritable limit vf pair.1) where
   pair_serializes : CanSerialize limit (pair_format k v kf vf) pair
-  pair_serializes o = elim (key.serialize o) [
-    | inr fault ↦ inr (fault.0, fault.1, fault.2, key_fails limit k v kf vf pair o fault.0 fault.1 small fault.3)
-    | inl first ↦ elim (value.serialize first.0) [
-      | inr fault ↦ inr (fault.0, fault.1, fault.2, value_fails limit k v kf vf pair o first.0 fault.0 first.2.0 first.1 fault.1 small first.2.1 first.2.2 first.2.3 fault.3)
-      | inl second ↦
-          let r : EntryResolver R Q = record { key = first.1; value = second.1 } in
-          inl (second.0, r, pair_serialized limit k v kf vf pair o first.0 second.0 r small first.2 second.2)
-    ]
-  ]
+  pair_serializes o =
+      after_part (key.serialize o) (λ o' e h. key_fails limit k v kf vf pair o o' e small h)
+      (λ first. after_part (value.serialize first.0) (λ o' e h. value_fails limit k v kf vf pair o first.0 o' first.2.0 first.1 e small first.2.1 first.2.2 first.2.3 h)
+      (λ second. let r : EntryResolver R Q = record { key = first.1; value = second.1 } in
+      inl (second.0, r, pair_serialized limit k v kf vf pair o first.0 second.0 r small first.2 second.2)))
 
   pair_resolves : CanResolve (pair_format k v kf vf) pair
   pair_resolves r p = elim (key.resolve r.key p) [

@@ -106,6 +106,7 @@ impl<'a> Dict<'a> {
         archives::push_value(self.form(), archive.bytes.as_slice(), key, out)
     }
 
+    #[tactic(auto, using(crate::proofs::Sound::archive_of_dict))]
     fn push_list(&self, out: &mut String) -> Result<(), AllocError>
         requires { IsSound (state_of self.now) }
         ensures { let s = state_of self.now in
@@ -118,6 +119,7 @@ impl<'a> Dict<'a> {
     }
 
     /// Appends the output of `audit`. Keys that share a hash take quadratic time.
+    #[tactic(auto, using(crate::proofs::Sound::archive_of_dict))]
     fn push_audit(&self, out: &mut String) -> Result<(), AllocError>
         requires { IsSound (state_of self.now) }
         ensures { let s = state_of self.now in

@@ -10,16 +10,19 @@ use std::alloc::AllocError;
 use std::fmt;
 
 /// States that the pairs have at most one archive of a form under a load factor.
+#[tactic(auto, using(crate::proofs::Once::builds_are_one))]
 pub fn builds_are_one()
     ensures { BuildsAreOne }
 {}
 
 /// States that bytes that fail validation are no valid archive, and fail with one error only.
+#[tactic(auto, using(crate::proofs::Once::checks_are_one))]
 pub fn checks_are_one()
     ensures { ChecksAreOne }
 {}
 
 /// States that the same lines from the same state have one output and end in one state.
+#[tactic(auto, using(crate::proofs::Outputs::scripts_are_one))]
 pub fn scripts_are_one()
     ensures { ScriptsAreOne }
 {}
@@ -30,11 +33,13 @@ pub fn builds_have_result()
 {}
 
 /// States that bytes are a valid archive of a form, or fail validation with an error.
+#[tactic(auto, using(crate::proofs::ValidOrNot::checks_have_result))]
 pub fn checks_have_result()
     ensures { ChecksHaveResult }
 {}
 
 /// States that the lines of each script have an output.
+#[tactic(auto, using(crate::proofs::ScriptOutputs::scripts_have_output))]
 pub fn scripts_have_output()
     ensures { ScriptsHaveOutput }
 {}
