@@ -169,7 +169,7 @@ impl<'a, K: KeyElement, H: KeyHasher, W: IndexWidth> ArchivedIndexSet<'a, K, H, 
         ensures { GetsKey key_part (keys_of self.entry)
             (lookup_of H.KeyHasher K.KeyElement Q.Query key.now) result }
     {
-        self.key_of(self.map.find_key(key))
+        self.key_of(self.map.index_of_key(key))
     }
 
     #[inline]

@@ -34,7 +34,7 @@ fn map_in<'s, K: Element, V: Element, H, W: Width>(
 
 impl<'a, K: KeyElement, V: Element, H: KeyHasher, W: Width> ArchivedHashMap<'a, K, V, H, W> {
     #[inline]
-    fn find_pos<Q: KeyHash, F: Fn(&Q, View<'_, K>) -> bool>(
+    fn key_pos_with<Q: KeyHash, F: Fn(&Q, View<'_, K>) -> bool>(
         this: &ArchiveSeal<'_, HashMapOf<K, V, H, W>>,
         key: &Q,
         cmp: F,
@@ -46,11 +46,11 @@ impl<'a, K: KeyElement, V: Element, H: KeyHasher, W: Width> ArchivedHashMap<'a, 
             (lookup_hashes H.KeyHasher K.KeyElement Q.KeyHash key.now)
             (F.post cmp key.entry) (λ key_pos. result ≡ key_pos) }
     {
-        found_pos(map_in(this).find(key, cmp))
+        found_pos(map_in(this).entry_with(key, cmp))
     }
 
     #[inline]
-    fn find_key_pos<Q: Query<K>>(
+    fn key_pos_of<Q: Query<K>>(
         this: &ArchiveSeal<'_, HashMapOf<K, V, H, W>>,
         key: &Q,
     ) -> Option<u64>
@@ -60,7 +60,7 @@ impl<'a, K: KeyElement, V: Element, H: KeyHasher, W: Width> ArchivedHashMap<'a, 
             (lookup_of H.KeyHasher K.KeyElement Q.Query key.now)
             (λ key_pos. result ≡ key_pos) }
     {
-        found_pos(map_in(this).find_key(key))
+        found_pos(map_in(this).entry_of(key))
     }
 
     #[inline]
@@ -114,7 +114,7 @@ impl<'a, K: KeyElement, V: Element, H: KeyHasher, W: Width> ArchivedHashMap<'a, 
             (lookup_hashes H.KeyHasher K.KeyElement Q.KeyHash key.now)
             (F.post cmp key.entry) (IsPairSealAt result) }
     {
-        let found = Self::find_pos(&this, key, cmp);
+        let found = Self::key_pos_with(&this, key, cmp);
         Self::lend_pair(this, found)
     }
 
@@ -135,7 +135,7 @@ impl<'a, K: KeyElement, V: Element, H: KeyHasher, W: Width> ArchivedHashMap<'a, 
             (lookup_of H.KeyHasher K.KeyElement Q.Query key.now)
             (IsPairSealAt result) }
     {
-        let found = Self::find_key_pos(&this, key);
+        let found = Self::key_pos_of(&this, key);
         Self::lend_pair(this, found)
     }
 
@@ -156,7 +156,7 @@ impl<'a, K: KeyElement, V: Element, H: KeyHasher, W: Width> ArchivedHashMap<'a, 
             (lookup_hashes H.KeyHasher K.KeyElement Q.KeyHash key.now)
             (F.post cmp key.entry) (IsValueSealAt K.spec V.spec result) }
     {
-        let found = Self::find_pos(&this, key, cmp);
+        let found = Self::key_pos_with(&this, key, cmp);
         Self::lend_value(this, found)
     }
 
@@ -196,7 +196,7 @@ impl<'a, K: KeyElement, V: Element, H: KeyHasher, W: Width> ArchivedHashMap<'a, 
             (lookup_of H.KeyHasher K.KeyElement Q.Query key.now)
             (IsValueSealAt K.spec V.spec result) }
     {
-        let found = Self::find_key_pos(&this, key);
+        let found = Self::key_pos_of(&this, key);
         Self::lend_value(this, found)
     }
 }

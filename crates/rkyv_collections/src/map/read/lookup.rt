@@ -48,11 +48,11 @@ pub(crate) fn found_value<'a, K: Element, V: Element>(
     Some(found?.value())
 }
 
-// Every lookup is one call of `find`.
+// Every lookup is one call of `entry_with`.
 impl<'a, K: KeyElement, V: Element, H: KeyHasher, W: Width> ArchivedHashMap<'a, K, V, H, W> {
     /// Returns an entry whose key the comparison accepts, under the hash of `key`, or `None`.
     #[inline]
-    pub(crate) fn find<Q: KeyHash, F>(self, key: &Q, cmp: F) -> Option<View<'a, Entry<K, V>>>
+    pub(crate) fn entry_with<Q: KeyHash, F>(self, key: &Q, cmp: F) -> Option<View<'a, Entry<K, V>>>
     where
         F: Fn(&Q, View<'a, K>) -> bool,
         requires callable { CanCompareKeys self (F.pre cmp key) }
@@ -87,7 +87,7 @@ impl<'a, K: KeyElement, V: Element, H: KeyHasher, W: Width> ArchivedHashMap<'a, 
             (lookup_hashes H.KeyHasher K.KeyElement Q.KeyHash key.now) (F.post cmp key.entry)
             result }
     {
-        found_pair(self.find(key, cmp))
+        found_pair(self.entry_with(key, cmp))
     }
 
     /// Returns the value of the pair that `get_key_value_with` returns, or `None`.
@@ -100,15 +100,15 @@ impl<'a, K: KeyElement, V: Element, H: KeyHasher, W: Width> ArchivedHashMap<'a, 
             (lookup_hashes H.KeyHasher K.KeyElement Q.KeyHash key.now) (F.post cmp key.entry)
             result }
     {
-        found_value(self.find(key, cmp))
+        found_value(self.entry_with(key, cmp))
     }
 
     #[inline]
-    pub(crate) fn find_key<Q: Query<K>>(self, key: &Q) -> Option<View<'a, Entry<K, V>>>
+    pub(crate) fn entry_of<Q: Query<K>>(self, key: &Q) -> Option<View<'a, Entry<K, V>>>
         ensures { GetsKey entry_part self.entry
             (lookup_of H.KeyHasher K.KeyElement Q.Query key.now) result }
     {
-        self.find(
+        self.entry_with(
             key,
             |key, stored|
                 requires { IsValidView K.spec stored }
@@ -128,7 +128,7 @@ impl<'a, K: KeyElement, V: Element, H: KeyHasher, W: Width> ArchivedHashMap<'a, 
         ensures { GetsKey pair_part self.entry
             (lookup_of H.KeyHasher K.KeyElement Q.Query key.now) result }
     {
-        found_pair(self.find_key(key))
+        found_pair(self.entry_of(key))
     }
 
     /// Returns the value of the pair that `get_key_value` returns, or `None`.
@@ -148,7 +148,7 @@ impl<'a, K: KeyElement, V: Element, H: KeyHasher, W: Width> ArchivedHashMap<'a, 
         ensures { GetsKey value_part self.entry
             (lookup_of H.KeyHasher K.KeyElement Q.Query key.now) result }
     {
-        found_value(self.find_key(key))
+        found_value(self.entry_of(key))
     }
 
     /// Returns `true` if and only if `get` returns a value.
@@ -158,7 +158,7 @@ impl<'a, K: KeyElement, V: Element, H: KeyHasher, W: Width> ArchivedHashMap<'a, 
             (lookup_of H.KeyHasher K.KeyElement Q.Query key.now)
             (IsFoundAt result) }
     {
-        is_found(self.find_key(key))
+        is_found(self.entry_of(key))
     }
 
     /// Returns the value of a key for which `contains_key` returns `true`.
@@ -171,6 +171,6 @@ impl<'a, K: KeyElement, V: Element, H: KeyHasher, W: Width> ArchivedHashMap<'a, 
             (lookup_of H.KeyHasher K.KeyElement Q.Query key.now)
             (Some result) }
     {
-        self.find_key(key).unwrap().value()
+        self.entry_of(key).unwrap().value()
     }
 }

@@ -43,7 +43,7 @@ impl<'a, K: KeyElement, V: Element, H: KeyHasher, W: IndexWidth> ArchivedIndexMa
     }
 
     #[inline]
-    fn find_in<Q: KeyHash, F: Fn(&Q, View<'_, K>) -> bool>(
+    fn index_with_in<Q: KeyHash, F: Fn(&Q, View<'_, K>) -> bool>(
         this: &ArchiveSeal<'_, IndexMapOf<K, V, H, W>>,
         key: &Q,
         cmp: F,
@@ -56,11 +56,11 @@ impl<'a, K: KeyElement, V: Element, H: KeyHasher, W: IndexWidth> ArchivedIndexMa
             (lookup_hashes H.KeyHasher K.KeyElement Q.KeyHash key.now)
             (F.post cmp key.entry) (IsIndex result) }
     {
-        Self::read(this).find(key, cmp, &mut Strides::new())
+        Self::read(this).index_with(key, cmp, &mut Strides::new())
     }
 
     #[inline]
-    fn find_key_in<Q: Query<K>>(
+    fn index_of_key_in<Q: Query<K>>(
         this: &ArchiveSeal<'_, IndexMapOf<K, V, H, W>>,
         key: &Q,
     ) -> Option<usize>
@@ -70,7 +70,7 @@ impl<'a, K: KeyElement, V: Element, H: KeyHasher, W: IndexWidth> ArchivedIndexMa
             (lookup_of H.KeyHasher K.KeyElement Q.Query key.now)
             (IsIndex result) }
     {
-        Self::read(this).find_key(key)
+        Self::read(this).index_of_key(key)
     }
 
     #[inline]
@@ -179,7 +179,7 @@ impl<'a, K: KeyElement, V: Element, H: KeyHasher, W: IndexWidth> ArchivedIndexMa
             (lookup_hashes H.KeyHasher K.KeyElement Q.KeyHash key.now)
             (F.post cmp key.entry) (IsFullSealAt result) }
     {
-        let index = Self::find_in(&this, key, cmp);
+        let index = Self::index_with_in(&this, key, cmp);
         Self::full_seal_of(this, index)
     }
 
@@ -199,7 +199,7 @@ impl<'a, K: KeyElement, V: Element, H: KeyHasher, W: IndexWidth> ArchivedIndexMa
             (lookup_of H.KeyHasher K.KeyElement Q.Query key.now)
             (IsFullSealAt result) }
     {
-        let index = Self::find_key_in(&this, key);
+        let index = Self::index_of_key_in(&this, key);
         Self::full_seal_of(this, index)
     }
 
@@ -220,7 +220,7 @@ impl<'a, K: KeyElement, V: Element, H: KeyHasher, W: IndexWidth> ArchivedIndexMa
             (lookup_hashes H.KeyHasher K.KeyElement Q.KeyHash key.now)
             (F.post cmp key.entry) (SealsPair W.word K.spec V.spec this.entry result) }
     {
-        let index = Self::find_in(&this, key, cmp);
+        let index = Self::index_with_in(&this, key, cmp);
         Self::pair_seal_of(this, index)
     }
 
@@ -240,7 +240,7 @@ impl<'a, K: KeyElement, V: Element, H: KeyHasher, W: IndexWidth> ArchivedIndexMa
             (lookup_of H.KeyHasher K.KeyElement Q.Query key.now)
             (SealsPair W.word K.spec V.spec this.entry result) }
     {
-        let index = Self::find_key_in(&this, key);
+        let index = Self::index_of_key_in(&this, key);
         Self::pair_seal_of(this, index)
     }
 
@@ -262,7 +262,7 @@ impl<'a, K: KeyElement, V: Element, H: KeyHasher, W: IndexWidth> ArchivedIndexMa
             (lookup_hashes H.KeyHasher K.KeyElement Q.KeyHash key.now)
             (F.post cmp key.entry) (SealsValue W.word K.spec V.spec this.entry result) }
     {
-        let index = Self::find_in(&this, key, cmp);
+        let index = Self::index_with_in(&this, key, cmp);
         Self::value_seal_of(this, index)
     }
 
@@ -299,7 +299,7 @@ impl<'a, K: KeyElement, V: Element, H: KeyHasher, W: IndexWidth> ArchivedIndexMa
             (lookup_of H.KeyHasher K.KeyElement Q.Query key.now)
             (SealsValue W.word K.spec V.spec this.entry result) }
     {
-        let index = Self::find_key_in(&this, key);
+        let index = Self::index_of_key_in(&this, key);
         Self::value_seal_of(this, index)
     }
 }

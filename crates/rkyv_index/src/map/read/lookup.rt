@@ -31,11 +31,16 @@ use rkyv_keys::{KeyElement, KeyHash, Query, hash_value};
 use rkyv_scan::KeyHasher;
 use rkyv_table::Strides;
 
-// Every lookup is one call of `find`.
+// Every lookup is one call of `index_with`.
 impl<'a, K: KeyElement, V: Element, H: KeyHasher, W: IndexWidth> ArchivedIndexMap<'a, K, V, H, W> {
     /// Returns the index of an accepted key under the hash of `key`, and counts the strides read.
     #[inline]
-    pub(crate) fn find<Q: KeyHash, F>(self, key: &Q, cmp: F, strides: &mut Strides) -> Option<usize>
+    pub(crate) fn index_with<Q: KeyHash, F>(
+        self,
+        key: &Q,
+        cmp: F,
+        strides: &mut Strides,
+    ) -> Option<usize>
     where
         F: Fn(&Q, View<'a, K>) -> bool,
         requires callable { CanCompareKeys self (F.pre cmp key) }
@@ -84,20 +89,20 @@ impl<'a, K: KeyElement, V: Element, H: KeyHasher, W: IndexWidth> ArchivedIndexMa
             (lookup_hashes H.KeyHasher K.KeyElement Q.KeyHash key.now) (F.post cmp key.entry)
             result }
     {
-        let index = self.find(key, cmp, &mut Strides::new())?;
+        let index = self.index_with(key, cmp, &mut Strides::new())?;
         let entry = self.entry(index);
         Some((index, entry.key(), entry.value()))
     }
 
     #[inline]
-    pub(crate) fn find_counted<Q: Query<K>>(self, key: &Q, strides: &mut Strides) -> Option<usize>
+    pub(crate) fn index_counted<Q: Query<K>>(self, key: &Q, strides: &mut Strides) -> Option<usize>
         ensures found { GetsKey index_part self.entry
             (lookup_of H.KeyHasher K.KeyElement Q.Query key.now) result }
         ensures bounded { ReadsWithinBound self.entry strides.old strides.new }
         ensures counted { CountsKey (index_of self.entry)
             (native_hash H.KeyHasher Q.KeyHash key.now) (Q.fits key.now) strides.old strides.new }
     {
-        self.find(
+        self.index_with(
             key,
             |key, stored|
                 requires { IsValidView K.spec stored }
@@ -110,11 +115,11 @@ impl<'a, K: KeyElement, V: Element, H: KeyHasher, W: IndexWidth> ArchivedIndexMa
 
     /// Returns the index of the key that the query finds, or `None`.
     #[inline]
-    pub(crate) fn find_key<Q: Query<K>>(self, key: &Q) -> Option<usize>
+    pub(crate) fn index_of_key<Q: Query<K>>(self, key: &Q) -> Option<usize>
         ensures { GetsKey index_part self.entry
             (lookup_of H.KeyHasher K.KeyElement Q.Query key.now) result }
     {
-        self.find_counted(key, &mut Strides::new())
+        self.index_counted(key, &mut Strides::new())
     }
 
     /// Returns the pair of the key that the query finds, with its index.
@@ -128,7 +133,7 @@ impl<'a, K: KeyElement, V: Element, H: KeyHasher, W: IndexWidth> ArchivedIndexMa
         ensures { GetsKey full_part self.entry
             (lookup_of H.KeyHasher K.KeyElement Q.Query key.now) result }
     {
-        let index = self.find_key(key)?;
+        let index = self.index_of_key(key)?;
         let entry = self.entry(index);
         Some((index, entry.key(), entry.value()))
     }
@@ -159,7 +164,7 @@ impl<'a, K: KeyElement, V: Element, H: KeyHasher, W: IndexWidth> ArchivedIndexMa
             (lookup_hashes H.KeyHasher K.KeyElement Q.KeyHash key.now) (F.post cmp key.entry)
             result }
     {
-        self.pair_of(self.find(key, cmp, &mut Strides::new()))
+        self.pair_of(self.index_with(key, cmp, &mut Strides::new()))
     }
 
     /// Looks up as `get_full` does, and returns the key and the value.
@@ -168,7 +173,7 @@ impl<'a, K: KeyElement, V: Element, H: KeyHasher, W: IndexWidth> ArchivedIndexMa
         ensures { GetsKey pair_part self.entry
             (lookup_of H.KeyHasher K.KeyElement Q.Query key.now) result }
     {
-        self.pair_of(self.find_key(key))
+        self.pair_of(self.index_of_key(key))
     }
 
     /// Looks up as `get_full_with` does, and returns the value.
@@ -181,7 +186,7 @@ impl<'a, K: KeyElement, V: Element, H: KeyHasher, W: IndexWidth> ArchivedIndexMa
             (lookup_hashes H.KeyHasher K.KeyElement Q.KeyHash key.now) (F.post cmp key.entry)
             result }
     {
-        self.value_of(self.find(key, cmp, &mut Strides::new()))
+        self.value_of(self.index_with(key, cmp, &mut Strides::new()))
     }
 
     /// Looks up as `get_full` does, and returns the value.
@@ -202,7 +207,7 @@ impl<'a, K: KeyElement, V: Element, H: KeyHasher, W: IndexWidth> ArchivedIndexMa
         ensures { GetsKey value_part self.entry
             (lookup_of H.KeyHasher K.KeyElement Q.Query key.now) result }
     {
-        self.value_of(self.find_key(key))
+        self.value_of(self.index_of_key(key))
     }
 
     /// Looks up as `get_full_with` does, and returns the index.
@@ -215,7 +220,7 @@ impl<'a, K: KeyElement, V: Element, H: KeyHasher, W: IndexWidth> ArchivedIndexMa
             (lookup_hashes H.KeyHasher K.KeyElement Q.KeyHash key.now) (F.post cmp key.entry)
             result }
     {
-        self.find(key, cmp, &mut Strides::new())
+        self.index_with(key, cmp, &mut Strides::new())
     }
 
     /// Looks up as `get_full_with` does, returns the index, and counts the strides it reads.
@@ -240,7 +245,7 @@ impl<'a, K: KeyElement, V: Element, H: KeyHasher, W: IndexWidth> ArchivedIndexMa
         ensures counted { CountsBy (index_of self.entry) (F.post cmp key.entry)
             (native_hash H.KeyHasher Q.KeyHash key.now) strides.old strides.new }
     {
-        self.find(key, cmp, strides)
+        self.index_with(key, cmp, strides)
     }
 
     /// Looks up as `get_full` does, and returns the index.
@@ -249,7 +254,7 @@ impl<'a, K: KeyElement, V: Element, H: KeyHasher, W: IndexWidth> ArchivedIndexMa
         ensures { GetsKey index_part self.entry
             (lookup_of H.KeyHasher K.KeyElement Q.Query key.now) result }
     {
-        self.find_key(key)
+        self.index_of_key(key)
     }
 
     /// Returns `true` if `get_full` finds a key.
@@ -259,7 +264,7 @@ impl<'a, K: KeyElement, V: Element, H: KeyHasher, W: IndexWidth> ArchivedIndexMa
             (lookup_of H.KeyHasher K.KeyElement Q.Query key.now)
             (IsFoundAt result) }
     {
-        self.find_key(key).is_some()
+        self.index_of_key(key).is_some()
     }
 
     /// Returns the value of a key for which `contains_key` must return `true`.
@@ -271,6 +276,6 @@ impl<'a, K: KeyElement, V: Element, H: KeyHasher, W: IndexWidth> ArchivedIndexMa
             (lookup_of H.KeyHasher K.KeyElement Q.Query key.now)
             (Some result) }
     {
-        self.entry(self.find_key(key).unwrap()).value()
+        self.entry(self.index_of_key(key).unwrap()).value()
     }
 }

@@ -31,7 +31,7 @@ impl<'a, K: KeyElement, V: Element, H: KeyHasher, W: IndexWidth> ArchivedIndexMa
             (index_of self.entry) (archived_keys H.KeyHasher K.KeyElement) index) }
     {
         let key = KeyView::of(self.entry(index).key());
-        finds_another_or_none(index, self.find_counted(&key, strides))
+        finds_another_or_none(index, self.index_counted(&key, strides))
     }
 
     /// Counts the keys whose index `get_index_of` of the same key doesn't return.

@@ -3,4 +3,4 @@ use Rattle.rkyv_collections.proofs.SealedMap.{satisfies_implied}
 use Rattle.rkyv_collections.proofs.map.ArchivedHashMap.get_key_value_seal.Goals as goal
 
 pub returns-clause-finds : goal.returns-clause-finds
-returns-clause-finds g c = satisfies_implied _ _ _ _ (λ key_pos at. c.lend_pair.ensures.at ∙ at) c.find_key_pos-found.ensures.finds
+returns-clause-finds g c = satisfies_implied _ _ _ _ (λ key_pos at. c.lend_pair.ensures.at ∙ at) c.key_pos_of-found.ensures.finds

@@ -4,5 +4,5 @@ use Rattle.rkyv_collections.proofs.map.ArchivedHashMap.index.Goals as goal
 
 pub returns : goal.returns
 returns g c =
-    let got = rw c.unwrap.ensures at c.find_key.ensures in
+    let got = rw c.unwrap.ensures at c.entry_of.ensures in
     value_of_key got (c.value.result, refl, c.value.ensures.at, c.value.ensures.viewable)

@@ -17,7 +17,7 @@ returns-clause-exact g c =
     let key_hash = hash_at g.H.KeyHasher.hasher g.K.KeyElement.key_calls in
     let own : _ → ℕ → Option ℕ = λ b q. index_found m.word m.bytes m.pos (key_hash b q) (λ j. g.K.ElementEq.same b q m.bytes (key_at m j)) in
     let at : IsAt (key_view c.of-key.result) (index_archive c.args.self) (key_at m c.args.index) = rw c.of-key.ensures (c.key.ensures.at.0 ∙ c.entry.ensures.at.0, c.key.ensures.at.1 ∙ c.entry.ensures.at.1) in
-    c.finds_another_or_none.ensures ∙ ap (λ (o : Option ℕ). not (is_found_at c.args.index o)) (c.find_counted.ensures.found.finds ∙ view_at (key_view c.of-key.result) _ _ at own)
+    c.finds_another_or_none.ensures ∙ ap (λ (o : Option ℕ). not (is_found_at c.args.index o)) (c.index_counted.ensures.found.finds ∙ view_at (key_view c.of-key.result) _ _ at own)
 
 pub returns-clause-repeated : goal.returns-clause-repeated
 returns-clause-repeated g c = λ homes written.
@@ -31,7 +31,7 @@ returns-clause-repeated g c = λ homes written.
     let at : IsAt (key_view c.of-key.result) (index_archive c.args.self) (key_at m c.args.index) = rw c.of-key.ensures (c.key.ensures.at.0 ∙ c.entry.ensures.at.0, c.key.ensures.at.1 ∙ c.entry.ensures.at.1) in
     let there = entry_viewable m.word g.met.W.Width.layout.kind (entry_spec k v) (entry_element k v kl vl) m.bytes m.pos c.args.self.valid i c.requires.below in
     let itself : same_keys m (record { hash = hash_at g.H.KeyHasher.hasher g.K.KeyElement.key_calls; same = g.K.ElementEq.same }) i i ≡ true = g.met.K.ElementEquiv.equivalence.reflexive m.bytes (key_at m i) (valid_key kl vl m.bytes (key_at m i) there.valid) in
-    c.finds_another_or_none.ensures ∙ ap (λ (o : Option ℕ). not (is_found_at i o)) (c.find_counted.ensures.found.first homes written ∙ view_at (key_view c.of-key.result) _ _ at first)
+    c.finds_another_or_none.ensures ∙ ap (λ (o : Option ℕ). not (is_found_at i o)) (c.index_counted.ensures.found.first homes written ∙ view_at (key_view c.of-key.result) _ _ at first)
     ∙ another_repeated _ _ i c.requires.below itself
 
 pub returns-clause-counted : goal.returns-clause-counted
@@ -40,4 +40,4 @@ returns-clause-counted g c =
     let key_hash = hash_at g.H.KeyHasher.hasher g.K.KeyElement.key_calls in
     let own : _ → ℕ → ℕ = λ b q. count_after c.args.strides.now (index_strides m.word m.bytes m.pos (key_hash b q) (λ j. g.K.ElementEq.same b q m.bytes (key_at m j))) in
     let at : IsAt (key_view c.of-key.result) (index_archive c.args.self) (key_at m c.args.index) = rw c.of-key.ensures (c.key.ensures.at.0 ∙ c.entry.ensures.at.0, c.key.ensures.at.1 ∙ c.entry.ensures.at.1) in
-    c.find_counted.ensures.counted ∙ view_at (key_view c.of-key.result) _ _ at own
+    c.index_counted.ensures.counted ∙ view_at (key_view c.of-key.result) _ _ at own

@@ -2,7 +2,7 @@ use Rattle.std.proofs.Common.{refl}
 use Rattle.rkyv_base.specs.{pos_of_found}
 use Rattle.rkyv_keys.specs.{hash_at}
 use Rattle.rkyv_collections.proofs.FoundEntries.{accepted_by_key, entry_found, first_by_key, found_by_key}
-use Rattle.rkyv_collections.proofs.map.ArchivedHashMap.find.Goals as goal
+use Rattle.rkyv_collections.proofs.map.ArchivedHashMap.entry_with.Goals as goal
 
 pub returns-clause-found : goal.returns-clause-found
 returns-clause-found g c =

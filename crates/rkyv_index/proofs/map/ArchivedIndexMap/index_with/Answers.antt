@@ -3,7 +3,7 @@ use Rattle.rkyv_keys.specs.{hash_at}
 use Rattle.rkyv_index.specs.{IsKeyOf, index_len}
 use Rattle.rkyv_index.proofs.Lookups.{counts_index, item_index}
 use Rattle.rkyv_index.proofs.IndicesFound.{gets_index, stored_index_found}
-use Rattle.rkyv_index.proofs.map.ArchivedIndexMap.find.Goals as goal
+use Rattle.rkyv_index.proofs.map.ArchivedIndexMap.index_with.Goals as goal
 
 pub find_index-requires : goal.find_index-requires
 find_index-requires g c κs =

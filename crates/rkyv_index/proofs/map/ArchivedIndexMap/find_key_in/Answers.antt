@@ -1,6 +1,0 @@
-use Rattle.rkyv_index.specs.{index_part}
-use Rattle.rkyv_index.proofs.SealedIndex.{found_key_read}
-use Rattle.rkyv_index.proofs.map.ArchivedIndexMap.find_key_in.Goals as goal
-
-pub returns-clause-finds : goal.returns-clause-finds
-returns-clause-finds g c = found_key_read c.read.result _ _ c.read.ensures.bytes c.read.ensures.pos index_part c.find_key.ensures
