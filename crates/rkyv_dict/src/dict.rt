@@ -94,6 +94,7 @@ impl<'a> Dict<'a> {
         push_line(out, "")
     }
 
+    #[tactic(auto, using(crate::proofs::Sound::archive_of_dict))]
     fn push_get(&self, key: Key<'_>, out: &mut String) -> Result<(), AllocError>
         requires { IsSound (state_of self.now) }
         ensures { let s = state_of self.now in let key = lookup_key key.entry in

@@ -1,12 +1,8 @@
 use Rattle.std.proofs.Common.{ap, string_bytes}
 use Rattle.std.specs.Option.{option_map}
 use Rattle.rkyv_dict.specs.{archived_of, lookup_key, pairs_of, state_of}
-use Rattle.rkyv_dict.proofs.Sound.{archive_here, value_here}
+use Rattle.rkyv_dict.proofs.Sound.{value_here}
 use Rattle.rkyv_dict.proofs.dict.Dict.push_get.Goals as goal
-
-pub push_value-requires : goal.push_value-requires
-push_value-requires c =
-    archive_here (state_of c.args.self.now) _ _ _ c.requires (ap (option_map (archived_of (pairs_of c.args.self.now.list))) c.in-Some.is) c.form.ensures c.as_slice.ensures.value
 
 pub returns : goal.returns
 returns c =
