@@ -10,6 +10,17 @@ pub fn change(archive: &mut [u8], pos: u64, byte: u8) -> u64 {
     pos
 }
 
+/// Returns the bytes with `new` from `pos` on, as far as they have these positions.
+pub fn with_bytes<const N: usize>(bytes: [u8; N], pos: u64, new: &[u8]) -> [u8; N] {
+    let mut changed = bytes;
+    let mut next = pos;
+    for byte in new {
+        change(&mut changed, next, *byte);
+        next = next.wrapping_add(1);
+    }
+    changed
+}
+
 /// The numbers of changed archives, by the result for them.
 #[derive(Clone, Copy, Debug, PartialEq, Eq)]
 pub struct OutcomeCounts {
