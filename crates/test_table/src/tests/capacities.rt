@@ -19,26 +19,15 @@ fn fails_with(alloc: Global, len: usize, load_factor: (usize, usize), text: &str
 #[test]
 fn errors_of_capacities_have_a_debug_text(rt: HostRuntime) {
     let alloc = rt.alloc();
-    let shown = [
-        fails_with(
-            alloc,
-            1,
-            (8, 7),
-            "InvalidLoadFactor { numerator: 8, denominator: 7 }",
-        ),
-        fails_with(
-            alloc,
-            4_294_967_295,
-            (1, 1),
-            "CapacityTooLarge { len: 4294967295 }",
-        ),
-    ];
+    expect_eq!(rt; fails_with(alloc, 1, (8, 7),
+        "InvalidLoadFactor { numerator: 8, denominator: 7 }"), true);
+    expect_eq!(rt; fails_with(alloc, 4_294_967_295, (1, 1), "CapacityTooLarge { len: 4294967295 }"),
+        true);
     let error = CapacityError::InvalidLoadFactor {
         numerator: 8,
         denominator: 7,
     };
-    let same = capacity(1, (8, 7), 2) == Err(error);
-    expect_eq!(rt; (shown, same), ([true; 2], true));
+    expect_eq!(rt; capacity(1, (8, 7), 2) == Err(error), true);
 }
 
 // Returns whether an error is displayed as this text.
@@ -47,28 +36,13 @@ fn is_displayed(alloc: Global, error: CapacityError, text: &str) -> bool {
 }
 
 #[test]
-fn errors_of_capacities_are_displayed_as_write_errors(rt: HostRuntime) {
+fn errors_of_capacities_are_write_errors(rt: HostRuntime) {
     let alloc = rt.alloc();
-    let shown = [
-        is_displayed(
-            alloc,
-            CapacityError::InvalidLoadFactor {
-                numerator: 8,
-                denominator: 7,
-            },
-            "invalid load factor 8 / 7, load factor must be a fraction in the range (0, 1]",
-        ),
-        is_displayed(
-            alloc,
-            CapacityError::CapacityTooLarge { len: 9 },
-            "capacity too large for length 9",
-        ),
-    ];
-    assert_eq!(rt; shown, [true; 2]);
-}
-
-#[test]
-fn errors_of_capacities_become_write_errors(rt: HostRuntime) {
+    expect_eq!(rt; is_displayed(alloc,
+        CapacityError::InvalidLoadFactor { numerator: 8, denominator: 7 },
+        "invalid load factor 8 / 7, load factor must be a fraction in the range (0, 1]"), true);
+    expect_eq!(rt; is_displayed(alloc, CapacityError::CapacityTooLarge { len: 9 },
+        "capacity too large for length 9"), true);
     laws::capacity_errors_are_converted::<NoMemory>();
     let fraction = WriteError::from(CapacityError::InvalidLoadFactor {
         numerator: 8,

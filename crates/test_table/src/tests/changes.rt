@@ -24,31 +24,17 @@ fn is_small(bytes: &[u8]) -> Result<bool, VerifyError> {
 #[test]
 fn changes_of_one_byte_have_known_outcomes(rt: HostRuntime) {
     let mut bytes = one_number();
-    let outcomes = outcomes_of_changes(&mut bytes, is_small);
-    expect_eq!(rt;
-        outcomes,
-        OutcomeCounts {
-            right: 7764,
-            accepted: 7764,
-            place_out_of_range: 0,
-            unwrapped: 4220,
-            out_of_range: 2037,
-            invalid_length: 1021,
-            wrong_number: 257,
-            unaligned: 1,
-            other: 0,
-        }
-    );
+    expect_eq!(rt; outcomes_of_changes(&mut bytes, is_small), OutcomeCounts { right: 7764,
+        accepted: 7764, place_out_of_range: 0, unwrapped: 4220, out_of_range: 2037,
+        invalid_length: 1021, wrong_number: 257, unaligned: 1, other: 0, });
 }
 
 #[test]
 fn rejects_a_distance_to_an_unaligned_position(rt: HostRuntime) {
     let mut bytes = one_number();
     bytes[48] = 0xe1;
-    expect_eq!(rt;
-        failure::<Entry<u32, u32>, Narrow>(&bytes),
-        Some(VerifyError::Unaligned { pos: 1, align: 4 })
-    );
+    expect_eq!(rt; failure::<Entry<u32, u32>, Narrow>(&bytes),
+        Some(VerifyError::Unaligned { pos: 1, align: 4 }));
 }
 
 #[test]
@@ -56,10 +42,7 @@ fn a_changed_key_is_walked_and_not_found(rt: HostRuntime) {
     let mut bytes = one_number();
     bytes[0] = 5;
     let pair = [5, 0, 0, 0, 2, 0, 0, 0];
-    let found = [
-        value_of::<Narrow>(&bytes, hash_of_u32(1), 1),
-        value_of::<Narrow>(&bytes, hash_of_u32(5), 5),
-    ];
+    expect_eq!(rt; value_of::<Narrow>(&bytes, hash_of_u32(1), 1), Ok((None, 1)));
+    expect_eq!(rt; value_of::<Narrow>(&bytes, hash_of_u32(5), 5), Ok((None, 1)));
     expect_eq!(rt; walks_over::<Entry<u32, u32>, Narrow>(&bytes, &pair), Ok(true));
-    expect_eq!(rt; found, [Ok((None, 1)); 2]);
 }

@@ -17,7 +17,6 @@ use rkyv_table::controls::walk::{Walk, next_full};
 use rkyv_table::controls::wrapped::check_wrapped;
 use std::alloc::{AllocError, Global};
 use std::cell::Cell;
-use std::process::Abort;
 
 const NARROW: u64 = 4_294_967_295;
 
@@ -91,41 +90,20 @@ fn hash_of(key: i8) -> u64 {
     hasher.finish()
 }
 
-// Fails the test unless each of these capacities is computed. A row has the length, the load
-// factor, the greatest capacity, and the result.
-fn expect_capacities(
-    rt: &impl Abort,
-    rows: &[(usize, (usize, usize), u64, Result<usize, CapacityError>)],
-) {
-    for (len, load_factor, max, expected) in rows {
-        let found = capacity(*len, *load_factor, *max);
-        expect_eq!(*rt; (*len, *load_factor, found), (*len, *load_factor, *expected));
-    }
-}
-
 #[test]
 fn capacities_hold_the_items(rt: HostRuntime) {
-    expect_capacities(
-        &rt,
-        &[
-            (0, (7, 8), NARROW, Ok(0)),
-            (1, (7, 8), NARROW, Ok(2)),
-            (3, (7, 8), NARROW, Ok(4)),
-            (5, (7, 8), NARROW, Ok(6)),
-            (7, (7, 8), NARROW, Ok(8)),
-            (100, (7, 8), NARROW, Ok(114)),
-            (15, (1, 1), NARROW, Ok(16)),
-            (16, (1, 1), NARROW, Ok(17)),
-            (1, (1, 4_294_967_295), NARROW, Ok(4_294_967_295)),
-            (4_294_967_294, (1, 1), NARROW, Ok(4_294_967_295)),
-            (
-                4_611_686_018_427_387_903,
-                (1, 1),
-                WIDE,
-                Ok(4_611_686_018_427_387_904),
-            ),
-        ],
-    );
+    expect_eq!(rt; capacity(0, (7, 8), NARROW), Ok(0));
+    expect_eq!(rt; capacity(1, (7, 8), NARROW), Ok(2));
+    expect_eq!(rt; capacity(3, (7, 8), NARROW), Ok(4));
+    expect_eq!(rt; capacity(5, (7, 8), NARROW), Ok(6));
+    expect_eq!(rt; capacity(7, (7, 8), NARROW), Ok(8));
+    expect_eq!(rt; capacity(100, (7, 8), NARROW), Ok(114));
+    expect_eq!(rt; capacity(15, (1, 1), NARROW), Ok(16));
+    expect_eq!(rt; capacity(16, (1, 1), NARROW), Ok(17));
+    expect_eq!(rt; capacity(1, (1, 4_294_967_295), NARROW), Ok(4_294_967_295));
+    expect_eq!(rt; capacity(4_294_967_294, (1, 1), NARROW), Ok(4_294_967_295));
+    expect_eq!(rt; capacity(4_611_686_018_427_387_903, (1, 1), WIDE),
+        Ok(4_611_686_018_427_387_904));
 }
 
 // The errors of invalid load factors.
@@ -146,77 +124,39 @@ const BY_ZERO: CapacityError = CapacityError::InvalidLoadFactor {
 
 #[test]
 fn rejects_invalid_capacities(rt: HostRuntime) {
-    expect_capacities(
-        &rt,
-        &[
-            (0, (8, 7), NARROW, Err(ABOVE_ONE)),
-            (0, (0, 1), NARROW, Err(ZERO)),
-            (0, (1, 0), NARROW, Err(BY_ZERO)),
-            (1, (8, 7), NARROW, Err(ABOVE_ONE)),
-            (1, (0, 1), NARROW, Err(ZERO)),
-            (1, (1, 0), NARROW, Err(BY_ZERO)),
-        ],
-    );
-    expect_capacities(
-        &rt,
-        &[
-            (
-                1,
-                (1, 4_294_967_296),
-                NARROW,
-                Err(CapacityError::CapacityTooLarge { len: 1 }),
-            ),
-            (
-                4_294_967_295,
-                (1, 1),
-                NARROW,
-                Err(CapacityError::CapacityTooLarge { len: 4_294_967_295 }),
-            ),
-            (
-                usize::MAX,
-                (1, usize::MAX),
-                NARROW,
-                Err(CapacityError::CapacityTooLarge { len: usize::MAX }),
-            ),
-            (
-                usize::MAX,
-                (1, 1),
-                u64::MAX,
-                Err(CapacityError::CapacityTooLarge { len: usize::MAX }),
-            ),
-            (
-                4_611_686_018_427_387_904,
-                (1, 1),
-                WIDE,
-                Err(CapacityError::CapacityTooLarge {
-                    len: 4_611_686_018_427_387_904,
-                }),
-            ),
-        ],
-    );
+    expect_eq!(rt; capacity(0, (8, 7), NARROW), Err(ABOVE_ONE));
+    expect_eq!(rt; capacity(0, (0, 1), NARROW), Err(ZERO));
+    expect_eq!(rt; capacity(0, (1, 0), NARROW), Err(BY_ZERO));
+    expect_eq!(rt; capacity(1, (8, 7), NARROW), Err(ABOVE_ONE));
+    expect_eq!(rt; capacity(1, (0, 1), NARROW), Err(ZERO));
+    expect_eq!(rt; capacity(1, (1, 0), NARROW), Err(BY_ZERO));
+    expect_eq!(rt; capacity(1, (1, 4_294_967_296), NARROW),
+        Err(CapacityError::CapacityTooLarge { len: 1 }));
+    expect_eq!(rt; capacity(4_294_967_295, (1, 1), NARROW),
+        Err(CapacityError::CapacityTooLarge { len: 4_294_967_295 }));
+    expect_eq!(rt; capacity(usize::MAX, (1, usize::MAX), NARROW),
+        Err(CapacityError::CapacityTooLarge { len: usize::MAX }));
+    expect_eq!(rt; capacity(usize::MAX, (1, 1), u64::MAX),
+        Err(CapacityError::CapacityTooLarge { len: usize::MAX }));
+    expect_eq!(rt; capacity(4_611_686_018_427_387_904, (1, 1), WIDE),
+        Err(CapacityError::CapacityTooLarge { len: 4_611_686_018_427_387_904, }));
 }
 
 #[test]
 fn sizes_and_tags_are_computed(rt: HostRuntime) {
-    let numbers = [
-        probe_capacity(114),
-        control_count(114),
-        modulus(114),
-        control_count(16),
-        control_count(17),
-        probe_capacity(1 << 62),
-        control_count(1 << 62),
-        modulus(1 << 62),
-    ];
-    let buckets = [bucket_of(2, 3), bucket_of(3, 3), bucket_of(5, 3)];
-    expect_eq!(rt;
-        (numbers, [tag(hash_of(1)), tag(u64::MAX)], buckets),
-        (
-            [128, 143, 256, 31, 47, 1 << 62, (1 << 62) + 15, 1 << 63],
-            [0x28, 0x7f],
-            [2, 0, 2]
-        )
-    );
+    expect_eq!(rt; probe_capacity(114), 128);
+    expect_eq!(rt; control_count(114), 143);
+    expect_eq!(rt; modulus(114), 256);
+    expect_eq!(rt; control_count(16), 31);
+    expect_eq!(rt; control_count(17), 47);
+    expect_eq!(rt; probe_capacity(1 << 62), 1 << 62);
+    expect_eq!(rt; control_count(1 << 62), (1 << 62) + 15);
+    expect_eq!(rt; modulus(1 << 62), 1 << 63);
+    expect_eq!(rt; bucket_of(2, 3), 2);
+    expect_eq!(rt; bucket_of(3, 3), 0);
+    expect_eq!(rt; bucket_of(5, 3), 2);
+    expect_eq!(rt; tag(hash_of(1)), 0x28);
+    expect_eq!(rt; tag(u64::MAX), 0x7f);
 }
 
 #[test]
@@ -255,23 +195,9 @@ fn probe_indices(rt: HostRuntime) {
     laws::strides_cover();
     laws::strides_read_a_row();
     laws::buckets_are_probed();
-    let indices = [
-        four_indices(1, 33),
-        four_indices(32, 33),
-        four_indices(5, 1 << 62),
-    ];
-    expect_eq!(rt;
-        indices,
-        [
-            [Some(1), Some(17), Some(33), None],
-            [Some(32), Some(16), Some(0), None],
-            [Some(5), Some(21), Some(53), Some(101)]
-        ]
-    );
-}
-
-#[test]
-fn probe_indices_begin_at_a_start(rt: HostRuntime) {
+    expect_eq!(rt; four_indices(1, 33), [Some(1), Some(17), Some(33), None]);
+    expect_eq!(rt; four_indices(32, 33), [Some(32), Some(16), Some(0), None]);
+    expect_eq!(rt; four_indices(5, 1 << 62), [Some(5), Some(21), Some(53), Some(101)]);
     let mut probe = Probe::starting_at(1, 33);
     let indices = [probe.next(), probe.next(), probe.next(), probe.next()];
     expect_eq!(rt; indices, [Some(1), Some(17), Some(33), None]);
@@ -350,17 +276,14 @@ fn items_are_placed(rt: HostRuntime) {
     let mut of_wrapped = [0u8; 34];
     of_wrapped[15] = 0xff;
     of_wrapped[32] = 0xff;
-    let right = [
-        all_write(alloc, 2, &keys[..1], &[1], &[0xff, 0x28, 0xff, 0x28]),
-        all_write(alloc, 2, &[0], &[0], &[0, 0xff, 0]),
-        all_write(alloc, 4, &three, &[1, 2, 3], &of_three),
-        all_write(alloc, 3, &[2, 2], &[2, 0], &[0, 0xff, 0, 0, 0xff, 0]),
-        all_write(alloc, 5, &keys, &[3, 4, 0, 1], &of_four),
-        all_write(alloc, 3, &twice, &[0, 1], &of_twice),
-        all_write(alloc, 3, &apart, &[0, 1], &of_apart),
-        all_write(alloc, 17, &[16; 16], &wrapped, &of_wrapped),
-    ];
-    expect_eq!(rt; right, [true; 8]);
+    expect_eq!(rt; all_write(alloc, 2, &keys[..1], &[1], &[0xff, 0x28, 0xff, 0x28]), true);
+    expect_eq!(rt; all_write(alloc, 2, &[0], &[0], &[0, 0xff, 0]), true);
+    expect_eq!(rt; all_write(alloc, 4, &three, &[1, 2, 3], &of_three), true);
+    expect_eq!(rt; all_write(alloc, 3, &[2, 2], &[2, 0], &[0, 0xff, 0, 0, 0xff, 0]), true);
+    expect_eq!(rt; all_write(alloc, 5, &keys, &[3, 4, 0, 1], &of_four), true);
+    expect_eq!(rt; all_write(alloc, 3, &twice, &[0, 1], &of_twice), true);
+    expect_eq!(rt; all_write(alloc, 3, &apart, &[0, 1], &of_apart), true);
+    expect_eq!(rt; all_write(alloc, 17, &[16; 16], &wrapped, &of_wrapped), true);
 }
 
 // The second item is placed from the start of its hash, bucket 1, and its tag is 0x29.
@@ -458,40 +381,27 @@ fn finds_a_candidate(rt: HostRuntime) -> Result<(), AllocError> {
     laws::search_is_bounded();
     laws::counters_begin_at_zero();
     laws::marked_are_walked();
-    let found = [
-        candidate(controls, table.cap, table.len, 2),
-        candidate(controls, table.cap, table.len, 1 << 63),
-        candidate_from(controls, table.cap, table.len, 2),
-        candidate_from(controls, table.cap, table.len, 1 << 63),
-    ];
-    expect_eq!(rt; found, [Some(2), None, Some(2), None]);
+    expect_eq!(rt; candidate(controls, table.cap, table.len, 2), Some(2));
+    expect_eq!(rt; candidate(controls, table.cap, table.len, 1 << 63), None);
+    expect_eq!(rt; candidate_from(controls, table.cap, table.len, 2), Some(2));
+    expect_eq!(rt; candidate_from(controls, table.cap, table.len, 1 << 63), None);
     Ok(())
 }
 
 #[test]
-fn finds_by_each_kind(rt: HostRuntime) {
+fn finds_by_each_kind(rt: HostRuntime) -> Result<(), AllocError> {
     laws::found_on_written();
-    let right = [
-        finds::<bytewise::Group>(rt.alloc()),
-        finds::<generic::Group>(rt.alloc()),
-        finds::<lanes::Group>(rt.alloc()),
-        finds::<paired::Group>(rt.alloc()),
-    ];
-    expect_eq!(rt; right, [true; 4]);
-}
-
-// A word of eight also marks a tag that differs in the lowest bit, right after an equal one.
-#[test]
-fn finds_by_false_marks(rt: HostRuntime) -> Result<(), AllocError> {
+    expect_eq!(rt; finds::<bytewise::Group>(rt.alloc()), true);
+    expect_eq!(rt; finds::<generic::Group>(rt.alloc()), true);
+    expect_eq!(rt; finds::<lanes::Group>(rt.alloc()), true);
+    expect_eq!(rt; finds::<paired::Group>(rt.alloc()), true);
+    // A word of eight also marks a tag that differs in the lowest bit, right after an equal one.
     let hash = 0x5000_0000_0000_0001;
     let table = Table::written::<generic::Group>(rt.alloc(), 3, &[hash, 0x5200_0000_0000_0000])?;
-    let found = [
-        found::<generic::Group>(&table, hash, Accepted::Only(1)),
-        found::<bytewise::Group>(&table, hash, Accepted::Only(1)),
-        found::<lanes::Group>(&table, hash, Accepted::Only(1)),
-        found::<paired::Group>(&table, hash, Accepted::Only(1)),
-    ];
-    expect_eq!(rt; found, [(Some(1), 1), (None, 1), (None, 1), (Some(1), 1)]);
+    expect_eq!(rt; found::<generic::Group>(&table, hash, Accepted::Only(1)), (Some(1), 1));
+    expect_eq!(rt; found::<bytewise::Group>(&table, hash, Accepted::Only(1)), (None, 1));
+    expect_eq!(rt; found::<lanes::Group>(&table, hash, Accepted::Only(1)), (None, 1));
+    expect_eq!(rt; found::<paired::Group>(&table, hash, Accepted::Only(1)), (Some(1), 1));
     Ok(())
 }
 
@@ -515,23 +425,15 @@ fn compares_in_order<G: GroupKind>(alloc: Global) -> Result<bool, AllocError> {
 }
 
 #[test]
-fn compares_buckets_of_each_stride(rt: HostRuntime) {
-    let right = [
-        compares_in_order::<bytewise::Group>(rt.alloc()).ok(),
-        compares_in_order::<generic::Group>(rt.alloc()).ok(),
-        compares_in_order::<lanes::Group>(rt.alloc()).ok(),
-        compares_in_order::<paired::Group>(rt.alloc()).ok(),
-    ];
-    expect_eq!(rt; right, [Some(true); 4]);
-}
-
-// A comparison that returns `false` at its first call, and `true` from then on.
-#[test]
-fn comparison_may_change_its_result(rt: HostRuntime) -> Result<(), AllocError> {
+fn comparisons_are_called_in_order(rt: HostRuntime) -> Result<(), AllocError> {
+    expect_eq!(rt; compares_in_order::<bytewise::Group>(rt.alloc()).ok(), Some(true));
+    expect_eq!(rt; compares_in_order::<generic::Group>(rt.alloc()).ok(), Some(true));
+    expect_eq!(rt; compares_in_order::<lanes::Group>(rt.alloc()).ok(), Some(true));
+    expect_eq!(rt; compares_in_order::<paired::Group>(rt.alloc()).ok(), Some(true));
+    // A comparison that returns `false` at its first call, and `true` from then on.
     let table = Table::written::<generic::Group>(rt.alloc(), 3, &[2, 2])?;
     let compared = Cell::new(false);
-    let outcome = table.lookup::<generic::Group, _>(2, |_| compared.replace(true));
-    assert!(rt; outcome == (Some(0), 1));
+    assert!(rt; table.lookup::<generic::Group, _>(2, |_| compared.replace(true)) == (Some(0), 1));
     Ok(())
 }
 
@@ -554,20 +456,17 @@ fn walks<G: GroupKind>(alloc: Global) -> Result<bool, AllocError> {
 fn walks_by_each_kind(rt: HostRuntime) {
     laws::buckets_are_yielded::<generic::Group>();
     laws::walked_are_full();
-    let right = [
-        walks::<bytewise::Group>(rt.alloc()).ok(),
-        walks::<generic::Group>(rt.alloc()).ok(),
-        walks::<lanes::Group>(rt.alloc()).ok(),
-        walks::<paired::Group>(rt.alloc()).ok(),
-    ];
-    expect_eq!(rt; right, [Some(true); 4]);
+    expect_eq!(rt; walks::<bytewise::Group>(rt.alloc()).ok(), Some(true));
+    expect_eq!(rt; walks::<generic::Group>(rt.alloc()).ok(), Some(true));
+    expect_eq!(rt; walks::<lanes::Group>(rt.alloc()).ok(), Some(true));
+    expect_eq!(rt; walks::<paired::Group>(rt.alloc()).ok(), Some(true));
 }
 
 #[test]
 fn the_next_full_bucket_is_found(rt: HostRuntime) {
     let controls = [0xff, 0x28, 0x51, 0xff, 0xff, 0x7a];
-    let next = [0, 1, 2, 3, 5].map(|from| next_full(&controls, 5, from));
-    expect_eq!(rt; next, [Some(1), Some(1), Some(2), None, None]);
+    expect_eq!(rt; [0, 1, 2, 3, 5].map(|from| next_full(&controls, 5, from)), [Some(1), Some(1),
+        Some(2), None, None]);
 }
 
 #[test]
@@ -575,25 +474,17 @@ fn mirrored_control_bytes_are_checked(rt: HostRuntime) {
     let mut small = [0xffu8; 31];
     small[1] = 0x28;
     small[3] = 0x28;
-    let written = check_wrapped(&small, 2);
+    expect_eq!(rt; check_wrapped(&small, 2), Ok(()));
     small[4] = 0;
-    let third = check_wrapped(&small, 2);
+    expect_eq!(rt; check_wrapped(&small, 2), Err(4));
     small[4] = 0xff;
     small[0] = 0x80;
-    let other_empty = check_wrapped(&small, 2);
+    expect_eq!(rt; check_wrapped(&small, 2), Err(2));
     small[2] = 0x80;
-    let both_empty = check_wrapped(&small, 2);
+    expect_eq!(rt; check_wrapped(&small, 2), Ok(()));
     small[30] = 0x7f;
-    let last = check_wrapped(&small, 2);
+    expect_eq!(rt; check_wrapped(&small, 2), Err(30));
     let mut even = [0xffu8; 31];
     even[0] = 1;
-    let results = [
-        written,
-        third,
-        other_empty,
-        both_empty,
-        last,
-        check_wrapped(&even, 16),
-    ];
-    expect_eq!(rt; results, [Ok(()), Err(4), Err(2), Ok(()), Err(30), Err(16)]);
+    expect_eq!(rt; check_wrapped(&even, 16), Err(16));
 }

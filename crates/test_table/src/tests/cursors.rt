@@ -5,6 +5,7 @@ use rkyv_base::access::access;
 use rkyv_base::{Entry, Narrow, VerifyError, access_mut};
 use rkyv_table::{ArchivedHashTable, TableOf};
 use test_support::archives::one_number;
+use test_support::changes::with_bytes;
 
 // The positions of the items of the table of 10 and 20, by ascending bucket, and the number of
 // items that are left before the first, before the second and after both.
@@ -22,8 +23,7 @@ fn positions_over(bytes: &mut [u8]) -> Result<([Option<u64>; 3], [usize; 3]), Ve
 #[test]
 fn a_cursor_over_bare_bytes_yields_each_position(rt: HostRuntime) {
     let mut bytes = two_archived();
-    let walked = positions_over(&mut bytes);
-    expect_eq!(rt; walked, Ok(([Some(2), Some(0), None], [2, 1, 0])));
+    expect_eq!(rt; positions_over(&mut bytes), Ok(([Some(2), Some(0), None], [2, 1, 0])));
     expect_eq!(rt; bytes, two_archived());
 }
 
@@ -48,10 +48,7 @@ fn write_pair(bytes: &mut [u8]) -> Result<Option<(u64, bool)>, VerifyError> {
 fn a_scalar_is_written_at_an_offset_of_an_item(rt: HostRuntime) {
     let mut bytes = one_number();
     expect_eq!(rt; write_pair(&mut bytes), Ok(Some((0, true))));
-    let mut expected = one_number();
-    expected[0] = 3;
-    expected[4] = 4;
-    expect_eq!(rt; bytes, expected);
+    expect_eq!(rt; bytes, with_bytes(with_bytes(one_number(), 0, &[3]), 4, &[4]));
 }
 
 // Writes a byte over the first item of the table of 10 and 20, by a closure. Returns the position
@@ -75,9 +72,7 @@ fn write_by_closure(bytes: &mut [u8], byte: u8) -> Result<Option<u64>, VerifyErr
 fn a_closure_writes_at_an_item(rt: HostRuntime) {
     let mut bytes = two_archived();
     expect_eq!(rt; write_by_closure(&mut bytes, 30), Ok(Some(0)));
-    let mut expected = two_archived();
-    expected[2] = 30;
-    expect_eq!(rt; bytes, expected);
+    expect_eq!(rt; bytes, with_bytes(two_archived(), 2, &[30]));
 }
 
 // Writes a byte over the first item of the table of 10 and 20, in the bytes of the cursor.
@@ -102,7 +97,5 @@ fn write_in_bytes(bytes: &mut [u8], byte: u8) -> Result<(usize, Option<u64>), Ve
 fn the_bytes_of_a_cursor_are_the_archive(rt: HostRuntime) {
     let mut bytes = two_archived();
     expect_eq!(rt; write_in_bytes(&mut bytes, 30), Ok((48, Some(0))));
-    let mut expected = two_archived();
-    expected[2] = 30;
-    expect_eq!(rt; bytes, expected);
+    expect_eq!(rt; bytes, with_bytes(two_archived(), 2, &[30]));
 }

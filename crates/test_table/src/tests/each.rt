@@ -54,10 +54,6 @@ fn each_item_is_written_once(rt: HostRuntime) {
     expected[2] = 7;
     expect_eq!(rt; set_numbers::<Narrow>(&mut bytes, 7), Ok(()));
     expect_eq!(rt; bytes, expected);
-}
-
-#[test]
-fn no_item_of_an_empty_table_is_written(rt: HostRuntime) {
     let mut bytes = no_items();
     expect_eq!(rt; set_numbers::<Narrow>(&mut bytes, 7), Ok(()));
     expect_eq!(rt; bytes, no_items());

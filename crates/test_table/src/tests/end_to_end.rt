@@ -55,11 +55,8 @@ fn is_looked_over<W: Width>(alloc: Global, end: u64) -> bool {
 fn a_list_is_found_as_it_was_written(rt: HostRuntime) {
     written_lists_represent::<Narrow, u8, &u8>();
     let alloc = rt.alloc();
-    let results = [
-        is_looked_over::<Narrow>(alloc, 48),
-        is_looked_over::<Wide>(alloc, 64),
-    ];
-    expect_eq!(rt; results, [true; 2]);
+    expect_eq!(rt; is_looked_over::<Narrow>(alloc, 48), true);
+    expect_eq!(rt; is_looked_over::<Wide>(alloc, 64), true);
 }
 
 // Does the same with a writer of at most `limit` bytes, and looks over its bytes afterwards.
@@ -101,13 +98,10 @@ fn is_limited<W: Width>(alloc: Global, limit: u64) -> Result<bool, bool> {
 #[test]
 fn a_list_is_written_by_any_writer(rt: HostRuntime) {
     let alloc = rt.alloc();
-    let results = [
-        is_limited::<Narrow>(alloc, 48),
-        is_limited::<Narrow>(alloc, 47),
-        is_limited::<Wide>(alloc, 64),
-        is_limited::<Wide>(alloc, 63),
-    ];
-    expect_eq!(rt; results, [Ok(true), Err(true), Ok(true), Err(true)]);
+    expect_eq!(rt; is_limited::<Narrow>(alloc, 48), Ok(true));
+    expect_eq!(rt; is_limited::<Narrow>(alloc, 47), Err(true));
+    expect_eq!(rt; is_limited::<Wide>(alloc, 64), Ok(true));
+    expect_eq!(rt; is_limited::<Wide>(alloc, 63), Err(true));
 }
 
 // Counts a call of a comparison, and returns `accepts`.
@@ -170,14 +164,11 @@ fn look(alloc: Global, bytes: &[u8; 60], hash: u64) -> Result<TableReport, LookE
 #[test]
 fn one_lookup_is_made(rt: HostRuntime) {
     let alloc = rt.alloc();
-    let compared = [
-        compared_in_list(alloc, 0),
-        compared_in_list(alloc, 10),
-        compared_in_list(alloc, 99),
-        compared_in_bytes(alloc, true),
-        compared_in_bytes(alloc, false),
-    ];
-    expect_eq!(rt; compared, [Some(1), Some(2), Some(5), Some(1), Some(2)]);
+    expect_eq!(rt; compared_in_list(alloc, 0), Some(1));
+    expect_eq!(rt; compared_in_list(alloc, 10), Some(2));
+    expect_eq!(rt; compared_in_list(alloc, 99), Some(5));
+    expect_eq!(rt; compared_in_bytes(alloc, true), Some(1));
+    expect_eq!(rt; compared_in_bytes(alloc, false), Some(2));
 }
 
 // Writes a number over the first item that is accepted under the hash 2. Returns `None` if there
@@ -265,8 +256,7 @@ fn a_changed_list_is_found_with_its_new_item(rt: HostRuntime) {
     written_items_are_replaced::<Narrow, u8, &u8>();
     finds_listed(|item| item.to_native() > 10);
     let alloc = rt.alloc();
-    let results = [is_changed::<Narrow>(alloc), is_changed::<Wide>(alloc)];
-    expect_eq!(rt; results, [true; 2]);
+    expect_eq!(rt; [is_changed::<Narrow>(alloc), is_changed::<Wide>(alloc)], [true; 2]);
 }
 
 // The archive of the list of 10, 20 and 30 after a zero. The table has the buckets 3 to 0 and the
@@ -332,10 +322,7 @@ fn write_wide_behind(alloc: Global) -> Result<Vec<u8>, WriteError<NoMemory>> {
 
 // Returns `true` if these bytes were written.
 fn is_written(written: &Result<Vec<u8>, WriteError<NoMemory>>, expected: &[u8]) -> bool {
-    match written {
-        Ok(bytes) => bytes.as_slice() == expected,
-        Err(_) => false,
-    }
+    matches!(written, Ok(bytes) if bytes.as_slice() == expected)
 }
 
 // Returns `true` if the walk visits the three items, and the lookup by 2 of a number above 10
@@ -361,21 +348,15 @@ fn finds_behind<F: Fn(View<'_, u8>) -> bool>(_cmp: F) {
 fn a_list_is_found_with_its_header_further_behind(rt: HostRuntime) {
     finds_behind(|item| item.to_native() > 10);
     let alloc = rt.alloc();
-    let results = [
-        is_written(&write_narrow_behind(alloc), &NARROW_BEHIND),
-        is_written(&write_wide_behind(alloc), &WIDE_BEHIND),
-        is_found_behind::<Narrow>(alloc, &NARROW_BEHIND, 60),
-        is_found_behind::<Wide>(alloc, &WIDE_BEHIND, 64),
-    ];
-    expect_eq!(rt; results, [true; 4]);
+    expect_eq!(rt; is_written(&write_narrow_behind(alloc), &NARROW_BEHIND), true);
+    expect_eq!(rt; is_written(&write_wide_behind(alloc), &WIDE_BEHIND), true);
+    expect_eq!(rt; is_found_behind::<Narrow>(alloc, &NARROW_BEHIND, 60), true);
+    expect_eq!(rt; is_found_behind::<Wide>(alloc, &WIDE_BEHIND, 64), true);
 }
 
 // Returns `true` if a lookup in that table has this result, and its walk visits the pair.
 fn finds(alloc: Global, hash: u64, found: Option<u64>) -> bool {
-    match look(alloc, &one_number(), hash) {
-        Ok(report) => is_report(&report, &[0], found, 1),
-        Err(_) => false,
-    }
+    matches!(look(alloc, &one_number(), hash), Ok(report) if is_report(&report, &[0], found, 1))
 }
 
 #[test]
@@ -383,16 +364,11 @@ fn untrusted_bytes_are_reported_or_rejected(rt: HostRuntime) {
     let alloc = rt.alloc();
     let mut bytes = one_number();
     bytes[52] = 0;
-    let failed = matches!(
-        look(alloc, &bytes, 1),
-        Err(LookError::Verify(VerifyError::WrongNumberOfElements {
-            expected: 0,
-            actual: 1,
-        }))
-    );
-    let found = finds(alloc, 0x5000_0000_0000_0001, Some(0));
-    let none = finds(alloc, 1, None);
-    expect_eq!(rt; [found, none, failed], [true; 3]);
+    expect_eq!(rt; matches!(look(alloc, &bytes, 1),
+        Err(LookError::Verify(VerifyError::WrongNumberOfElements { expected: 0, actual: 1, }))),
+        true);
+    expect_eq!(rt; finds(alloc, 0x5000_0000_0000_0001, Some(0)), true);
+    expect_eq!(rt; finds(alloc, 1, None), true);
 }
 
 // Fails the test unless each of these errors is displayed as the text beside it.
@@ -409,7 +385,7 @@ fn expect_texts<E: Display>(
 }
 
 #[test]
-fn errors_are_displayed(rt: HostRuntime) -> Result<(), AllocError> {
+fn errors_are_displayed_and_converted(rt: HostRuntime) -> Result<(), AllocError> {
     expect_texts(
         &rt,
         rt.alloc(),
@@ -431,24 +407,13 @@ fn errors_are_displayed(rt: HostRuntime) -> Result<(), AllocError> {
             ),
             (ListError::Look(LookError::Memory), "no memory"),
         ],
-    )
-}
-
-#[test]
-fn errors_are_converted_into_those_of_their_names(rt: HostRuntime) {
+    )?;
     errors_are_converted();
     let fault = VerifyError::UnwrappedControlByte { index: 3 };
-    let looked = [LookError::from(fault), LookError::from(AllocError)];
-    expect_eq!(rt; looked, [LookError::Verify(fault), LookError::Memory]);
-    let listed = [
-        ListError::from(WriteError::CapacityTooLarge { len: 7 }),
-        ListError::from(LookError::Memory),
-    ];
-    expect_eq!(rt;
-        listed,
-        [
-            ListError::Write(WriteError::CapacityTooLarge { len: 7 }),
-            ListError::Look(LookError::Memory),
-        ],
-    );
+    expect_eq!(rt; LookError::from(fault), LookError::Verify(fault));
+    expect_eq!(rt; LookError::from(AllocError), LookError::Memory);
+    expect_eq!(rt; ListError::from(WriteError::CapacityTooLarge { len: 7 }),
+        ListError::Write(WriteError::CapacityTooLarge { len: 7 }));
+    expect_eq!(rt; ListError::from(LookError::Memory), ListError::Look(LookError::Memory));
+    Ok(())
 }

@@ -10,7 +10,7 @@ use rkyv_base::access::access;
 use rkyv_base::{Narrow, Scalar, Seal, VerifyError, View, Width, access_mut};
 use rkyv_table::table::laws;
 use rkyv_table::{ArchivedHashTable, TableOf};
-use test_support::changes::change;
+use test_support::changes::{change, with_bytes};
 
 // Sets each item of a table, which stays valid.
 fn set_all<N: Scalar, W: Width>(archive: &mut [u8], pos: u64, value: N)
@@ -62,30 +62,22 @@ fn stepped(bytes: &mut [u8; 48], steps: usize) -> Result<[u8; 48], VerifyError> 
 }
 
 #[test]
-fn each_item_is_set(rt: HostRuntime) {
+fn items_are_set_by_a_cursor(rt: HostRuntime) {
     laws::in_place::items_written_represent::<u32, u32, Narrow>();
     laws::in_place::writes_keep_the_table::<u32, Narrow>();
     laws::in_place::writes_keep_archives::<TableOf<u32>, Narrow>();
     let mut bytes = two_archived();
-    let written = set_twice(&mut bytes);
     let mut sevens = two_archived();
     sevens[0] = 7;
     sevens[2] = 7;
     let mut nines = two_archived();
     nines[0] = 9;
     nines[2] = 9;
-    expect_eq!(rt; written, Ok((sevens, nines)));
-}
-
-#[test]
-fn a_cursor_changes_nothing_by_itself(rt: HostRuntime) {
+    expect_eq!(rt; set_twice(&mut bytes), Ok((sevens, nines)));
     let mut bytes = two_archived();
-    let left = [
-        stepped(&mut bytes, 0),
-        stepped(&mut bytes, 1),
-        stepped(&mut bytes, 3),
-    ];
-    expect_eq!(rt; left, [Ok(two_archived()); 3]);
+    expect_eq!(rt; stepped(&mut bytes, 0), Ok(two_archived()));
+    expect_eq!(rt; stepped(&mut bytes, 1), Ok(two_archived()));
+    expect_eq!(rt; stepped(&mut bytes, 3), Ok(two_archived()));
 }
 
 // Writes a number over the item that is found under a hash, and returns the number that is read
@@ -132,18 +124,12 @@ fn set_number(
 }
 
 #[test]
-fn found_item_is_written_in_place(rt: HostRuntime) {
+fn a_found_item_is_written_in_place(rt: HostRuntime) {
     laws::in_place::value_writes_keep_the_table::<u8, u32, Narrow>();
     laws::in_place::writes_keep_lookups::<u32, Narrow>();
     let mut bytes = two_archived();
     expect_eq!(rt; set_number(&mut bytes, 2, 20, 30), Ok(Some(30)));
-    let mut expected = two_archived();
-    expected[2] = 30;
-    expect_eq!(rt; bytes, expected);
-}
-
-#[test]
-fn lookup_of_a_missing_item_changes_nothing(rt: HostRuntime) {
+    expect_eq!(rt; bytes, with_bytes(two_archived(), 2, &[30]));
     let mut bytes = two_archived();
     expect_eq!(rt; set_number(&mut bytes, 2, 30, 40), Ok(None));
     expect_eq!(rt; bytes, two_archived());
@@ -171,10 +157,6 @@ fn write_stepping(bytes: &mut [u8]) -> Result<([Option<u64>; 3], usize), VerifyE
 #[test]
 fn items_are_written_while_the_cursor_steps(rt: HostRuntime) {
     let mut bytes = two_archived();
-    let stepped = write_stepping(&mut bytes);
-    let mut expected = two_archived();
-    expected[2] = 7;
-    expected[0] = 9;
-    expect_eq!(rt; stepped, Ok(([Some(2), Some(0), None], 0)));
-    expect_eq!(rt; bytes, expected);
+    expect_eq!(rt; write_stepping(&mut bytes), Ok(([Some(2), Some(0), None], 0)));
+    expect_eq!(rt; bytes, with_bytes(with_bytes(two_archived(), 2, &[7]), 0, &[9]));
 }

@@ -15,6 +15,7 @@ use rkyv_table::{ArchivedHashTable, Strides, TableOf};
 use std::alloc::Global;
 use std::cell::Cell;
 use std::process::Abort;
+use std::test::Fail;
 use test_support::archives::{four_pairs, no_items, one_key_twice, one_number, one_unit};
 
 /// The numbers that a lookup accepts.
@@ -58,15 +59,6 @@ fn counted<W: Width>(
         None => None,
     };
     Ok((number, strides.count()))
-}
-
-// Fails the test unless each of these lookups has its result. A row has the hash, the number that
-// is looked up, and the result: the number that is found, and the number of strides that are read.
-fn expect_counted<W: Width>(rt: &impl Abort, bytes: &[u8], rows: &[(u64, u8, (Option<u8>, u64))]) {
-    for (hash, number, expected) in rows {
-        let found = counted::<W>(bytes, *hash, Accepted::Only(*number));
-        expect_eq!(*rt; (*hash, *number, found), (*hash, *number, Ok(*expected)));
-    }
 }
 
 // Returns the number that is found under a hash.
@@ -133,13 +125,10 @@ fn a_pair_is_found_in_one_stride(rt: HostRuntime) {
     laws::clones_are_the_same::<Entry<u32, u32>, Narrow>();
     let archive = one_number();
     let bytes: &[u8] = &archive;
-    let found = [
-        value_of::<Narrow>(bytes, hash_of_u32(1), 1),
-        value_of::<Narrow>(bytes, hash_of_u32(2), 2),
-    ];
+    expect_eq!(rt; value_of::<Narrow>(bytes, hash_of_u32(1), 1), Ok((Some(2), 1)));
+    expect_eq!(rt; value_of::<Narrow>(bytes, hash_of_u32(2), 2), Ok((None, 1)));
     expect_eq!(rt; is_empty_copied::<Entry<u32, u32>>(bytes), Some(false));
     expect_eq!(rt; counts::<Entry<u32, u32>, Narrow>(bytes), Ok((1, 2)));
-    expect_eq!(rt; found, [Ok((Some(2), 1)), Ok((None, 1))]);
 }
 
 // Returns `true` if a lookup of each key finds its value, or `None`, in one stride.
@@ -158,8 +147,8 @@ fn a_pair_is_found_in_another_bucket_than_its_start(rt: HostRuntime) {
     let bytes: &[u8] = &archive;
     expect_eq!(rt; counts::<Entry<i8, i8>, Narrow>(bytes), Ok((4, 5)));
     // bucket 0 is the last one before the control bytes, which begin at 10
-    let pos = first_pos::<Entry<i8, i8>, Narrow>(bytes, hash_of_i8(5));
-    expect_eq!(rt; (start(hash_of_i8(5), 5), pos), (4, Ok(Some(8))));
+    expect_eq!(rt; first_pos::<Entry<i8, i8>, Narrow>(bytes, hash_of_i8(5)), Ok(Some(8)));
+    expect_eq!(rt; start(hash_of_i8(5), 5), 4);
     let pairs = [
         (0, None),
         (1, Some(2)),
@@ -187,8 +176,8 @@ fn first_pos_by_header<T: Element, W: Width>(
 
 #[test]
 fn a_decoded_header_leads_to_the_same_item(rt: HostRuntime) {
-    let pos = first_pos_by_header::<Entry<i8, i8>, Narrow>(&four_pairs(), hash_of_i8(5));
-    expect_eq!(rt; pos, Ok(Some(8)));
+    expect_eq!(rt; first_pos_by_header::<Entry<i8, i8>, Narrow>(&four_pairs(), hash_of_i8(5)),
+        Ok(Some(8)));
 }
 
 // Returns the length, the capacity and the position of the first control byte, from the decoded
@@ -210,15 +199,9 @@ fn the_first_of_two_under_one_hash_is_found(rt: HostRuntime) {
     let bytes: &[u8] = &archive;
     expect_eq!(rt; found(bytes, 2, Accepted::Each), [Ok(Some(10)); 4]);
     expect_eq!(rt; counted::<Narrow>(bytes, 2, Accepted::Each), Ok((Some(10), 1)));
-    expect_counted::<Narrow>(
-        &rt,
-        bytes,
-        &[
-            (2, 10, (Some(10), 1)),
-            (2, 20, (Some(20), 1)),
-            (2, 30, (None, 1)),
-        ],
-    );
+    expect_eq!(rt; counted::<Narrow>(bytes, 2, Accepted::Only(10)), Ok((Some(10), 1)));
+    expect_eq!(rt; counted::<Narrow>(bytes, 2, Accepted::Only(20)), Ok((Some(20), 1)));
+    expect_eq!(rt; counted::<Narrow>(bytes, 2, Accepted::Only(30)), Ok((None, 1)));
 }
 
 // Returns the number of calls of a comparison that accepts no item.
@@ -249,11 +232,8 @@ fn the_first_of_a_repeated_key_is_found(rt: HostRuntime) {
 fn an_item_of_no_bytes_is_found(rt: HostRuntime) {
     let archive = one_unit();
     let bytes: &[u8] = &archive;
-    let found = [
-        first_pos::<(), Narrow>(bytes, 0),
-        first_pos::<(), Narrow>(bytes, 1 << 57),
-    ];
-    expect_eq!(rt; found, [Ok(Some(0)), Ok(None)]);
+    expect_eq!(rt; first_pos::<(), Narrow>(bytes, 0), Ok(Some(0)));
+    expect_eq!(rt; first_pos::<(), Narrow>(bytes, 1 << 57), Ok(None));
 }
 
 // Returns the number of starts, of sixteen, with which a lookup returns `None` after one stride.
@@ -276,33 +256,19 @@ fn is_debugged(alloc: Global, strides: &Strides, text: &str) -> bool {
 }
 
 #[test]
-fn the_usual_counter_counts_from_0(rt: HostRuntime) {
+fn strides_are_counted(rt: HostRuntime) {
     let strides = Strides::default();
-    let printed = is_debugged(rt.alloc(), &strides, "Strides { count: 0 }");
-    expect_eq!(rt; (strides.count(), printed), (0, true));
-}
-
-#[test]
-fn sixteen_buckets_are_one_stride(rt: HostRuntime) {
+    expect_eq!(rt; is_debugged(rt.alloc(), &strides, "Strides { count: 0 }"), true);
+    expect_eq!(rt; strides.count(), 0);
     expect_eq!(rt; starts_of_one_stride(&fifteen_archived()), 16);
-}
-
-// Of seventeen buckets the last one has the first item, and the first fifteen have the others.
-#[test]
-fn the_second_stride_is_read_where_the_first_is_full(rt: HostRuntime) {
+    // Of seventeen buckets the last one has the first item, and the first fifteen have the others.
     let archive = sixteen_archived();
     let bytes: &[u8] = &archive;
-    expect_counted::<Narrow>(
-        &rt,
-        bytes,
-        &[
-            (16, 1, (Some(1), 1)),
-            (16, 16, (Some(16), 1)),
-            (16, 17, (None, 2)),
-            (0, 1, (None, 1)),
-            (33, 1, (Some(1), 1)),
-        ],
-    );
+    expect_eq!(rt; counted::<Narrow>(bytes, 16, Accepted::Only(1)), Ok((Some(1), 1)));
+    expect_eq!(rt; counted::<Narrow>(bytes, 16, Accepted::Only(16)), Ok((Some(16), 1)));
+    expect_eq!(rt; counted::<Narrow>(bytes, 16, Accepted::Only(17)), Ok((None, 2)));
+    expect_eq!(rt; counted::<Narrow>(bytes, 0, Accepted::Only(1)), Ok((None, 1)));
+    expect_eq!(rt; counted::<Narrow>(bytes, 33, Accepted::Only(1)), Ok((Some(1), 1)));
     expect_placed(
         &rt,
         bytes,
@@ -365,13 +331,10 @@ fn unsuccessful_lookup_compares_each_item(rt: HostRuntime) {
     expect_eq!(rt; placed(bytes, 16, Accepted::Nothing(&by_pos)), Ok(None));
     expect_eq!(rt; counted::<Narrow>(bytes, 16, Accepted::Nothing(&by_count)), Ok((None, 2)));
     expect_eq!(rt; [by_view.are_all(), by_pos.are_all(), by_count.are_all()], [true; 3]);
-    let by_kind = [
-        compared_by::<bytewise::Group>(bytes),
-        compared_by::<generic::Group>(bytes),
-        compared_by::<lanes::Group>(bytes),
-        compared_by::<paired::Group>(bytes),
-    ];
-    expect_eq!(rt; by_kind, [(Ok(None), true); 4]);
+    expect_eq!(rt; compared_by::<bytewise::Group>(bytes), (Ok(None), true));
+    expect_eq!(rt; compared_by::<generic::Group>(bytes), (Ok(None), true));
+    expect_eq!(rt; compared_by::<lanes::Group>(bytes), (Ok(None), true));
+    expect_eq!(rt; compared_by::<paired::Group>(bytes), (Ok(None), true));
 }
 
 #[test]
@@ -383,22 +346,17 @@ fn an_empty_table_is_not_read(rt: HostRuntime) {
     expect_eq!(rt; first_pos::<u8, Narrow>(bytes, 2), Ok(None));
     expect_eq!(rt; counted::<Narrow>(bytes, 2, Accepted::Each), Ok((None, 0)));
     expect_eq!(rt; found(bytes, 2, Accepted::Each), [Ok(None); 4]);
-    expect_counted::<Narrow>(&rt, bytes, &[(3, 0, (None, 0))]);
-    expect_counted::<Narrow>(&rt, &empty_bucket_archived(), &[(3, 0, (None, 0))]);
+    expect_eq!(rt; counted::<Narrow>(bytes, 3, Accepted::Only(0)), Ok((None, 0)));
+    expect_eq!(rt; counted::<Narrow>(&empty_bucket_archived(), 3, Accepted::Only(0)),
+        Ok((None, 0)));
     expect_placed(&rt, bytes, &[(3, 0, None)]);
 }
 
 #[test]
 fn a_wide_table_is_looked_up(rt: HostRuntime) {
-    expect_counted::<Wide>(
-        &rt,
-        &wide_seven_archived(),
-        &[
-            (1, 7, (Some(7), 1)),
-            (0, 7, (Some(7), 1)),
-            (1, 8, (None, 1)),
-        ],
-    );
+    expect_eq!(rt; counted::<Wide>(&wide_seven_archived(), 1, Accepted::Only(7)), Ok((Some(7), 1)));
+    expect_eq!(rt; counted::<Wide>(&wide_seven_archived(), 0, Accepted::Only(7)), Ok((Some(7), 1)));
+    expect_eq!(rt; counted::<Wide>(&wide_seven_archived(), 1, Accepted::Only(8)), Ok((None, 1)));
 }
 
 // A group of one word marks a tag that differs in the lowest bit right above an equal one.
@@ -408,18 +366,16 @@ fn items_of_another_hash_may_be_compared(rt: HostRuntime) {
     let bytes: &[u8] = &archive;
     let second = Accepted::Only(20);
     expect_eq!(rt; found(bytes, EVEN_TAG, Accepted::Each), [Ok(Some(10)); 4]);
-    expect_eq!(rt;
-        found(bytes, EVEN_TAG, second),
-        [Ok(None), Ok(Some(20)), Ok(None), Ok(Some(20))]
-    );
-    expect_counted::<Narrow>(&rt, bytes, &[(EVEN_TAG, 20, (Some(20), 1))]);
+    expect_eq!(rt; found(bytes, EVEN_TAG, second), [Ok(None), Ok(Some(20)), Ok(None),
+        Ok(Some(20))]);
+    expect_eq!(rt; counted::<Narrow>(bytes, EVEN_TAG, Accepted::Only(20)), Ok((Some(20), 1)));
 }
 
 #[test]
 fn comparison_may_change_its_result(rt: HostRuntime) {
     let called = Cell::new(false);
-    let found = counted::<Narrow>(&two_archived(), 2, Accepted::AfterFirst(&called));
-    expect_eq!(rt; found, Ok((Some(20), 1)));
+    expect_eq!(rt; counted::<Narrow>(&two_archived(), 2, Accepted::AfterFirst(&called)),
+        Ok((Some(20), 1)));
 }
 
 // Returns whether a number is found under a hash, and the number of strides that are read.
@@ -430,41 +386,19 @@ fn is_found(bytes: &[u8], hash: u64, number: u64) -> Result<(bool, u64), VerifyE
     Ok((found.is_some(), strides.count()))
 }
 
-// Returns the same of three numbers in a table of two, each under its hash.
-fn are_found(
-    alloc: Global,
-    numbers: [u64; 2],
-    hashes: [u64; 2],
-    expected: [(u64, u64); 3],
-) -> Option<[Result<(bool, u64), VerifyError>; 3]> {
-    let [(one, first), (two, second), (three, third)] = expected;
-    match archived(alloc, &numbers, &hashes, (7, 8)) {
-        Ok(bytes) => Some([
-            is_found(bytes.as_slice(), one, first),
-            is_found(bytes.as_slice(), two, second),
-            is_found(bytes.as_slice(), three, third),
-        ]),
-        Err(_) => None,
-    }
-}
-
 #[test]
-fn lookup_with_another_hasher(rt: HostRuntime) {
-    let large = 4_294_967_297;
+fn lookup_with_another_hasher(rt: HostRuntime) -> Result<(), Fail> {
+    let (large, number) = (4_294_967_297, 4_294_967_297u64);
     let hashes = [
         hash_of_usize::<FxHasher64>(1),
         hash_of_usize::<FxHasher64>(large),
     ];
-    let (one, other) = (
-        hash_of_usize::<FxHasher64Wide>(1),
-        hash_of_usize::<FxHasher64Wide>(large),
-    );
-    let (numbers, large) = ([1, large as u64], large as u64);
-    let expected = [(one, 1), (other, large), (hashes[1], large)];
-    expect_eq!(rt;
-        are_found(rt.alloc(), numbers, hashes, expected),
-        Some([Ok((true, 1)), Ok((false, 1)), Ok((true, 1))])
-    );
+    let bytes = archived(rt.alloc(), &[1, number], &hashes, (7, 8))?;
+    let bytes = bytes.as_slice();
+    expect_eq!(rt; is_found(bytes, hash_of_usize::<FxHasher64Wide>(1), 1), Ok((true, 1)));
+    expect_eq!(rt; is_found(bytes, hash_of_usize::<FxHasher64Wide>(large), number), Ok((false, 1)));
+    expect_eq!(rt; is_found(bytes, hashes[1], number), Ok((true, 1)));
+    Ok(())
 }
 
 // Returns `true` if an untrusted table has the number under the hash.
@@ -477,21 +411,12 @@ fn has_number(bytes: &[u8], hash: u64, number: u32) -> Result<bool, VerifyError>
     )
 }
 
-// Looks up 7 and 9 in a table that has 7 under 16, and in too few bytes.
-fn has_numbers(alloc: Global) -> Option<[Option<bool>; 3]> {
-    // the tags of the hashes differ in more than their lowest bit
-    match archived(alloc, &[7u32, 9], &[16, 1 << 58], (7, 8)) {
-        Ok(bytes) => Some([
-            has_number(bytes.as_slice(), 16, 7).ok(),
-            has_number(bytes.as_slice(), 16, 9).ok(),
-            has_number(&[0; 11], 16, 7).ok(),
-        ]),
-        Err(_) => None,
-    }
-}
-
+// The tags of the hashes differ in more than their lowest bit.
 #[test]
-fn untrusted_number_is_looked_up(rt: HostRuntime) {
-    let found = has_numbers(rt.alloc());
-    expect_eq!(rt; found, Some([Some(true), Some(false), None]));
+fn untrusted_number_is_looked_up(rt: HostRuntime) -> Result<(), Fail> {
+    let bytes = archived(rt.alloc(), &[7u32, 9], &[16, 1 << 58], (7, 8))?;
+    expect_eq!(rt; has_number(bytes.as_slice(), 16, 7), Ok(true));
+    expect_eq!(rt; has_number(bytes.as_slice(), 16, 9), Ok(false));
+    expect_eq!(rt; has_number(&[0; 11], 16, 7).is_err(), true);
+    Ok(())
 }

@@ -28,27 +28,13 @@ fn misplaced(bytes: &[u8]) -> Result<usize, VerifyError> {
 }
 
 #[test]
-fn pairs_that_were_written_are_in_their_places(rt: HostRuntime) {
-    let misplaced = [
-        misplaced_small(&four_pairs()),
-        misplaced(&one_number()),
-        misplaced_small(&no_items()),
-    ];
-    expect_eq!(rt; misplaced, [Ok(0); 3]);
-}
-
-#[test]
-fn an_item_is_misplaced_if_another_bucket_is_found(rt: HostRuntime) {
-    let misplaced = [
-        finds_another_or_none(1, Some(1)),
-        finds_another_or_none(1, Some(2)),
-        finds_another_or_none(1, None),
-    ];
-    expect_eq!(rt; misplaced, [false, true, true]);
-}
-
-#[test]
-fn a_repeated_key_is_misplaced(rt: HostRuntime) {
+fn misplaced_items_are_counted(rt: HostRuntime) {
+    expect_eq!(rt; misplaced_small(&four_pairs()), Ok(0));
+    expect_eq!(rt; misplaced(&one_number()), Ok(0));
+    expect_eq!(rt; misplaced_small(&no_items()), Ok(0));
+    expect_eq!(rt; finds_another_or_none(1, Some(1)), false);
+    expect_eq!(rt; finds_another_or_none(1, Some(2)), true);
+    expect_eq!(rt; finds_another_or_none(1, None), true);
     laws::misplaced::repeated_are_misplaced();
     assert_eq!(rt; misplaced_small(&one_key_twice()).ok(), Some(1));
 }
@@ -60,12 +46,8 @@ fn misplaced_units(bytes: &[u8]) -> Result<usize, VerifyError> {
 }
 
 #[test]
-fn one_of_two_units_is_misplaced(rt: HostRuntime) {
+fn units_and_changed_keys_are_misplaced(rt: HostRuntime) {
     expect_eq!(rt; misplaced_units(&two_units()), Ok(1));
-}
-
-#[test]
-fn a_changed_key_is_misplaced(rt: HostRuntime) {
     laws::misplaced::none_misplaced_is_complete();
     let mut bytes = one_number();
     bytes[0] = 5;
@@ -85,11 +67,8 @@ fn misplaced_by_order(bytes: &[u8], order: Ordering) -> Result<usize, VerifyErro
 #[test]
 fn misplaced_by_passes_the_own_item_first(rt: HostRuntime) {
     let archive = two_archived();
-    let misplaced = [
-        misplaced_by_order(&archive, Ordering::Greater),
-        misplaced_by_order(&archive, Ordering::Less),
-    ];
-    expect_eq!(rt; misplaced, [Ok(0), Ok(1)]);
+    expect_eq!(rt; misplaced_by_order(&archive, Ordering::Greater), Ok(0));
+    expect_eq!(rt; misplaced_by_order(&archive, Ordering::Less), Ok(1));
 }
 
 // Returns the number of misplaced pairs of a table, and the number of strides that were read.
@@ -109,23 +88,11 @@ fn counted_up_to(bytes: &[u8], limit: u64) -> Result<(Option<usize>, u64), Verif
 #[test]
 fn counting_ends_with_the_first_stride_past_the_limit(rt: HostRuntime) {
     let four = four_pairs();
-    let counted = [
-        counted_up_to(&four, 0),
-        counted_up_to(&four, 3),
-        counted_up_to(&four, 4),
-        counted_up_to(&one_key_twice(), 2),
-        counted_up_to(&no_items(), 0),
-    ];
-    expect_eq!(rt;
-        counted,
-        [
-            Ok((None, 1)),
-            Ok((None, 4)),
-            Ok((Some(0), 4)),
-            Ok((Some(1), 2)),
-            Ok((Some(0), 0))
-        ]
-    );
+    expect_eq!(rt; counted_up_to(&four, 0), Ok((None, 1)));
+    expect_eq!(rt; counted_up_to(&four, 3), Ok((None, 4)));
+    expect_eq!(rt; counted_up_to(&four, 4), Ok((Some(0), 4)));
+    expect_eq!(rt; counted_up_to(&one_key_twice(), 2), Ok((Some(1), 2)));
+    expect_eq!(rt; counted_up_to(&no_items(), 0), Ok((Some(0), 0)));
 }
 
 // Counts a call of a comparison, and returns `accepts`.
@@ -156,25 +123,12 @@ fn compared_up_to(
 // key twice has one tag, and each control byte is mirrored: a lookup that rejects compares four.
 #[test]
 fn each_item_is_looked_up_once_up_to_the_limit(rt: HostRuntime) {
-    let compared = [
-        compared_up_to(&four_pairs(), 0, true),
-        compared_up_to(&four_pairs(), 3, true),
-        compared_up_to(&four_pairs(), 4, true),
-        compared_up_to(&one_key_twice(), 0, false),
-        compared_up_to(&one_key_twice(), 2, false),
-        compared_up_to(&no_items(), 0, true),
-    ];
-    expect_eq!(rt;
-        compared,
-        [
-            Ok((None, 1)),
-            Ok((None, 4)),
-            Ok((Some(0), 4)),
-            Ok((None, 4)),
-            Ok((Some(2), 8)),
-            Ok((Some(0), 0))
-        ]
-    );
+    expect_eq!(rt; compared_up_to(&four_pairs(), 0, true), Ok((None, 1)));
+    expect_eq!(rt; compared_up_to(&four_pairs(), 3, true), Ok((None, 4)));
+    expect_eq!(rt; compared_up_to(&four_pairs(), 4, true), Ok((Some(0), 4)));
+    expect_eq!(rt; compared_up_to(&one_key_twice(), 0, false), Ok((None, 4)));
+    expect_eq!(rt; compared_up_to(&one_key_twice(), 2, false), Ok((Some(2), 8)));
+    expect_eq!(rt; compared_up_to(&no_items(), 0, true), Ok((Some(0), 0)));
 }
 
 // Returns the number of misplaced pairs of a table whose lookups read at most four strides. The
@@ -206,23 +160,9 @@ fn counted_twice(bytes: &[u8], earlier: u64) -> ([Option<usize>; 2], u64) {
 #[test]
 fn earlier_strides_stay_counted(rt: HostRuntime) {
     expect_eq!(rt; counted_twice(&four_pairs(), 0), ([Some(0), Some(0)], 8));
-}
-
-// The limit bounds the strides of one call, whatever was counted before.
-#[test]
-fn a_count_of_strides_ends_at_the_greatest(rt: HostRuntime) {
+    // The limit bounds the strides of one call, whatever was counted before.
     controls::laws::counts_add_up();
-    let counted = [
-        counted_twice(&four_pairs(), u64::MAX - 9),
-        counted_twice(&four_pairs(), u64::MAX - 5),
-        counted_twice(&four_pairs(), u64::MAX),
-    ];
-    expect_eq!(rt;
-        counted,
-        [
-            ([Some(0), Some(0)], u64::MAX - 1),
-            ([Some(0), Some(0)], u64::MAX),
-            ([Some(0), Some(0)], u64::MAX)
-        ]
-    );
+    expect_eq!(rt; counted_twice(&four_pairs(), u64::MAX - 9), ([Some(0), Some(0)], u64::MAX - 1));
+    expect_eq!(rt; counted_twice(&four_pairs(), u64::MAX - 5), ([Some(0), Some(0)], u64::MAX));
+    expect_eq!(rt; counted_twice(&four_pairs(), u64::MAX), ([Some(0), Some(0)], u64::MAX));
 }

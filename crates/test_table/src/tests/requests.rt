@@ -45,8 +45,8 @@ fn right_of_both(alloc: Global) -> usize {
 #[test]
 fn iterators_are_called_at_most_len_plus_one_times(rt: HostRuntime) {
     let alloc = rt.alloc();
-    let right = (right_of_both(alloc), right_writes(alloc, requests_of_pairs));
-    expect_eq!(rt; right, (4 * 6 * 6, 4 * 6));
+    expect_eq!(rt; right_of_both(alloc), 4 * 6 * 6);
+    expect_eq!(rt; right_writes(alloc, requests_of_pairs), 4 * 6);
 }
 
 // Returns the outcome, and the number of calls of the iterator of items.
@@ -58,25 +58,14 @@ fn requests_of_items(alloc: Global, items: usize, hashes: usize, len: usize) -> 
 #[test]
 fn no_call_follows_the_end_or_an_extra_item(rt: HostRuntime) {
     let (all, alloc) = (usize::MAX, rt.alloc());
-    let both = [
-        requests_of_items(alloc, all, all, 2),
-        requests_of_items(alloc, 2, all, 5),
-        requests_of_items(alloc, all, all, 0),
-        requests_of_items(alloc, 0, 0, 0),
-    ];
-    let pairs = [
-        requests_of_pairs(alloc, all, 2, (7, 8)),
-        requests_of_pairs(alloc, 2, 5, (7, 8)),
-        requests_of_pairs(alloc, all, 0, (7, 8)),
-        requests_of_pairs(alloc, 0, 0, (7, 8)),
-    ];
-    let expected_outcome = [
-        (Outcome::Mismatch(2, 3), 3),
-        (Outcome::Mismatch(5, 2), 3),
-        (Outcome::Mismatch(0, 1), 1),
-        (Outcome::Written, 1),
-    ];
-    expect_eq!(rt; (both, pairs), (expected_outcome, expected_outcome));
+    expect_eq!(rt; requests_of_items(alloc, all, all, 2), (Outcome::Mismatch(2, 3), 3));
+    expect_eq!(rt; requests_of_items(alloc, 2, all, 5), (Outcome::Mismatch(5, 2), 3));
+    expect_eq!(rt; requests_of_items(alloc, all, all, 0), (Outcome::Mismatch(0, 1), 1));
+    expect_eq!(rt; requests_of_items(alloc, 0, 0, 0), (Outcome::Written, 1));
+    expect_eq!(rt; requests_of_pairs(alloc, all, 2, (7, 8)), (Outcome::Mismatch(2, 3), 3));
+    expect_eq!(rt; requests_of_pairs(alloc, 2, 5, (7, 8)), (Outcome::Mismatch(5, 2), 3));
+    expect_eq!(rt; requests_of_pairs(alloc, all, 0, (7, 8)), (Outcome::Mismatch(0, 1), 1));
+    expect_eq!(rt; requests_of_pairs(alloc, 0, 0, (7, 8)), (Outcome::Written, 1));
 }
 
 // The slots have more bytes than an address space.

@@ -6,6 +6,7 @@ use rkyv_base::access::access;
 use rkyv_base::{VerifyError, access_mut};
 use rkyv_table::{ArchivedHashTable, RawIterSeal, TableOf};
 use test_support::archives::no_items;
+use test_support::changes::with_bytes;
 
 // Returns the number of the seal that is found under a hash.
 fn sealed(bytes: &mut [u8], hash: u64, accepted: Accepted<'_>) -> Result<Option<u8>, VerifyError> {
@@ -102,47 +103,27 @@ fn unsuccessful_sealed_lookup_compares_each_item(rt: HostRuntime) {
 }
 
 #[test]
-fn a_found_item_is_written_in_place(rt: HostRuntime) {
+fn found_items_are_written_in_place(rt: HostRuntime) {
     let mut bytes = two_archived();
     expect_eq!(rt; replace(&mut bytes, 2, 20, 30), Ok(Some((20, 30))));
     expect_eq!(rt; pos_of_number(&bytes, 2, 30), Ok(Some(2)));
     expect_eq!(rt; pos_of_number(&bytes, 2, 20), Ok(None));
-    let mut expected = two_archived();
-    expected[2] = 30;
-    expect_eq!(rt; bytes, expected);
-}
-
-#[test]
-fn sealed_lookup_finds_the_first_inserted_item(rt: HostRuntime) {
+    expect_eq!(rt; bytes, with_bytes(two_archived(), 2, &[30]));
     let mut bytes = two_archived();
     expect_eq!(rt; sealed(&mut bytes, 2, Accepted::Each), Ok(Some(10)));
-}
-
-#[test]
-fn lookup_of_a_missing_item_changes_nothing(rt: HostRuntime) {
     let mut bytes = two_archived();
     expect_eq!(rt; replace(&mut bytes, 2, 30, 40), Ok(None));
     expect_eq!(rt; bytes, two_archived());
 }
 
 #[test]
-fn items_are_yielded_by_ascending_bucket(rt: HostRuntime) {
+fn items_are_written_by_a_cursor(rt: HostRuntime) {
     let mut bytes = two_archived();
     expect_eq!(rt; write_each(&mut bytes, &[40, 30], By::Seal), Ok(true));
-    let mut expected = two_archived();
-    expected[0] = 30;
-    expected[2] = 40;
-    expect_eq!(rt; bytes, expected);
-}
-
-#[test]
-fn items_are_written_by_position(rt: HostRuntime) {
+    expect_eq!(rt; bytes, with_bytes(with_bytes(two_archived(), 0, &[30]), 2, &[40]));
     let mut bytes = sixteen_archived();
     expect_eq!(rt; write_each(&mut bytes, &[7; 16], By::Position), Ok(true));
-    let mut expected = sixteen_archived();
-    expected[0] = 7;
-    expected[2..17].copy_from_slice(&[7; 15]);
-    expect_eq!(rt; bytes, expected);
+    expect_eq!(rt; bytes, with_bytes(with_bytes(sixteen_archived(), 0, &[7]), 2, &[7; 15]));
 }
 
 #[test]
@@ -157,9 +138,7 @@ fn an_empty_table_has_no_sealed_item(rt: HostRuntime) {
 #[test]
 fn invalid_table_is_unchanged(rt: HostRuntime) {
     let mut bytes = [1, 0, 0, 0, 2, 0, 0, 0, 2, 0, 0, 0];
-    let failed = matches!(
-        access_mut::<TableOf<u8>>(&mut bytes),
-        Err(VerifyError::InvalidLength { len: 2, cap: 2 })
-    );
-    expect_eq!(rt; (failed, bytes), (true, [1, 0, 0, 0, 2, 0, 0, 0, 2, 0, 0, 0]));
+    expect_eq!(rt; matches!(access_mut::<TableOf<u8>>(&mut bytes),
+        Err(VerifyError::InvalidLength { len: 2, cap: 2 })), true);
+    expect_eq!(rt; bytes, [1, 0, 0, 0, 2, 0, 0, 0, 2, 0, 0, 0]);
 }

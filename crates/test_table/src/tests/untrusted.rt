@@ -9,29 +9,18 @@ use test_support::archives::one_number;
 
 #[test]
 fn the_distance_of_an_empty_table_is_not_read(rt: HostRuntime) {
-    let results = counts_and_lookup::<Entry<u32, u32>>(&[77, 0, 0, 0, 0, 0, 0, 0, 0, 0, 0, 0], 0);
-    expect_eq!(rt; results, Ok((true, 0, 0, true)));
+    expect_eq!(rt; counts_and_lookup::<Entry<u32, u32>>(&[77, 0, 0, 0, 0, 0, 0, 0, 0, 0, 0, 0], 0),
+        Ok((true, 0, 0, true)));
 }
 
 #[test]
-fn rejects_a_length_that_is_the_capacity(rt: HostRuntime) {
-    expect_eq!(rt;
-        failure::<Entry<u32, u32>, Narrow>(&[1, 0, 0, 0, 2, 0, 0, 0, 2, 0, 0, 0]),
-        Some(VerifyError::InvalidLength { len: 2, cap: 2 })
-    );
-}
-
-#[test]
-fn rejects_more_items_than_the_length(rt: HostRuntime) {
+fn rejects_wrong_lengths(rt: HostRuntime) {
+    expect_eq!(rt; failure::<Entry<u32, u32>, Narrow>(&[1, 0, 0, 0, 2, 0, 0, 0, 2, 0, 0, 0]),
+        Some(VerifyError::InvalidLength { len: 2, cap: 2 }));
     let mut bytes = one_number();
     bytes[52] = 0;
-    expect_eq!(rt;
-        failure::<Entry<u32, u32>, Narrow>(&bytes),
-        Some(VerifyError::WrongNumberOfElements {
-            expected: 0,
-            actual: 1,
-        })
-    );
+    expect_eq!(rt; failure::<Entry<u32, u32>, Narrow>(&bytes),
+        Some(VerifyError::WrongNumberOfElements { expected: 0, actual: 1, }));
 }
 
 #[test]
@@ -40,29 +29,20 @@ fn a_table_that_has_buckets_and_no_items_is_accepted(rt: HostRuntime) {
     bytes[17] = 0xff;
     bytes[19] = 0xff;
     bytes[52] = 0;
-    let results = counts_and_lookup::<Entry<u32, u32>>(&bytes, 0x5000_0000_0000_0001);
-    expect_eq!(rt; results, Ok((true, 0, 2, true)));
+    expect_eq!(rt; counts_and_lookup::<Entry<u32, u32>>(&bytes, 0x5000_0000_0000_0001),
+        Ok((true, 0, 2, true)));
 }
 
 #[test]
-fn rejects_wrong_mirrored_controls(rt: HostRuntime) {
+fn mirrored_control_bytes_are_compared(rt: HostRuntime) {
     let mut large = fifteen_archived();
     large[32] = 1;
-    let sixteen = failure::<u8, Narrow>(&large);
+    expect_eq!(rt; failure::<u8, Narrow>(&large),
+        Some(VerifyError::UnwrappedControlByte { index: 16 }));
     let mut bytes = one_number();
     bytes[20] = 0;
-    let two = failure::<Entry<u32, u32>, Narrow>(&bytes);
-    expect_eq!(rt;
-        [sixteen, two],
-        [
-            Some(VerifyError::UnwrappedControlByte { index: 16 }),
-            Some(VerifyError::UnwrappedControlByte { index: 4 })
-        ]
-    );
-}
-
-#[test]
-fn accepts_another_empty_control_byte(rt: HostRuntime) {
+    expect_eq!(rt; failure::<Entry<u32, u32>, Narrow>(&bytes),
+        Some(VerifyError::UnwrappedControlByte { index: 4 }));
     let mut bytes = one_number();
     bytes[16] = 0x80;
     bytes[18] = 0x80;
@@ -77,20 +57,13 @@ fn the_part_of_a_table_is_the_range_up_to_its_end(rt: HostRuntime) {
         Ok(PartRange { lo: 47, hi: 48 })
     );
     let narrower = PartRange { lo: 1, hi: 48 };
-    let begins_before = ArchivedHashTable::<Entry<u32, u32>, Narrow>::verify(
-        &one_number(),
-        48,
-        narrower,
-    );
-    let shorter = PartRange { lo: 0, hi: 46 };
-    let ends_behind = ArchivedHashTable::<Entry<u32, u32>, Narrow>::verify(
-        &one_number(),
-        48,
-        shorter,
-    );
     let outside = Err(VerifyError::OutOfRange { pos: 0, size: 47 });
+    expect_eq!(rt; ArchivedHashTable::<Entry<u32, u32>, Narrow>::verify(&one_number(), 48,
+        narrower), outside);
+    let shorter = PartRange { lo: 0, hi: 46 };
+    expect_eq!(rt; ArchivedHashTable::<Entry<u32, u32>, Narrow>::verify(&one_number(), 48, shorter),
+        outside);
     assert!(rt; accepted);
-    expect_eq!(rt; [begins_before, ends_behind], [outside; 2]);
 }
 
 // Returns `true` if the first `len` bytes of the archive of one pair have the expected result.
@@ -129,20 +102,14 @@ fn has_known_result(len: usize, front: &[u8]) -> bool {
 }
 
 #[test]
-fn prefixes_of_an_archive_have_known_results(rt: HostRuntime) {
+fn archives_of_other_lengths_and_widths_have_known_results(rt: HostRuntime) {
     let mut right = access::<TableOf<Entry<u32, u32>>>(&one_number()).is_ok();
     for len in 0..60 {
         right = right && has_known_result(len, &one_number()[..len]);
     }
     assert!(rt; right);
-}
-
-#[test]
-fn a_narrow_archive_is_no_wide_one(rt: HostRuntime) {
-    expect_eq!(rt;
-        failure::<Entry<u32, u32>, Wide>(&one_number()),
-        Some(VerifyError::Unaligned { pos: 36, align: 8 })
-    );
+    expect_eq!(rt; failure::<Entry<u32, u32>, Wide>(&one_number()),
+        Some(VerifyError::Unaligned { pos: 36, align: 8 }));
 }
 
 #[test]
@@ -153,8 +120,5 @@ fn rejects_invalid_items(rt: HostRuntime) {
     bytes[1] = 2;
     expect_eq!(rt; counts::<bool, Narrow>(&bytes), Ok((2, 3)));
     bytes[0] = 2;
-    expect_eq!(rt;
-        failure::<bool, Narrow>(&bytes),
-        Some(VerifyError::InvalidValue { pos: 0 })
-    );
+    expect_eq!(rt; failure::<bool, Narrow>(&bytes), Some(VerifyError::InvalidValue { pos: 0 }));
 }

@@ -42,25 +42,12 @@ fn items_are_walked_by_ascending_bucket(rt: HostRuntime) {
     laws::positions_are_yielded::<u32>();
     laws::walk_visits_homes();
     let sixteen = [2, 3, 4, 5, 6, 7, 8, 9, 10, 11, 12, 13, 14, 15, 16, 1];
-    let walked = [
-        walks(&two_archived(), &[20, 10]),
-        walks(&sixteen_archived(), &sixteen),
-        walks(&no_items(), &[]),
-    ];
-    expect_eq!(rt; walked, [Ok(true); 3]);
-}
-
-#[test]
-fn pairs_are_walked_by_ascending_bucket(rt: HostRuntime) {
+    expect_eq!(rt; walks(&two_archived(), &[20, 10]), Ok(true));
+    expect_eq!(rt; walks(&sixteen_archived(), &sixteen), Ok(true));
+    expect_eq!(rt; walks(&no_items(), &[]), Ok(true));
     let pairs = [5, 6, 7, 8, 1, 2, 3, 4];
-    let walked = walks_over::<Entry<i8, i8>, Narrow>(&four_pairs(), &pairs);
-    expect_eq!(rt; walked, Ok(true));
-}
-
-#[test]
-fn a_repeated_key_is_walked_twice(rt: HostRuntime) {
-    let walked = walks_over::<Entry<i8, i8>, Narrow>(&one_key_twice(), &[1, 2, 1, 9]);
-    expect_eq!(rt; walked, Ok(true));
+    expect_eq!(rt; walks_over::<Entry<i8, i8>, Narrow>(&four_pairs(), &pairs), Ok(true));
+    expect_eq!(rt; walks_over::<Entry<i8, i8>, Narrow>(&one_key_twice(), &[1, 2, 1, 9]), Ok(true));
 }
 
 // Returns the first four results of a walk.
@@ -77,20 +64,13 @@ fn a_walk_yields_positions(rt: HostRuntime) {
 }
 
 #[test]
-fn items_of_no_bytes_are_walked(rt: HostRuntime) {
-    let given = four_steps::<()>(&two_units());
-    expect_eq!(rt; given, Ok([Some(0), Some(0), None, None]));
-}
-
-#[test]
-fn an_empty_walk_yields_nothing(rt: HostRuntime) {
+fn units_and_empty_tables_are_walked(rt: HostRuntime) {
+    expect_eq!(rt; four_steps::<()>(&two_units()), Ok([Some(0), Some(0), None, None]));
     let mut rest = RawIter::<u8>::empty();
-    let none = [
-        rest.next().is_none(),
-        rest.next().is_none(),
-        rest.next_view().is_none(),
-    ];
-    expect_eq!(rt; (rest.len(), none), (0, [true; 3]));
+    expect_eq!(rt; rest.next().is_none(), true);
+    expect_eq!(rt; rest.next().is_none(), true);
+    expect_eq!(rt; rest.next_view().is_none(), true);
+    expect_eq!(rt; rest.len(), 0);
 }
 
 // Returns the numbers of a table of two, by the views of a walk, and whether the walk then ends.
@@ -137,18 +117,10 @@ fn right_steps_of_keys() -> [bool; 3] {
 #[test]
 fn lists_are_yielded_in_order(rt: HostRuntime) {
     laws::lists_are_yielded::<u8, u8, &u8, Refs<'_, u8>>();
-    let yielded = [right_steps_of_pairs(), right_steps_of_keys()];
-    expect_eq!(rt; yielded, [[true; 3]; 2]);
-}
-
-#[test]
-fn the_next_item_is_taken(rt: HostRuntime) {
+    expect_eq!(rt; [right_steps_of_pairs(), right_steps_of_keys()], [[true; 3]; 2]);
     let list = [5u8, 6];
     let mut items = Refs::of(&list);
-    let taken = [
-        matches!(next_item(&mut items), Some(&5)),
-        matches!(next_item(&mut items), Some(&6)),
-        next_item(&mut items).is_none(),
-    ];
-    expect_eq!(rt; taken, [true; 3]);
+    expect_eq!(rt; matches!(next_item(&mut items), Some(&5)), true);
+    expect_eq!(rt; matches!(next_item(&mut items), Some(&6)), true);
+    expect_eq!(rt; next_item(&mut items).is_none(), true);
 }

@@ -85,17 +85,14 @@ fn rejects_invalid_load_factors(rt: HostRuntime) {
     let above = "invalid load factor 8 / 7, load factor must be a fraction in the range (0, 1]";
     let zero = "invalid load factor 0 / 1, load factor must be a fraction in the range (0, 1]";
     let undivided = "invalid load factor 1 / 0, load factor must be a fraction in the range (0, 1]";
-    let failed = [
-        write_fails(alloc, 1, 1, (1, (8, 7)), above),
-        write_fails(alloc, 1, 1, (1, (0, 1)), zero),
-        write_fails(alloc, 1, 1, (1, (1, 0)), undivided),
-        // also for no items, and before they are counted
-        write_fails(alloc, 0, 0, (0, (8, 7)), above),
-        write_fails(alloc, 1, 0, (0, (0, 1)), zero),
-        write_of_pairs_fails(alloc, 1, (1, (8, 7)), above),
-        write_of_pairs_fails(alloc, 0, (0, (1, 0)), undivided),
-    ];
-    expect_eq!(rt; failed, [true; 7]);
+    expect_eq!(rt; write_fails(alloc, 1, 1, (1, (8, 7)), above), true);
+    expect_eq!(rt; write_fails(alloc, 1, 1, (1, (0, 1)), zero), true);
+    expect_eq!(rt; write_fails(alloc, 1, 1, (1, (1, 0)), undivided), true);
+    // also for no items, and before they are counted
+    expect_eq!(rt; write_fails(alloc, 0, 0, (0, (8, 7)), above), true);
+    expect_eq!(rt; write_fails(alloc, 1, 0, (0, (0, 1)), zero), true);
+    expect_eq!(rt; write_of_pairs_fails(alloc, 1, (1, (8, 7)), above), true);
+    expect_eq!(rt; write_of_pairs_fails(alloc, 0, (0, (1, 0)), undivided), true);
 }
 
 #[test]
@@ -104,13 +101,10 @@ fn rejects_large_capacities(rt: HostRuntime) {
     let one = "capacity too large for length 1";
     let full = "capacity too large for length 4294967295";
     let all = "capacity too large for length 18446744073709551615";
-    let failed = [
-        write_fails(alloc, 1, 1, (1, (1, 4_294_967_296)), one),
-        write_fails(alloc, 0, 0, (4_294_967_295, (1, 1)), full),
-        write_fails(alloc, 0, 0, (usize::MAX, (1, usize::MAX)), all),
-        write_of_pairs_fails(alloc, 0, (4_294_967_295, (1, 1)), full),
-    ];
-    expect_eq!(rt; failed, [true; 4]);
+    expect_eq!(rt; write_fails(alloc, 1, 1, (1, (1, 4_294_967_296)), one), true);
+    expect_eq!(rt; write_fails(alloc, 0, 0, (4_294_967_295, (1, 1)), full), true);
+    expect_eq!(rt; write_fails(alloc, 0, 0, (usize::MAX, (1, usize::MAX)), all), true);
+    expect_eq!(rt; write_of_pairs_fails(alloc, 0, (4_294_967_295, (1, 1)), full), true);
 }
 
 #[test]
@@ -122,20 +116,17 @@ fn rejects_other_numbers_of_items(rt: HostRuntime) {
     let one = "iterator claimed that it contained 2 elements, but yielded 1 items during iteration";
     let more =
         "iterator claimed that it contained 2 elements, but yielded 3 items during iteration";
-    let failed = [
-        write_fails(alloc, 2, 3, (3, (7, 8)), two),
-        write_fails(alloc, 1, 0, (0, (7, 8)), none),
-        write_fails(alloc, 3, 0, (0, (7, 8)), none),
-        write_fails(alloc, 0, 3, (0, (7, 8)), none),
-        write_fails(alloc, 2, 1, (2, (7, 8)), one),
-        write_fails(alloc, 2, 4, (2, (7, 8)), more),
-        write_fails(alloc, 4, 2, (2, (7, 8)), more),
-        // the items are counted before the hashes
-        write_fails(alloc, 1, 3, (2, (7, 8)), one),
-        write_fails(alloc, 3, 1, (2, (7, 8)), more),
-        write_of_pairs_fails(alloc, 2, (3, (7, 8)), two),
-        write_of_pairs_fails(alloc, 1, (0, (7, 8)), none),
-        write_of_pairs_fails(alloc, 4, (2, (7, 8)), more),
-    ];
-    expect_eq!(rt; failed, [true; 12]);
+    expect_eq!(rt; write_fails(alloc, 2, 3, (3, (7, 8)), two), true);
+    expect_eq!(rt; write_fails(alloc, 1, 0, (0, (7, 8)), none), true);
+    expect_eq!(rt; write_fails(alloc, 3, 0, (0, (7, 8)), none), true);
+    expect_eq!(rt; write_fails(alloc, 0, 3, (0, (7, 8)), none), true);
+    expect_eq!(rt; write_fails(alloc, 2, 1, (2, (7, 8)), one), true);
+    expect_eq!(rt; write_fails(alloc, 2, 4, (2, (7, 8)), more), true);
+    expect_eq!(rt; write_fails(alloc, 4, 2, (2, (7, 8)), more), true);
+    // the items are counted before the hashes
+    expect_eq!(rt; write_fails(alloc, 1, 3, (2, (7, 8)), one), true);
+    expect_eq!(rt; write_fails(alloc, 3, 1, (2, (7, 8)), more), true);
+    expect_eq!(rt; write_of_pairs_fails(alloc, 2, (3, (7, 8)), two), true);
+    expect_eq!(rt; write_of_pairs_fails(alloc, 1, (0, (7, 8)), none), true);
+    expect_eq!(rt; write_of_pairs_fails(alloc, 4, (2, (7, 8)), more), true);
 }

@@ -27,26 +27,17 @@ fn write_one_pair<S: Writer>(alloc: Global, writer: &mut S) -> WriteResult<(), S
 }
 
 #[test]
-fn rejects_a_table_past_the_greatest_position(rt: HostRuntime) {
+fn failures_end_the_write(rt: HostRuntime) {
     let mut writer = LateWriter::new(rt.alloc());
-    let failed = matches!(
-        write_one_pair(rt.alloc(), &mut writer),
-        Err(WriteError::PositionTooLarge)
-    );
-    expect_eq!(rt;
-        (failed, writer.failures(), writer.bytes()),
-        (true, 0, [0, 0].as_slice())
-    );
-}
-
-#[test]
-fn nothing_is_written_after_a_fault(rt: HostRuntime) {
+    expect_eq!(rt; matches!(write_one_pair(rt.alloc(), &mut writer),
+        Err(WriteError::PositionTooLarge)), true);
+    expect_eq!(rt; writer.failures(), 0);
+    expect_eq!(rt; writer.bytes(), [0, 0].as_slice());
     let mut writer = BrokenWriter::new(0);
-    let failed = matches!(
-        write_one_pair(rt.alloc(), &mut writer),
-        Err(WriteError::Writer(Broken))
-    );
-    expect_eq!(rt; (failed, writer.calls(), writer.failures()), (true, 1, 1));
+    expect_eq!(rt; matches!(write_one_pair(rt.alloc(), &mut writer),
+        Err(WriteError::Writer(Broken))), true);
+    expect_eq!(rt; writer.calls(), 1);
+    expect_eq!(rt; writer.failures(), 1);
 }
 
 // Returns `true` if a writer with this limit keeps as many bytes of the archive, and reports

@@ -65,42 +65,25 @@ fn is_written<U: Serialize<VecWriter, Narrow>>(
 }
 
 #[test]
-fn one_pair_is_written(rt: HostRuntime) {
+fn tables_are_written(rt: HostRuntime) {
     laws::ready_elements_are_written_one_way::<Narrow, u32, u8, u32>();
     let alloc = rt.alloc();
     let front = [1, 2, 0, 0, 0xff, 0x28, 0xff, 0x28];
     let (small, large) = ([(1i8, 2i8)], [(1u32, 2u32)]);
-    let written = is_written(alloc, &small, &[hash_of_i8(1)], (7, 8), 4, &front, 27);
-    let archived = is_archive(alloc, &one_number(), &large, &[hash_of_u32(1)], (7, 8));
-    expect_eq!(rt; (written, archived), (true, true));
-}
-
-#[test]
-fn four_pairs_are_written(rt: HostRuntime) {
+    expect_eq!(rt; is_written(alloc, &small, &[hash_of_i8(1)], (7, 8), 4, &front, 27), true);
+    expect_eq!(rt; is_archive(alloc, &one_number(), &large, &[hash_of_u32(1)], (7, 8)), true);
     let front = [
         3, 4, 1, 2, 0, 0, 7, 8, 5, 6, 0x4b, 0x1d, 0xff, 0x28, 0x7a, 0x4b, 0x1d, 0xff, 0x28, 0x7a,
     ];
     let hashes = [hash_of_i8(1), hash_of_i8(3), hash_of_i8(5), hash_of_i8(7)];
     assert!(rt; is_written(rt.alloc(), &FOUR_PAIRS, &hashes, (7, 8), 10, &front, 21));
-}
-
-#[test]
-fn a_repeated_key_is_written_twice(rt: HostRuntime) {
     let front = [0, 0, 1, 9, 1, 2, 0x28, 0x28, 0xff, 0x28, 0x28, 0xff];
     let hashes = [hash_of_i8(1), hash_of_i8(1)];
     let pairs = [(1i8, 2i8), (1, 9)];
     assert!(rt; is_written(rt.alloc(), &pairs, &hashes, (7, 8), 6, &front, 25));
-}
-
-#[test]
-fn items_of_no_bytes_are_written(rt: HostRuntime) {
     let front = [0, 0xff, 0];
     let hash = FxHasher64::default().finish();
     assert!(rt; is_written(rt.alloc(), &[()], &[hash], (7, 8), 0, &front, 28));
-}
-
-#[test]
-fn three_numbers_are_written(rt: HostRuntime) {
     laws::tables_are_laid_out::<Narrow, u32>();
     laws::tables_are_written_one_way::<Narrow, u32, u32>();
     laws::written::tables_represent_locally::<Narrow, u32, u32>();
@@ -111,34 +94,17 @@ fn three_numbers_are_written(rt: HostRuntime) {
     // a number of eight bits has the same hash with a sign and without
     let hashes = [hash_of_i8(1), hash_of_i8(2), hash_of_i8(3)];
     assert!(rt; is_written(rt.alloc(), &[1u8, 2, 3], &hashes, (7, 8), 4, &front, 23));
-}
-
-#[test]
-fn two_items_under_one_hash_are_written(rt: HostRuntime) {
     let front = [10, 0, 20, 0, 0xff, 0, 0, 0xff, 0];
     assert!(rt; is_written(rt.alloc(), &[10u8, 20], &[2, 2], (1, 1), 3, &front, 25));
-}
-
-#[test]
-fn two_tags_that_differ_in_one_bit_are_written(rt: HostRuntime) {
     let front = [0, 20, 10, 0x28, 0x29, 0xff, 0x28, 0x29, 0xff];
     let hashes = [0x5000_0000_0000_0001, 0x5200_0000_0000_0000];
     assert!(rt; is_written(rt.alloc(), &[10u8, 20], &hashes, (1, 1), 3, &front, 25));
-}
-
-#[test]
-fn sixteen_items_under_one_hash_are_written(rt: HostRuntime) {
     let front = [
         1, 0, 16, 15, 14, 13, 12, 11, 10, 9, 8, 7, 6, 5, 4, 3, 2, // the buckets
         0, 0, 0, 0, 0, 0, 0, 0, 0, 0, 0, 0, 0, 0, 0, 0xff, 0, // their controls
         0, 0, 0, 0, 0, 0, 0, 0, 0, 0, 0, 0, 0, 0, 0, 0xff, 0, // the same again
     ];
     assert!(rt; is_written(rt.alloc(), &SIXTEEN, &[16; 16], (1, 1), 17, &front, 13));
-}
-
-#[test]
-fn capacities_about_one_stride(rt: HostRuntime) {
-    let alloc = rt.alloc();
     let starts = [0, 1, 2, 3, 4, 5, 6, 7, 8, 9, 10, 11, 12, 13, 14, 15];
     // sixteen buckets: the last one is empty, and the control bytes mirror all but it
     let front = [
@@ -146,15 +112,14 @@ fn capacities_about_one_stride(rt: HostRuntime) {
         0, 0, 0, 0, 0, 0, 0, 0, 0, 0, 0, 0, 0, 0, 0, 0xff, // their controls
         0, 0, 0, 0, 0, 0, 0, 0, 0, 0, 0, 0, 0, 0, 0,
     ];
-    let fifteen = is_written(alloc, &SIXTEEN[..15], &starts[..15], (1, 1), 16, &front, 0);
+    expect_eq!(rt; is_written(alloc, &SIXTEEN[..15], &starts[..15], (1, 1), 16, &front, 0), true);
     // seventeen buckets: 47 control bytes, and the last 13 are empty
     let front = [
         0, 16, 15, 14, 13, 12, 11, 10, 9, 8, 7, 6, 5, 4, 3, 2, 1, // the buckets
         0, 0, 0, 0, 0, 0, 0, 0, 0, 0, 0, 0, 0, 0, 0, 0, 0xff, // their controls
         0, 0, 0, 0, 0, 0, 0, 0, 0, 0, 0, 0, 0, 0, 0, 0, 0xff, // the same again
     ];
-    let sixteen = is_written(alloc, &SIXTEEN, &starts, (1, 1), 17, &front, 13);
-    expect_eq!(rt; (fifteen, sixteen), (true, true));
+    expect_eq!(rt; is_written(alloc, &SIXTEEN, &starts, (1, 1), 17, &front, 13), true);
 }
 
 // Returns `true` if the table of 1 and 4,294,967,297 is written with these tags. The hashes
@@ -175,9 +140,8 @@ fn has_tags_of_wide<H: KeyHasher + Default>(
 
 #[test]
 fn hashes_of_wide_numbers_are_written(rt: HostRuntime) {
-    let whole = has_tags_of_wide::<FxHasher64Wide>(rt.alloc(), 0x28, 0x3c).ok();
-    let halves = has_tags_of_wide::<FxHasher64>(rt.alloc(), 0x28, 0x28).ok();
-    expect_eq!(rt; (whole, halves), (Some(true), Some(true)));
+    expect_eq!(rt; has_tags_of_wide::<FxHasher64Wide>(rt.alloc(), 0x28, 0x3c).ok(), Some(true));
+    expect_eq!(rt; has_tags_of_wide::<FxHasher64>(rt.alloc(), 0x28, 0x28).ok(), Some(true));
 }
 
 // Returns the position of the first control byte of a table of no numbers, and the number
@@ -188,30 +152,23 @@ fn size_of_empty(alloc: Global) -> Option<(u64, usize)> {
 }
 
 #[test]
-fn no_items_write_nothing(rt: HostRuntime) {
-    let archived = is_archive::<u8>(rt.alloc(), &no_items(), &[], &[], (7, 8));
-    expect_eq!(rt; (archived, size_of_empty(rt.alloc())), (true, Some((0, 0))));
-}
-
-#[test]
 fn archives_are_written(rt: HostRuntime) {
+    expect_eq!(rt; is_archive::<u8>(rt.alloc(), &no_items(), &[], &[], (7, 8)), true);
+    expect_eq!(rt; size_of_empty(rt.alloc()), Some((0, 0)));
     let alloc = rt.alloc();
     let keys = [hash_of_i8(1), hash_of_i8(3), hash_of_i8(5), hash_of_i8(7)];
     let twice = [(1i8, 2i8), (1, 9)];
     let starts = [0, 1, 2, 3, 4, 5, 6, 7, 8, 9, 10, 11, 12, 13, 14];
     let tags = [EVEN_TAG, ODD_TAG];
-    let written = [
-        is_archive(alloc, &four_pairs(), &FOUR_PAIRS, &keys, (7, 8)),
-        is_archive(alloc, &one_key_twice(), &twice, &[keys[0]; 2], (7, 8)),
-        is_archive(alloc, &two_archived(), &[10u8, 20], &[2; 2], (1, 1)),
-        is_archive(alloc, &tags_archived(), &[10u8, 20], &tags, (1, 1)),
-        is_archive(alloc, &sixteen_archived(), &SIXTEEN, &[16; 16], (1, 1)),
-        is_archive(alloc, &fifteen_archived(), &SIXTEEN[..15], &starts, (1, 1)),
-        is_archive(alloc, &bools_archived(), &[true, false], &[2; 2], (1, 1)),
-        is_archive(alloc, &one_unit(), &[()], &[0], (7, 8)),
-        is_archive(alloc, &two_units(), &[(); 2], &[0; 2], (7, 8)),
-    ];
-    expect_eq!(rt; written, [true; 9]);
+    expect_eq!(rt; is_archive(alloc, &four_pairs(), &FOUR_PAIRS, &keys, (7, 8)), true);
+    expect_eq!(rt; is_archive(alloc, &one_key_twice(), &twice, &[keys[0]; 2], (7, 8)), true);
+    expect_eq!(rt; is_archive(alloc, &two_archived(), &[10u8, 20], &[2; 2], (1, 1)), true);
+    expect_eq!(rt; is_archive(alloc, &tags_archived(), &[10u8, 20], &tags, (1, 1)), true);
+    expect_eq!(rt; is_archive(alloc, &sixteen_archived(), &SIXTEEN, &[16; 16], (1, 1)), true);
+    expect_eq!(rt; is_archive(alloc, &fifteen_archived(), &SIXTEEN[..15], &starts, (1, 1)), true);
+    expect_eq!(rt; is_archive(alloc, &bools_archived(), &[true, false], &[2; 2], (1, 1)), true);
+    expect_eq!(rt; is_archive(alloc, &one_unit(), &[()], &[0], (7, 8)), true);
+    expect_eq!(rt; is_archive(alloc, &two_units(), &[(); 2], &[0; 2], (7, 8)), true);
 }
 
 // Writes a nine and the table of one number of 16 bits. Returns the position of
@@ -242,9 +199,8 @@ fn write_behind_a_nine(
 #[test]
 fn a_table_begins_at_a_multiple_of_the_alignment(rt: HostRuntime) {
     let mut writer = VecWriter::new(rt.alloc());
-    let resolved = write_behind_a_nine(rt.alloc(), &mut writer);
-    let written = is_then_empty(writer.bytes(), &[9, 0, 0, 0, 7, 0, 0, 0xff, 0], 28);
-    expect_eq!(rt; (resolved, written), (Some((6, 1, (7, 8))), true));
+    expect_eq!(rt; write_behind_a_nine(rt.alloc(), &mut writer), Some((6, 1, (7, 8))));
+    expect_eq!(rt; is_then_empty(writer.bytes(), &[9, 0, 0, 0, 7, 0, 0, 0xff, 0], 28), true);
 }
 
 // Returns the number of buckets of a table of the numbers, and the number of its bytes.
@@ -263,23 +219,10 @@ fn room_of_sevens(alloc: Global, len: usize) -> Option<(usize, usize)> {
 #[test]
 fn an_eighth_of_the_buckets_is_empty(rt: HostRuntime) {
     let alloc = rt.alloc();
-    let rooms = [
-        room_of_sevens(alloc, 0),
-        room_of_sevens(alloc, 1),
-        room_of_sevens(alloc, 3),
-        room_of_sevens(alloc, 5),
-        room_of_sevens(alloc, 7),
-        room_of_sevens(alloc, 100),
-    ];
-    expect_eq!(rt;
-        rooms,
-        [
-            Some((0, 0)),
-            Some((2, 2 + 31)),
-            Some((4, 4 + 31)),
-            Some((6, 6 + 31)),
-            Some((8, 8 + 31)),
-            Some((114, 114 + 143))
-        ]
-    );
+    expect_eq!(rt; room_of_sevens(alloc, 0), Some((0, 0)));
+    expect_eq!(rt; room_of_sevens(alloc, 1), Some((2, 2 + 31)));
+    expect_eq!(rt; room_of_sevens(alloc, 3), Some((4, 4 + 31)));
+    expect_eq!(rt; room_of_sevens(alloc, 5), Some((6, 6 + 31)));
+    expect_eq!(rt; room_of_sevens(alloc, 7), Some((8, 8 + 31)));
+    expect_eq!(rt; room_of_sevens(alloc, 100), Some((114, 114 + 143)));
 }
