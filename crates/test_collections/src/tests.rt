@@ -19,7 +19,6 @@ mod archives;
 mod changes;
 mod each;
 mod examples;
-mod first;
 mod in_place;
 mod lists;
 mod lookups;

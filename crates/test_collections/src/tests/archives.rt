@@ -6,6 +6,7 @@ use rkyv_keys::{KeyElement, NativeKey};
 use std::alloc::Global;
 use std::process::Abort;
 use test_support::archives::four_pairs;
+use test_support::changes::with_bytes;
 
 /// Returns the narrow archive of a list of pairs, as a map.
 pub fn map_archive<A: Serialize<VecWriter, Narrow>, B: Serialize<VecWriter, Narrow>>(
@@ -43,7 +44,5 @@ where
 
 /// Compares an archive with that of the four pairs with other buckets.
 pub(crate) fn expect_four_with(rt: &impl Abort, bytes: &[u8; 56], buckets: [u8; 10]) {
-    let mut expected = four_pairs();
-    expected[..10].copy_from_slice(&buckets);
-    expect_eq!(*rt; *bytes, expected);
+    expect_eq!(*rt; *bytes, with_bytes(four_pairs(), 0, &buckets));
 }

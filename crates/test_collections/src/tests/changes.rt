@@ -22,10 +22,7 @@ fn count_walked(bytes: &[u8]) -> Result<usize, VerifyError> {
 // Returns the value of a key.
 fn value_of(bytes: &[u8], key: u32) -> Result<Option<u32>, VerifyError> {
     let map = ArchivedHashMap::of(access::<Numbers>(bytes)?);
-    match map.get(&key) {
-        Some(value) => Ok(Some(value.to_native())),
-        None => Ok(None),
-    }
+    Ok(map.get(&key).map(|value| value.to_native()))
 }
 
 // Returns the same by a lookup in the map's table, and the number of strides that it reads.
@@ -67,19 +64,7 @@ fn is_small(bytes: &[u8]) -> Result<bool, VerifyError> {
 #[test]
 fn changes_of_one_byte_have_known_outcomes(rt: HostRuntime) {
     let mut bytes = one_number();
-    let outcomes = outcomes_of_changes(&mut bytes, is_small);
-    expect_eq!(rt;
-        outcomes,
-        OutcomeCounts {
-            right: 7764,
-            accepted: 7764,
-            place_out_of_range: 0,
-            unwrapped: 4220,
-            out_of_range: 2037,
-            invalid_length: 1021,
-            wrong_number: 257,
-            unaligned: 1,
-            other: 0,
-        }
-    );
+    expect_eq!(rt; outcomes_of_changes(&mut bytes, is_small), OutcomeCounts { right: 7764,
+        accepted: 7764, place_out_of_range: 0, unwrapped: 4220, out_of_range: 2037,
+        invalid_length: 1021, wrong_number: 257, unaligned: 1, other: 0, });
 }

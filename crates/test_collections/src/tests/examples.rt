@@ -64,11 +64,8 @@ fn misplaced_within(archive: &[u8], limit: u64) -> Result<Option<usize>, VerifyE
 
 #[test]
 fn counting_ends_at_the_limit(rt: HostRuntime) {
-    let counted = [
-        misplaced_within(&four_pairs(), 4).ok(),
-        misplaced_within(&four_pairs(), 3).ok(),
-    ];
-    assert_eq!(rt; counted, [Some(Some(0)), Some(None)]);
+    expect_eq!(rt; misplaced_within(&four_pairs(), 4).ok(), Some(Some(0)));
+    expect_eq!(rt; misplaced_within(&four_pairs(), 3).ok(), Some(None));
 }
 
 // Returns the key of a set that a query finds.

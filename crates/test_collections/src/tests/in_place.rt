@@ -24,10 +24,6 @@ fn a_found_value_is_written_over_the_bare_bytes(rt: HostRuntime) {
     let mut bytes = four_pairs();
     expect_eq!(rt; change_found(&mut bytes, 7, 70), Ok(Some(7)));
     expect_four_with(&rt, &bytes, [3, 4, 1, 2, 0, 0, 7, 70, 5, 6]);
-}
-
-#[test]
-fn lookup_of_a_missing_key_changes_nothing(rt: HostRuntime) {
     let mut bytes = four_pairs();
     expect_eq!(rt; change_found(&mut bytes, 9, 70), Ok(None));
     expect_eq!(rt; bytes, four_pairs());
@@ -56,10 +52,6 @@ fn an_accepted_value_is_written_over_the_bare_bytes(rt: HostRuntime) {
     let mut bytes = four_pairs();
     expect_eq!(rt; change_accepted(&mut bytes, 7, true, 70), Ok(Some(7)));
     expect_four_with(&rt, &bytes, [3, 4, 1, 2, 0, 0, 7, 70, 5, 6]);
-}
-
-#[test]
-fn a_value_that_is_not_accepted_is_unchanged(rt: HostRuntime) {
     let mut bytes = four_pairs();
     expect_eq!(rt; change_accepted(&mut bytes, 7, false, 70), Ok(None));
     expect_eq!(rt; bytes, four_pairs());
@@ -82,8 +74,8 @@ fn change_stepping(bytes: &mut [u8], byte: u8) -> Result<([Option<u64>; 5], usiz
 #[test]
 fn pairs_are_written_while_the_cursor_steps(rt: HostRuntime) {
     let mut bytes = four_pairs();
-    let stepped = change_stepping(&mut bytes, 20);
-    expect_eq!(rt; stepped, Ok(([Some(8), Some(6), Some(2), Some(0), None], 0)));
+    expect_eq!(rt; change_stepping(&mut bytes, 20),
+        Ok(([Some(8), Some(6), Some(2), Some(0), None], 0)));
     expect_four_with(&rt, &bytes, [3, 20, 1, 20, 0, 0, 7, 20, 5, 20]);
 }
 
@@ -131,7 +123,6 @@ fn write_over<K: Element, N: Scalar, H, W: Width>(
 #[test]
 fn values_are_written_over_the_bare_bytes(rt: HostRuntime) {
     let mut bytes = four_pairs();
-    let left = write_over::<i8, i8, FxHasher64, Narrow>(&mut bytes, &[10, 11, 12]);
-    expect_eq!(rt; left, Ok(1));
+    expect_eq!(rt; write_over::<i8, i8, FxHasher64, Narrow>(&mut bytes, &[10, 11, 12]), Ok(1));
     expect_four_with(&rt, &bytes, [3, 4, 1, 12, 0, 0, 7, 11, 5, 10]);
 }

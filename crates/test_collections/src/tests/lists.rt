@@ -2,7 +2,7 @@
 
 use crate::tests::opened::key_set;
 use crate::tests::round_trip::prints;
-use rkyv_base::{NoMemory, ReadError, VerifyError, WriteError, to_bytes};
+use rkyv_base::{NoMemory, VerifyError, WriteError, to_bytes};
 use rkyv_collections::lists::laws::{
     item_clones_are_the_same, item_lists_are_compared, pair_clones_are_the_same,
     pair_lists_are_compared,
@@ -12,6 +12,7 @@ use rkyv_scan::FxHasher64;
 use std::alloc::Global;
 use std::collections::HashSet;
 use std::hash::BuildHasherDefault;
+use std::test::Fail;
 use test_support::archives::{archive, one_pair, three_keys};
 
 // Returns the archive of a list of items, as a set.
@@ -50,74 +51,33 @@ fn one_item_twice() -> [u8; 48] {
 }
 
 #[test]
-fn a_list_is_archived_as_a_set(rt: HostRuntime) {
+fn lists_are_archived_as_sets(rt: HostRuntime) -> Result<(), Fail> {
     let items = [1, 2, 3];
-    let read = written_and_read(rt.alloc(), SetItems::new(&items), &three_keys());
-    expect_eq!(rt; read, Some((true, (3, 3, [true, false]))));
-}
-
-// Returns the archives of a list of one pair and of three items, whose types are inferred.
-fn archives_without_annotations(alloc: Global) -> Result<[Vec<u8>; 2], WriteError<NoMemory>> {
-    let map = to_bytes(alloc, &MapPairs::new(&[(1i8, 2i8)]))?;
-    let set = to_bytes(alloc, &SetItems::new(&[1u8, 2, 3]))?;
-    Ok([map, set])
-}
-
-#[test]
-fn lists_need_no_annotation(rt: HostRuntime) {
-    let equal = match archives_without_annotations(rt.alloc()) {
-        Ok([map, set]) => [
-            map.as_slice() == &one_pair()[..],
-            set.as_slice() == &three_keys()[..],
-        ],
-        Err(_) => [false; 2],
-    };
-    expect_eq!(rt; equal, [true; 2]);
-}
-
-#[test]
-fn equal_items_of_a_list_are_kept(rt: HostRuntime) {
+    expect_eq!(rt; written_and_read(rt.alloc(), SetItems::new(&items), &three_keys()),
+        Some((true, (3, 3, [true, false]))));
+    let map = to_bytes(rt.alloc(), &MapPairs::new(&[(1i8, 2i8)]))?;
+    let set = to_bytes(rt.alloc(), &SetItems::new(&[1u8, 2, 3]))?;
+    expect_eq!(rt; map.as_slice(), one_pair().as_slice());
+    expect_eq!(rt; set.as_slice(), three_keys().as_slice());
     let items = [1, 1];
     let list = SetItems::with_load_factor(&items, (1, 2));
-    let read = written_and_read(rt.alloc(), list, &one_item_twice());
-    expect_eq!(rt; read, Some((true, (2, 2, [true, false]))));
-}
-
-// Returns the length of the set of std that a list is read back into, and whether it has 1.
-fn read_into_std(alloc: Global, items: SetItems<'_, u8>) -> Option<(usize, bool)> {
-    let bytes = archive_of(alloc, items).ok()?;
-    let read: Result<HashSet<u8>, ReadError> = match key_set(bytes.as_slice()) {
-        Ok(set) => set.deserialize_std(alloc, BuildHasherDefault::new()),
-        Err(_) => return None,
-    };
-    match read {
-        Ok(set) => Some((set.len(), set.contains(&1))),
-        Err(_) => None,
-    }
-}
-
-#[test]
-fn equal_items_of_a_list_are_read_back_as_one(rt: HostRuntime) {
-    let items = [1, 1];
-    expect_eq!(rt; read_into_std(rt.alloc(), SetItems::new(&items)), Some((1, true)));
-}
-
-// Returns whether writing a list fails with the error for its load factor.
-fn write_fails(alloc: Global, items: SetItems<'_, u8>) -> bool {
-    matches!(
-        archive_of(alloc, items),
-        Err(WriteError::InvalidLoadFactor {
-            numerator: 8,
-            denominator: 7,
-        })
-    )
+    expect_eq!(rt; written_and_read(rt.alloc(), list, &one_item_twice()),
+        Some((true, (2, 2, [true, false]))));
+    let bytes = archive_of(rt.alloc(), SetItems::new(&[1, 1]))?;
+    let set = key_set(bytes.as_slice())?;
+    let read: HashSet<u8> = set.deserialize_std(rt.alloc(), BuildHasherDefault::new())?;
+    expect_eq!(rt; (read.len(), read.contains(&1)), (1, true));
+    Ok(())
 }
 
 #[test]
 fn rejects_a_list_under_a_load_factor_above_1(rt: HostRuntime) {
-    let items = [1];
-    let fails = write_fails(rt.alloc(), SetItems::with_load_factor(&items, (8, 7)));
-    assert!(rt; fails);
+    let written = archive_of(rt.alloc(), SetItems::with_load_factor(&[1], (8, 7)));
+    let error = WriteError::InvalidLoadFactor {
+        numerator: 8,
+        denominator: 7,
+    };
+    expect_eq!(rt; written.err(), Some(error));
 }
 
 // Returns the same as `written_and_read` for a copy of a list of items.
@@ -139,32 +99,20 @@ fn lists_are_compared_by_items_and_load_factor(rt: HostRuntime) {
     item_lists_are_compared::<u8, FxHasher64>();
     let list: MapPairs<'_, u8, u8> = MapPairs::new(&[(1, 2), (3, 4)]);
     let items: SetItems<'_, u8> = SetItems::new(&[1, 2]);
-    let equal = [
-        list == MapPairs::new(&[(1, 2), (3, 4)]),
-        list == MapPairs::new(&[(1, 2), (3, 5)]),
-        list == MapPairs::with_load_factor(&[(1, 2), (3, 4)], (1, 2)),
-        items == SetItems::new(&[1, 2]),
-        items == SetItems::new(&[2, 1]),
-        items == SetItems::with_load_factor(&[1, 2], (1, 2)),
-    ];
-    expect_eq!(rt; equal, [true, false, false, true, false, false]);
+    expect_eq!(rt; list == MapPairs::new(&[(1, 2), (3, 4)]), true);
+    expect_eq!(rt; list == MapPairs::new(&[(1, 2), (3, 5)]), false);
+    expect_eq!(rt; list == MapPairs::with_load_factor(&[(1, 2), (3, 4)], (1, 2)), false);
+    expect_eq!(rt; items == SetItems::new(&[1, 2]), true);
+    expect_eq!(rt; items == SetItems::new(&[2, 1]), false);
+    expect_eq!(rt; items == SetItems::with_load_factor(&[1, 2], (1, 2)), false);
 }
 
 #[test]
 fn lists_print_their_items_and_load_factor(rt: HostRuntime) {
     let list: MapPairs<'_, u8, u8> = MapPairs::new(&[(1, 2)]);
     let items: SetItems<'_, u8> = SetItems::with_load_factor(&[3, 4], (1, 2));
-    let printed = [
-        prints(
-            rt.alloc(),
-            &list,
-            "MapPairs { pairs: [(1, 2)], load_factor: (7, 8), .. }",
-        ),
-        prints(
-            rt.alloc(),
-            &items,
-            "SetItems { items: [3, 4], load_factor: (1, 2), .. }",
-        ),
-    ];
-    expect_eq!(rt; printed, [true; 2]);
+    expect_eq!(rt; prints(rt.alloc(), &list,
+        "MapPairs { pairs: [(1, 2)], load_factor: (7, 8), .. }"), true);
+    expect_eq!(rt; prints(rt.alloc(), &items,
+        "SetItems { items: [3, 4], load_factor: (1, 2), .. }"), true);
 }

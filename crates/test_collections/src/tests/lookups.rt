@@ -50,8 +50,7 @@ pub(crate) fn expect_found(
     key: i8,
     expected: (Option<i8>, Option<(u64, u64)>, bool),
 ) {
-    let found = found::<i8, i8, FxHasher64, Narrow, i8>(bytes, &key);
-    expect_eq!(*rt; found, Ok(expected));
+    expect_eq!(*rt; found::<i8, i8, FxHasher64, Narrow, i8>(bytes, &key), Ok(expected));
 }
 
 #[test]

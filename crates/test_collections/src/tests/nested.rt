@@ -15,6 +15,7 @@ use rkyv_collections::map::laws::nested::value_writes_are_nested;
 use rkyv_collections::{ArchivedHashMap, FxHasher64, HashMapOf, KeyElement, MapPairs, NativeKey};
 use std::alloc::Global;
 use test_support::archives::{one_pair, two_maps};
+use test_support::changes::with_bytes;
 
 type Inner = HashMapOf<u16, u16>;
 
@@ -129,7 +130,5 @@ fn change_first(bytes: &mut [u8; 172], number: u16) -> Result<Option<u64>, Verif
 fn a_closure_of_a_step_writes_in_an_inner_map(rt: HostRuntime) {
     let mut bytes = two_maps();
     expect_eq!(rt; change_first(&mut bytes, 43), Ok(Some(116)));
-    let mut expected = two_maps();
-    expected[2] = 43;
-    expect_eq!(rt; bytes, expected);
+    expect_eq!(rt; bytes, with_bytes(two_maps(), 2, &[43]));
 }

@@ -32,8 +32,7 @@ pub(crate) fn number_of<K: KeyElement, N: Scalar, H: KeyHasher, W: Width, Q: Que
 /// Looks each key up in a map of `i8` to `i8`, and compares its value.
 pub(crate) fn expect_values(rt: &impl Abort, bytes: &[u8], expected: &[(i8, Option<i8>)]) {
     for (key, value) in expected {
-        let found = number_of::<i8, i8, FxHasher64, Narrow, i8>(bytes, key);
-        expect_eq!(*rt; found, Ok(*value));
+        expect_eq!(*rt; number_of::<i8, i8, FxHasher64, Narrow, i8>(bytes, key), Ok(*value));
     }
 }
 

@@ -22,6 +22,7 @@ use rkyv_scan::FxHasher64;
 use std::alloc::Global;
 use std::cell::Cell;
 use std::process::Abort;
+use std::test::Fail;
 use test_support::archives::{
     four_pairs, four_pairs_backwards, nested, no_items, one_key_twice, one_pair, one_symbol,
     one_wide_number,
@@ -29,8 +30,8 @@ use test_support::archives::{
 
 // Compares two maps by both calls, whose results are to be `expected`.
 fn expect_equality(rt: &impl Abort, bytes: &[u8], other: &[u8], expected: bool) {
-    let equal = equal_maps::<i8, i8, FxHasher64, Narrow>(bytes, other);
-    expect_eq!(*rt; equal, Ok((expected, expected)));
+    expect_eq!(*rt; equal_maps::<i8, i8, FxHasher64, Narrow>(bytes, other),
+        Ok((expected, expected)));
 }
 
 fn small_prints(alloc: Global, bytes: &[u8], text: &str) -> bool {
@@ -38,16 +39,12 @@ fn small_prints(alloc: Global, bytes: &[u8], text: &str) -> bool {
 }
 
 #[test]
-fn an_empty_map_is_read(rt: HostRuntime) {
+fn maps_of_no_pair_and_of_one_are_read(rt: HostRuntime) {
     let bytes = no_items();
     expect_counts(&rt, &bytes, (true, 0, 0));
     expect_found(&rt, &bytes, 1, (None, None, false));
     expect_equality(&rt, &bytes, &bytes, true);
     expect_eq!(rt; small_prints(rt.alloc(), &bytes, "{}"), true);
-}
-
-#[test]
-fn one_pair_is_found(rt: HostRuntime) {
     items_are_yielded::<i8, i8, FxHasher64, Narrow>();
     maps_are_laid_out::<Narrow, FxHasher64, i8, i8, i8, i8>();
     let bytes = one_pair();
@@ -92,11 +89,8 @@ fn expect_with(
     accepts: bool,
     expected: (Option<u64>, usize),
 ) {
-    let found = [
-        value_with(bytes, key, accepts),
-        pair_with(bytes, key, accepts),
-    ];
-    expect_eq!(*rt; found, [Ok(expected); 2]);
+    expect_eq!(*rt; value_with(bytes, key, accepts), Ok(expected));
+    expect_eq!(*rt; pair_with(bytes, key, accepts), Ok(expected));
 }
 
 // In a small table each control byte is mirrored, so a comparison that fails sees each pair twice.
@@ -137,16 +131,12 @@ fn is_text_of_two(
     }
 }
 
-// Returns the result of `is_text_of_two` for a key in an archive of two pairs.
-fn is_found_of_two(alloc: Global) -> Option<Option<bool>> {
-    let pairs = [(("my", "key"), "value"), (("wrong", "key"), "wrong value")];
-    let bytes = map_archive(alloc, &pairs).ok()?;
-    is_text_of_two(bytes.as_slice(), ("my", "key"), "value").ok()
-}
-
 #[test]
-fn a_key_of_two_texts_is_compared(rt: HostRuntime) {
-    expect_eq!(rt; is_found_of_two(rt.alloc()), Some(Some(true)));
+fn a_key_of_two_texts_is_compared(rt: HostRuntime) -> Result<(), Fail> {
+    let pairs = [(("my", "key"), "value"), (("wrong", "key"), "wrong value")];
+    let bytes = map_archive(rt.alloc(), &pairs)?;
+    expect_eq!(rt; is_text_of_two(bytes.as_slice(), ("my", "key"), "value"), Ok(Some(true)));
+    Ok(())
 }
 
 #[test]
@@ -154,19 +144,13 @@ fn pairs_are_found_and_printed(rt: HostRuntime) {
     values_found_are_listed::<i8, i8, i8, i8, i8, FxHasher64, Narrow>();
     scalars_found_are_listed::<i8, i8, i8, i8, FxHasher64, Narrow>();
     let bytes = four_pairs();
-    let values = [
-        (1, Some(2)),
-        (3, Some(4)),
-        (5, Some(6)),
-        (7, Some(8)),
-        (2, None),
-    ];
-    expect_values(&rt, &bytes, &values);
+    expect_values(&rt, &bytes, &[(1, Some(2)), (3, Some(4)), (5, Some(6))]);
+    expect_values(&rt, &bytes, &[(7, Some(8)), (2, None)]);
     expect_eq!(rt; small_prints(rt.alloc(), &bytes, "{5: 6, 7: 8, 1: 2, 3: 4}"), true);
 }
 
 #[test]
-fn equality_ignores_insertion_order(rt: HostRuntime) {
+fn equality_ignores_insertion_order_and_repeated_keys_are_unequal(rt: HostRuntime) {
     let four = four_pairs();
     let backwards = four_pairs_backwards();
     let one = one_pair();
@@ -179,10 +163,6 @@ fn equality_ignores_insertion_order(rt: HostRuntime) {
     expect_equality(&rt, &four, &one, false);
     expect_equality(&rt, &one, &four, false);
     expect_equality(&rt, &four, &changed, false);
-}
-
-#[test]
-fn first_of_equal_keys_is_found(rt: HostRuntime) {
     let bytes = one_key_twice();
     expect_counts(&rt, &bytes, (false, 2, 3));
     expect_values(&rt, &bytes, &[(1, Some(2))]);
@@ -194,20 +174,15 @@ fn misplaced(bytes: &[u8]) -> Result<usize, VerifyError> {
     Ok(small_map(bytes)?.misplaced())
 }
 
-// Compares the number of misplaced keys of a map.
-fn expect_misplaced(rt: &impl Abort, bytes: &[u8], expected: usize) {
-    expect_eq!(*rt; misplaced(bytes), Ok(expected));
-}
-
 #[test]
 fn misplaced_keys_are_counted(rt: HostRuntime) {
     repeated_keys_are_misplaced::<i8, i8, FxHasher64, Narrow>();
     matched_keys_are_found::<i8, i8, i8, FxHasher64, Narrow>();
     let mut moved = one_pair();
     moved[0] = 2;
-    expect_misplaced(&rt, &four_pairs(), 0);
-    expect_misplaced(&rt, &one_key_twice(), 1);
-    expect_misplaced(&rt, &moved, 1);
+    expect_eq!(rt; misplaced(&four_pairs()), Ok(0));
+    expect_eq!(rt; misplaced(&one_key_twice()), Ok(1));
+    expect_eq!(rt; misplaced(&moved), Ok(1));
     expect_values(&rt, &moved, &[(2, None)]);
 }
 
@@ -216,22 +191,17 @@ fn misplaced_up_to(bytes: &[u8], limit: u64) -> Result<Option<usize>, VerifyErro
     Ok(small_map(bytes)?.misplaced_up_to(limit))
 }
 
-// Compares this number.
-fn expect_misplaced_up_to(rt: &impl Abort, bytes: &[u8], limit: u64, expected: Option<usize>) {
-    expect_eq!(*rt; misplaced_up_to(bytes, limit), Ok(expected));
-}
-
 // A table of at most sixteen buckets has one stride, so each lookup reads one.
 #[test]
 fn counting_misplaced_keys_ends_at_a_limit(rt: HostRuntime) {
     let four = four_pairs();
-    expect_misplaced_up_to(&rt, &four, 3, None);
-    expect_misplaced_up_to(&rt, &four, 4, Some(0));
-    expect_misplaced_up_to(&rt, &four, u64::MAX, Some(0));
+    expect_eq!(rt; misplaced_up_to(&four, 3), Ok(None));
+    expect_eq!(rt; misplaced_up_to(&four, 4), Ok(Some(0)));
+    expect_eq!(rt; misplaced_up_to(&four, u64::MAX), Ok(Some(0)));
     let twice = one_key_twice();
-    expect_misplaced_up_to(&rt, &twice, 1, None);
-    expect_misplaced_up_to(&rt, &twice, 2, Some(1));
-    expect_misplaced_up_to(&rt, &no_items(), 0, Some(0));
+    expect_eq!(rt; misplaced_up_to(&twice, 1), Ok(None));
+    expect_eq!(rt; misplaced_up_to(&twice, 2), Ok(Some(1)));
+    expect_eq!(rt; misplaced_up_to(&no_items(), 0), Ok(Some(0)));
 }
 
 // Returns the address of a symbol, from an untrusted archive.
@@ -260,18 +230,13 @@ fn inner_value(bytes: &[u8], key: i8, inner_key: i8) -> Result<Option<i8>, Verif
 }
 
 #[test]
-fn a_map_is_the_value_of_a_map(rt: HostRuntime) {
+fn maps_inside_are_read_and_validated(rt: HostRuntime) {
     let bytes = nested();
     expect_eq!(rt; inner_value(&bytes, 1, 1), Ok(Some(2)));
     expect_eq!(rt; inner_value(&bytes, 1, 2), Ok(None));
-    let equal = equal_maps::<i8, Small, FxHasher64, Narrow>(&bytes, &bytes);
-    expect_eq!(rt; equal, Ok((true, true)));
-    let printed = map_prints::<i8, Small, FxHasher64, Narrow>(rt.alloc(), &bytes, "{1: {1: 2}}");
-    expect_eq!(rt; printed, true);
-}
-
-#[test]
-fn a_map_inside_is_checked(rt: HostRuntime) {
+    expect_eq!(rt; equal_maps::<i8, Small, FxHasher64, Narrow>(&bytes, &bytes), Ok((true, true)));
+    expect_eq!(rt; map_prints::<i8, Small, FxHasher64, Narrow>(rt.alloc(), &bytes, "{1: {1: 2}}"),
+        true);
     let mut bytes = nested();
     bytes[40] = 0xdd;
     let unwrapped = VerifyError::UnwrappedControlByte { index: 30 };
@@ -279,18 +244,11 @@ fn a_map_inside_is_checked(rt: HostRuntime) {
     bytes[40] = 0xde;
     let outside = VerifyError::OutOfRange { pos: 2, size: 35 };
     expect_eq!(rt; inner_value(&bytes, 1, 1), Err(outside));
-}
-
-// Each valid prefix of the archive ends with eight zeros, and is an empty map.
-#[test]
-fn prefixes_that_are_empty_maps(rt: HostRuntime) {
+    // Each valid prefix of the archive ends with eight zeros, and is an empty map.
     let bytes = nested();
     let mut right = true;
     for len in 0..112 {
-        let empty = match nested_map(&bytes[..len]) {
-            Ok(map) => map.is_empty(),
-            Err(_) => false,
-        };
+        let empty = matches!(nested_map(&bytes[..len]), Ok(map) if map.is_empty());
         right = right && empty == matches!(len, 60 | 64 | 68);
     }
     assert!(rt; right);
@@ -307,38 +265,25 @@ fn indexed(bytes: &[u8], key: u32) -> Result<Option<u32>, VerifyError> {
 }
 
 #[test]
-fn a_wide_map_is_read(rt: HostRuntime) {
+fn wide_maps_are_read_and_validated(rt: HostRuntime) {
     let bytes = one_wide_number();
     expect_eq!(rt; counts::<u32, u32, FxHasher64, Wide>(&bytes), Ok((false, 1, 2)));
-    let found = number_of::<u32, u32, FxHasher64, Wide, u32>(&bytes, &1);
-    expect_eq!(rt; found, Ok(Some(2)));
+    expect_eq!(rt; number_of::<u32, u32, FxHasher64, Wide, u32>(&bytes, &1), Ok(Some(2)));
     expect_eq!(rt; indexed(&bytes, 1), Ok(Some(2)));
     expect_eq!(rt; indexed(&bytes, 2), Ok(None));
-}
-
-#[test]
-fn rejects_a_wide_capacity_beyond_the_archive(rt: HostRuntime) {
     let bytes = [
         0, 0, 0, 0, 0, 0, 0, 0, 1, 0, 0, 0, 0, 0, 0, 0, 0xff, 0xff, 0xff, 0xff, 0xff, 0xff, 0xff,
         0xff,
     ];
-    expect_eq!(rt;
-        indexed(&bytes, 1),
-        Err(VerifyError::OutOfRange {
-            pos: -147_573_952_589_676_412_920,
-            size: 166_020_696_663_385_964_551,
-        })
-    );
-}
-
-// Returns the length of a copy of a map.
-fn copied_len(bytes: &[u8]) -> Option<usize> {
-    let copy = small_map(bytes).ok()?.clone().ok()?;
-    Some(copy.len())
+    expect_eq!(rt; indexed(&bytes, 1),
+        Err(VerifyError::OutOfRange { pos: -147_573_952_589_676_412_920,
+        size: 166_020_696_663_385_964_551 }));
 }
 
 #[test]
-fn a_copy_of_a_map_is_read(rt: HostRuntime) {
+fn a_copy_of_a_map_is_read(rt: HostRuntime) -> Result<(), Fail> {
     clones_are_the_same::<i8, i8, FxHasher64, Narrow>();
-    expect_eq!(rt; copied_len(&four_pairs()), Some(4));
+    let bytes = four_pairs();
+    expect_eq!(rt; small_map(&bytes)?.clone()?.len(), 4);
+    Ok(())
 }

@@ -43,8 +43,7 @@ fn ages_round_trip(alloc: Global, ages: &Ages) -> Result<Ages, Fail> {
 fn a_map_of_std(rt: HostRuntime) -> Result<(), Fail> {
     let alloc = rt.alloc();
     let ages = two_ages(alloc)?;
-    let back = ages_round_trip(alloc, &ages)?;
-    assert!(rt; back == ages);
+    assert!(rt; ages_round_trip(alloc, &ages)? == ages);
     Ok(())
 }
 
@@ -62,8 +61,7 @@ fn primes_round_trip(alloc: Global, state: RandomState) -> Result<HashSet<u32, R
 #[test]
 fn a_set_of_std(rt: HostRuntime) -> Result<(), Fail> {
     let back = primes_round_trip(rt.alloc(), RandomState::new(&rt)?)?;
-    let found = (back.len(), back.contains(&3), back.contains(&4));
-    expect_eq!(rt; found, (2, true, false));
+    expect_eq!(rt; (back.len(), back.contains(&3), back.contains(&4)), (2, true, false));
     Ok(())
 }
 
@@ -152,12 +150,9 @@ fn three_numbers(rooms: &[u8]) -> Result<[Option<u32>; 3], VerifyError> {
 #[test]
 fn a_map_of_maps(rt: HostRuntime) -> Result<(), Fail> {
     let mut archive = write_rooms(rt.alloc())?;
-    let before = three_numbers(archive.as_slice());
-    expect_eq!(rt; before, Ok([Some(4), Some(2), Some(1)]));
-    let found = change_numbers(archive.as_mut_slice());
-    expect_eq!(rt; found, Ok([true, false, false, true, false]));
-    let after = three_numbers(archive.as_slice());
-    expect_eq!(rt; after, Ok([Some(5), Some(2), Some(8)]));
+    expect_eq!(rt; three_numbers(archive.as_slice()), Ok([Some(4), Some(2), Some(1)]));
+    expect_eq!(rt; change_numbers(archive.as_mut_slice()), Ok([true, false, false, true, false]));
+    expect_eq!(rt; three_numbers(archive.as_slice()), Ok([Some(5), Some(2), Some(8)]));
     Ok(())
 }
 
@@ -310,8 +305,7 @@ fn two_points(archive: &[u8]) -> Result<[Option<(i32, i32)>; 2], VerifyError> {
 fn points_in_place(rt: HostRuntime) -> Result<(), Fail> {
     let mut archive = map_archive(rt.alloc(), &[("a", (1i32, 2i32)), ("b", (3, 4))])?;
     expect_eq!(rt; move_two(archive.as_mut_slice()), Ok([true, false]));
-    let points = two_points(archive.as_slice());
-    expect_eq!(rt; points, Ok([Some((1, 2)), Some((-3, 5))]));
+    expect_eq!(rt; two_points(archive.as_slice()), Ok([Some((1, 2)), Some((-3, 5))]));
     Ok(())
 }
 

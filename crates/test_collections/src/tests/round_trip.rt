@@ -3,7 +3,7 @@
 ghost use Rattle.std.specs.Prelude.{◌≡◌, IfOk, true};
 
 use rkyv_base::access::access;
-use rkyv_base::{Narrow, Text, VerifyError, Wide, to_bytes};
+use rkyv_base::{Narrow, Text, Wide, to_bytes};
 use rkyv_collections::std_maps::round_trip::{RoundTripError, lookups_agree, round_trips_equal};
 use rkyv_collections::{ArchivedHashSet, HashSetOf, Hashed};
 use rkyv_scan::{FxHasher64, FxHasher64Wide};
@@ -29,30 +29,16 @@ fn ports_round_trip(
     Ok((back, found))
 }
 
-// Returns the table of these ports.
-fn table_of(alloc: Global, ports: &[(&str, u16)]) -> Result<Ports, AllocError> {
-    let mut table = HashMap::new(alloc);
-    for (name, port) in ports {
-        let name = String::from_str(alloc, *name)?;
-        table.insert(name, *port)?;
-    }
-    Ok(Hashed::new(table))
-}
-
-// Returns both results of `ports_round_trip` for a table and a name.
-fn both_results(alloc: Global, ports: &Ports, name: &str) -> Option<(bool, bool)> {
-    let name = String::from_str(alloc, name).ok()?;
-    ports_round_trip(alloc, ports, &name).ok()
-}
-
 #[test]
 fn a_table_of_ports(rt: HostRuntime) -> Result<(), Fail> {
-    let ports = table_of(rt.alloc(), &[("ssh", 22), ("https", 443)])?;
-    let results = [
-        both_results(rt.alloc(), &ports, "ssh"),
-        both_results(rt.alloc(), &ports, "telnet"),
-    ];
-    expect_eq!(rt; results, [Some((true, true)); 2]);
+    let alloc = rt.alloc();
+    let mut table = HashMap::new(alloc);
+    table.insert(String::from_str(alloc, "ssh")?, 22)?;
+    table.insert(String::from_str(alloc, "https")?, 443)?;
+    let (ports, missing) = (Hashed::new(table), String::from_str(alloc, "telnet")?);
+    let name = String::from_str(alloc, "ssh")?;
+    expect_eq!(rt; ports_round_trip(alloc, &ports, &name).ok(), Some((true, true)));
+    expect_eq!(rt; ports_round_trip(alloc, &ports, &missing).ok(), Some((true, true)));
     Ok(())
 }
 
@@ -68,13 +54,10 @@ fn map_of<H>(alloc: Global, pairs: &[(i8, i8)]) -> Result<Hashed<HashMap<i8, i8>
 #[test]
 fn lookups_in_both_widths(rt: HostRuntime) -> Result<(), Fail> {
     let map = map_of::<FxHasher64Wide>(rt.alloc(), &[(1, 2), (3, 4)])?;
-    let agree = [
-        lookups_agree::<Narrow, _, _, _, _>(rt.alloc(), &map, &1).ok(),
-        lookups_agree::<Narrow, _, _, _, _>(rt.alloc(), &map, &2).ok(),
-        lookups_agree::<Wide, _, _, _, _>(rt.alloc(), &map, &3).ok(),
-        lookups_agree::<Wide, _, _, _, _>(rt.alloc(), &map, &4).ok(),
-    ];
-    expect_eq!(rt; agree, [Some(true); 4]);
+    expect_eq!(rt; lookups_agree::<Narrow, _, _, _, _>(rt.alloc(), &map, &1).ok(), Some(true));
+    expect_eq!(rt; lookups_agree::<Narrow, _, _, _, _>(rt.alloc(), &map, &2).ok(), Some(true));
+    expect_eq!(rt; lookups_agree::<Wide, _, _, _, _>(rt.alloc(), &map, &3).ok(), Some(true));
+    expect_eq!(rt; lookups_agree::<Wide, _, _, _, _>(rt.alloc(), &map, &4).ok(), Some(true));
     Ok(())
 }
 
@@ -83,27 +66,18 @@ pub(crate) fn prints<M: Debug>(alloc: Global, value: &M, text: &str) -> bool {
     matches!(format!(in alloc; "{value:?}"), Ok(shown) if shown.as_str() == text)
 }
 
-// Returns whether a map, a set and a map of maps print as expected.
-fn are_printed(alloc: Global) -> Result<[bool; 3], AllocError> {
-    let map = map_of::<FxHasher64>(alloc, &[(1, 2)])?;
-    let inner = map_of::<FxHasher64>(alloc, &[(3, 4)])?;
-    let mut maps = HashMap::new(alloc);
-    maps.insert(5u8, inner)?;
-    let nested: Hashed<HashMap<u8, Hashed<HashMap<i8, i8>>>> = Hashed::new(maps);
-    let mut keys = HashSet::new(alloc);
-    keys.insert("a")?;
-    let set: Hashed<HashSet<&str>> = Hashed::new(keys);
-    Ok([
-        prints(alloc, &map, "{1: 2}"),
-        prints(alloc, &set, "{\"a\"}"),
-        prints(alloc, &nested, "{5: {3: 4}}"),
-    ])
-}
-
 #[test]
 fn hashed_is_printed_as_its_contents(rt: HostRuntime) -> Result<(), Fail> {
-    let printed = are_printed(rt.alloc())?;
-    expect_eq!(rt; printed, [true; 3]);
+    let map = map_of::<FxHasher64>(rt.alloc(), &[(1, 2)])?;
+    let mut maps = HashMap::new(rt.alloc());
+    maps.insert(5u8, map_of::<FxHasher64>(rt.alloc(), &[(3, 4)])?)?;
+    let nested: Hashed<HashMap<u8, Hashed<HashMap<i8, i8>>>> = Hashed::new(maps);
+    let mut keys = HashSet::new(rt.alloc());
+    keys.insert("a")?;
+    let set: Hashed<HashSet<&str>> = Hashed::new(keys);
+    expect_eq!(rt; prints(rt.alloc(), &map, "{1: 2}"), true);
+    expect_eq!(rt; prints(rt.alloc(), &set, "{\"a\"}"), true);
+    expect_eq!(rt; prints(rt.alloc(), &nested, "{5: {3: 4}}"), true);
     Ok(())
 }
 
@@ -117,44 +91,20 @@ fn hashed_is_compared_as_its_contents(rt: HostRuntime) -> Result<(), Fail> {
     let map = map_of::<FxHasher64>(rt.alloc(), &[(1, 2)])?;
     let same = map_of::<FxHasher64>(rt.alloc(), &[(1, 2)])?;
     let other = map_of::<FxHasher64>(rt.alloc(), &[(1, 3)])?;
-    let compared = [compared(&map, &same), compared(&map, &other)];
-    expect_eq!(rt; compared, [(true, false), (false, true)]);
+    expect_eq!(rt; [compared(&map, &same), compared(&map, &other)], [(true, false), (false, true)]);
     Ok(())
-}
-
-// Returns whether an archived set equals `set`, and is read back as `set` with this hash state.
-fn is_read_with(
-    alloc: Global,
-    bytes: &[u8],
-    set: &HashSet<String, RandomState>,
-    state: RandomState,
-) -> Result<bool, VerifyError> {
-    let root = ArchivedHashSet::of(access::<HashSetOf<Text>>(bytes)?);
-    match root.deserialize_std::<String, RandomState>(alloc, state) {
-        Ok(back) => Ok(root.eq_std(set) && back == *set),
-        Err(_) => Ok(false),
-    }
-}
-
-// Returns the set of these words, with this hash state.
-fn words_of(
-    alloc: Global,
-    words: &[&str],
-    state: RandomState,
-) -> Result<Hashed<HashSet<String, RandomState>>, AllocError> {
-    let mut set = HashSet::with_hasher(alloc, state);
-    for word in words {
-        set.insert(String::from_str(alloc, *word)?)?;
-    }
-    Ok(Hashed::new(set))
 }
 
 #[test]
 fn a_set_with_a_hash_state_of_its_own(rt: HostRuntime) -> Result<(), Fail> {
     let state = RandomState::new(&rt)?;
-    let set = words_of(rt.alloc(), &["hello", "wonderful text"], state)?;
+    let mut set = HashSet::with_hasher(rt.alloc(), state);
+    set.insert(String::from_str(rt.alloc(), "hello")?)?;
+    set.insert(String::from_str(rt.alloc(), "wonderful text")?)?;
+    let set: Hashed<HashSet<String, RandomState>> = Hashed::new(set);
     let bytes = to_bytes(rt.alloc(), &set)?;
-    let read = is_read_with(rt.alloc(), bytes.as_slice(), set.get(), state).ok();
-    expect_eq!(rt; read, Some(true));
+    let root = ArchivedHashSet::of(access::<HashSetOf<Text>>(bytes.as_slice())?);
+    let back = root.deserialize_std::<String, RandomState>(rt.alloc(), state)?;
+    expect_eq!(rt; (root.eq_std(set.get()), back == *set.get()), (true, true));
     Ok(())
 }

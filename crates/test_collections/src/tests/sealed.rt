@@ -20,8 +20,9 @@ use rkyv_collections::{ArchivedHashMap, HashMapOf};
 use rkyv_keys::{KeyElement, Query};
 use rkyv_scan::{FxHasher64, KeyHasher};
 use std::alloc::Global;
+use std::test::Fail;
 use test_support::archives::{four_pairs, one_number, one_wide_number};
-use test_support::changes::change;
+use test_support::changes::{change, with_bytes};
 
 type Numbers<W> = HashMapOf<u32, u32, FxHasher64, W>;
 
@@ -127,65 +128,51 @@ fn replace(bytes: &mut [u8], key: u32, value: u32) -> Result<Option<(u32, u32)>,
     }
 }
 
-// Does the same by `get_key_value_seal`. Returns the key, and the value before the write.
-fn replace_beside_key<W: Width>(
-    bytes: &mut [u8],
-    key: u32,
-    value: u32,
-) -> Result<Option<(u32, u32)>, VerifyError> {
-    let whole = access_mut_in::<W, Numbers<W>>(bytes)?;
-    match ArchivedHashMap::get_key_value_seal(whole, &key) {
-        Some((found, mut seal)) => {
-            let before = (found.to_native(), seal.to_native());
-            seal.set(value);
-            Ok(Some(before))
+// Writes a number by a found seal, after what is read before.
+macro_rules! write_found {
+    ($found:expr, $pattern:pat => $seal:ident, $value:expr; $before:expr) => {
+        match $found {
+            Some($pattern) => {
+                let before = $before;
+                $seal.set($value);
+                Ok(Some(before))
+            }
+            None => Ok(None),
         }
-        None => Ok(None),
-    }
+    };
+}
+
+type Pair = Result<Option<(u32, u32)>, VerifyError>;
+
+// Does the same by `get_key_value_seal`. Returns the key, and the value before the write.
+fn replace_beside_key<W: Width>(bytes: &mut [u8], key: u32, value: u32) -> Pair {
+    let found = ArchivedHashMap::get_key_value_seal(access_mut_in::<W, Numbers<W>>(bytes)?, &key);
+    write_found!(found, (stored, mut seal) => seal, value; (stored.to_native(), seal.to_native()))
 }
 
 #[test]
-fn a_found_value_is_written_in_place(rt: HostRuntime) {
+fn found_values_are_written_in_place(rt: HostRuntime) {
     value_writes_keep_maps::<u32, u32, FxHasher64, Narrow>();
     value_writes_keep_lookups::<u32, u32, u32, FxHasher64, Narrow>();
     values_written_represent::<u32, u32, u32, u32, FxHasher64, Narrow>();
     let mut bytes = one_number();
     expect_eq!(rt; replace(&mut bytes, 1, 16_909_060), Ok(Some((2, 16_909_060))));
-    let found = number_of::<u32, u32, FxHasher64, Narrow, u32>(&bytes, &1);
-    expect_eq!(rt; found, Ok(Some(16_909_060)));
-    let mut expected = one_number();
-    expected[4..8].copy_from_slice(&[4, 3, 2, 1]);
-    expect_eq!(rt; bytes, expected);
-}
-
-#[test]
-fn unsuccessful_lookup_returns_no_seal(rt: HostRuntime) {
+    expect_eq!(rt; number_of::<u32, u32, FxHasher64, Narrow, u32>(&bytes, &1),
+        Ok(Some(16_909_060)));
+    expect_eq!(rt; bytes, with_bytes(one_number(), 4, &[4, 3, 2, 1]));
     let mut bytes = one_number();
     expect_eq!(rt; replace(&mut bytes, 2, 7), Ok(None));
     expect_eq!(rt; replace_beside_key::<Narrow>(&mut bytes, 2, 7), Ok(None));
     expect_eq!(rt; replace_by(&mut bytes, 1, 7, false), Ok(None));
     expect_eq!(rt; replace_beside_key_by(&mut bytes, 2, 7, true), Ok(None));
     expect_eq!(rt; bytes, one_number());
-}
-
-#[test]
-fn sealed_pair_has_its_key(rt: HostRuntime) {
     let mut bytes = one_number();
     expect_eq!(rt; replace_beside_key::<Narrow>(&mut bytes, 1, 7), Ok(Some((1, 2))));
     expect_eq!(rt; bytes[4], 7);
-}
-
-#[test]
-fn a_value_of_a_wide_map_is_written_in_place(rt: HostRuntime) {
     let mut bytes = one_wide_number();
-    let replaced = [
-        replace_beside_key::<Wide>(&mut bytes, 1, 16_909_060),
-        replace_beside_key::<Wide>(&mut bytes, 2, 7),
-    ];
-    expect_eq!(rt; replaced, [Ok(Some((1, 2))), Ok(None)]);
-    let mut expected = one_wide_number();
-    expected[4..8].copy_from_slice(&[4, 3, 2, 1]);
-    expect_eq!(rt; bytes, expected);
+    expect_eq!(rt; replace_beside_key::<Wide>(&mut bytes, 1, 16_909_060), Ok(Some((1, 2))));
+    expect_eq!(rt; replace_beside_key::<Wide>(&mut bytes, 2, 7), Ok(None));
+    expect_eq!(rt; bytes, with_bytes(one_wide_number(), 4, &[4, 3, 2, 1]));
 }
 
 // Writes a number over the value that is found by a comparison that always returns `accepts`.
@@ -197,36 +184,17 @@ fn replace_by(
     accepts: bool,
 ) -> Result<Option<u32>, VerifyError> {
     let whole = number_seal(bytes)?;
-    match ArchivedHashMap::get_seal_with(whole, &key, |_: &u32, _: View<'_, u32>| accepts) {
-        Some(mut seal) => {
-            let before = seal.to_native();
-            seal.set(value);
-            Ok(Some(before))
-        }
-        None => Ok(None),
-    }
+    let accept = |_: &u32, _: View<'_, u32>| accepts;
+    let found = ArchivedHashMap::get_seal_with(whole, &key, accept);
+    write_found!(found, mut seal => seal, value; seal.to_native())
 }
 
 // Does the same by `get_key_value_seal_with`. Returns the key, and the value before the write.
-fn replace_beside_key_by(
-    bytes: &mut [u8],
-    key: u32,
-    value: u32,
-    accepts: bool,
-) -> Result<Option<(u32, u32)>, VerifyError> {
+fn replace_beside_key_by(bytes: &mut [u8], key: u32, value: u32, accepts: bool) -> Pair {
     let whole = number_seal(bytes)?;
-    match ArchivedHashMap::get_key_value_seal_with(
-        whole,
-        &key,
-        |_: &u32, _: View<'_, u32>| accepts,
-    ) {
-        Some((found, mut seal)) => {
-            let before = (found.to_native(), seal.to_native());
-            seal.set(value);
-            Ok(Some(before))
-        }
-        None => Ok(None),
-    }
+    let accept = |_: &u32, _: View<'_, u32>| accepts;
+    let found = ArchivedHashMap::get_key_value_seal_with(whole, &key, accept);
+    write_found!(found, (stored, mut seal) => seal, value; (stored.to_native(), seal.to_native()))
 }
 
 #[test]
@@ -292,16 +260,12 @@ fn write_pairs(bytes: &mut [u8], pairs: &[(i8, i8)]) -> Result<bool, VerifyError
 }
 
 #[test]
-fn each_value_is_written(rt: HostRuntime) {
+fn each_value_is_written_by_a_cursor(rt: HostRuntime) {
     let mut bytes = four_pairs();
     expect_eq!(rt; write_values(&mut bytes, &[0; 4]), Ok(true));
     let zero = Some(0);
     expect_values(&rt, &bytes, &[(1, zero), (3, zero), (5, zero), (7, zero)]);
     expect_four_with(&rt, &bytes, [3, 0, 1, 0, 0, 0, 7, 0, 5, 0]);
-}
-
-#[test]
-fn values_are_written_by_position(rt: HostRuntime) {
     let mut bytes = four_pairs();
     expect_eq!(rt; write_values_by_pos(&mut bytes, &[10, 11, 12, 13]), Ok(true));
     expect_four_with(&rt, &bytes, [3, 13, 1, 12, 0, 0, 7, 11, 5, 10]);
@@ -361,17 +325,9 @@ fn pairs_are_written_by_position(rt: HostRuntime) {
 }
 
 // Returns the archive of three texts, mapped to these values.
-fn archive_of(alloc: Global, values: [&str; 3]) -> Option<Vec<u8>> {
+fn archive_of(alloc: Global, values: [&str; 3]) -> Result<Vec<u8>, Fail> {
     let pairs = [("hello", values[0]), ("foo", values[1]), ("baz", values[2])];
-    text_archive(alloc, &pairs).ok()
-}
-
-// Returns whether `bytes` are that archive.
-fn is_archived_as(alloc: Global, values: [&str; 3], bytes: &[u8]) -> bool {
-    match archive_of(alloc, values) {
-        Some(archive) => archive.as_slice() == bytes,
-        None => false,
-    }
+    Ok(text_archive(alloc, &pairs)?)
 }
 
 // Returns whether the value of a key is `text`, as read by a seal.
@@ -392,102 +348,55 @@ fn uppercase(bytes: &mut [u8], key: &str) -> Result<Option<bool>, VerifyError> {
     }
 }
 
-// Writes three values in upper case. Returns the number of seals that return `true`.
-fn uppercase_three(bytes: &mut [u8]) -> Result<Option<usize>, VerifyError> {
-    let whole = text_seal(bytes)?;
-    let mut rest = ArchivedHashMap::values_seal(whole);
-    let mut uppercased = 0usize;
+#[test]
+fn text_is_uppercased_in_place(rt: HostRuntime) -> Result<(), Fail> {
+    let mut bytes = archive_of(rt.alloc(), ["world", "bar", "bat"])?;
+    expect_eq!(rt; is_text_in_place(bytes.as_mut_slice(), "hello", "world"), Ok(Some(true)));
+    expect_eq!(rt; uppercase(bytes.as_mut_slice(), "hello"), Ok(Some(true)));
+    expect_eq!(rt; is_text(bytes.as_slice(), "hello", "WORLD"), Ok(Some(true)));
+    let expected = archive_of(rt.alloc(), ["WORLD", "bar", "bat"])?;
+    expect_eq!(rt; bytes.as_slice(), expected.as_slice());
+    Ok(())
+}
+
+#[test]
+fn each_text_is_uppercased_in_place(rt: HostRuntime) -> Result<(), Fail> {
+    let mut bytes = archive_of(rt.alloc(), ["world", "bar", "bat"])?;
+    let mut rest = ArchivedHashMap::values_seal(text_seal(bytes.as_mut_slice())?);
     for _ in 0..3 {
-        match rest.next_seal() {
-            Some(mut seal) => {
-                if seal.make_ascii_uppercase() {
-                    uppercased = uppercased.wrapping_add(1);
-                }
-            }
-            None => return Ok(None),
-        }
+        let uppercased = match rest.next_seal() {
+            Some(mut seal) => seal.make_ascii_uppercase(),
+            None => false,
+        };
+        expect_eq!(rt; uppercased, true);
     }
-    Ok(Some(uppercased))
+    drop(rest);
+    let expected = archive_of(rt.alloc(), ["WORLD", "BAR", "BAT"])?;
+    expect_eq!(rt; bytes.as_slice(), expected.as_slice());
+    Ok(())
 }
 
-// Returns whether a text is one of three.
-fn is_one_of(text: Option<&str>, texts: [&str; 3]) -> bool {
-    text == Some(texts[0]) || text == Some(texts[1]) || text == Some(texts[2])
-}
-
-// Returns the number of values that a cursor reads as one of three texts.
-fn texts_read(bytes: &mut [u8], texts: [&str; 3]) -> Result<usize, VerifyError> {
-    let mut rest = ArchivedHashMap::values_seal(text_seal(bytes)?);
+#[test]
+fn each_inline_text_is_read_by_a_cursor(rt: HostRuntime) -> Result<(), Fail> {
+    let mut bytes = archive_of(rt.alloc(), ["world", "bar", "wonderful"])?;
+    let mut rest = ArchivedHashMap::values_seal(text_seal(bytes.as_mut_slice())?);
     let mut count = 0usize;
     for _ in 0..rest.len() {
         if let Some(seal) = rest.next_seal() {
-            if is_one_of(seal.as_str(), texts) {
+            if matches!(seal.as_str(), Some("world" | "bar" | "wonderful")) {
                 count = count.wrapping_add(1);
             }
         }
     }
-    Ok(count)
-}
-
-// Compares a value, writes it in upper case, and compares it again. Returns the three results.
-fn uppercase_and_read(bytes: &mut [u8]) -> [Option<Option<bool>>; 3] {
-    [
-        is_text_in_place(&mut *bytes, "hello", "world").ok(),
-        uppercase(&mut *bytes, "hello").ok(),
-        is_text(&*bytes, "hello", "WORLD").ok(),
-    ]
-}
-
-// Does the same in a new archive. Returns the results, and whether the archive is as expected.
-fn uppercased(alloc: Global) -> Option<([Option<Option<bool>>; 3], bool)> {
-    let mut bytes = archive_of(alloc, ["world", "bar", "bat"])?;
-    let query_results = uppercase_and_read(bytes.as_mut_slice());
-    let same = is_archived_as(alloc, ["WORLD", "bar", "bat"], bytes.as_slice());
-    Some((query_results, same))
+    expect_eq!(rt; count, 2);
+    Ok(())
 }
 
 #[test]
-fn text_is_uppercased_in_place(rt: HostRuntime) {
-    expect_eq!(rt; uppercased(rt.alloc()), Some(([Some(Some(true)); 3], true)));
-}
-
-// Writes each text of an archive in upper case. Returns the number of texts that are written,
-// and whether the archive is as expected.
-fn each_uppercased(alloc: Global) -> Option<(Option<Option<usize>>, bool)> {
-    let mut bytes = archive_of(alloc, ["world", "bar", "bat"])?;
-    let uppercased = uppercase_three(bytes.as_mut_slice()).ok();
-    let same = is_archived_as(alloc, ["WORLD", "BAR", "BAT"], bytes.as_slice());
-    Some((uppercased, same))
-}
-
-#[test]
-fn each_text_is_uppercased_in_place(rt: HostRuntime) {
-    expect_eq!(rt; each_uppercased(rt.alloc()), Some((Some(Some(3)), true)));
-}
-
-// Returns the number of texts of an archive of three that a cursor reads.
-fn read_in_place(alloc: Global) -> Option<usize> {
-    let mut bytes = archive_of(alloc, ["world", "bar", "wonderful"])?;
-    texts_read(bytes.as_mut_slice(), ["world", "bar", "wonderful"]).ok()
-}
-
-#[test]
-fn each_inline_text_is_read_by_a_cursor(rt: HostRuntime) {
-    expect_eq!(rt; read_in_place(rt.alloc()), Some(2));
-}
-
-// Writes a text out of line in upper case. Returns the result, and whether the archive is the same.
-fn uppercased_out_of_line(alloc: Global) -> Option<(Option<Option<bool>>, bool)> {
-    let mut bytes = archive_of(alloc, ["wonderful", "bar", "bat"])?;
-    let uppercased = uppercase(bytes.as_mut_slice(), "hello").ok();
-    let same = is_archived_as(alloc, ["wonderful", "bar", "bat"], bytes.as_slice());
-    Some((uppercased, same))
-}
-
-#[test]
-fn a_text_out_of_line_stays(rt: HostRuntime) {
-    expect_eq!(rt;
-        uppercased_out_of_line(rt.alloc()),
-        Some((Some(Some(false)), true))
-    );
+fn a_text_out_of_line_stays(rt: HostRuntime) -> Result<(), Fail> {
+    let mut bytes = archive_of(rt.alloc(), ["wonderful", "bar", "bat"])?;
+    expect_eq!(rt; uppercase(bytes.as_mut_slice(), "hello"), Ok(Some(false)));
+    let expected = archive_of(rt.alloc(), ["wonderful", "bar", "bat"])?;
+    expect_eq!(rt; bytes.as_slice(), expected.as_slice());
+    Ok(())
 }

@@ -43,9 +43,7 @@ fn uppercase_three(
 fn inline_text_is_uppercased_by_key(rt: HostRuntime) -> Result<(), Fail> {
     texts_found_are_listed::<&str, &str, Text, FxHasher64, Narrow>();
     let mut bytes = texts(rt.alloc())?;
-    expect_eq!(rt;
-        uppercase_three(bytes.as_mut_slice()),
-        Ok(([Some(true), Some(false), None], [Some(true), Some(true)]))
-    );
+    expect_eq!(rt; uppercase_three(bytes.as_mut_slice()),
+        Ok(([Some(true), Some(false), None], [Some(true), Some(true)])));
     Ok(())
 }

@@ -8,7 +8,6 @@ use rkyv_collections::{
     ArchivedHashMap, ArchivedHashSet, HashMapOf, HashSetOf, Iter, Keys, Values,
 };
 use rkyv_scan::FxHasher64;
-use std::process::Abort;
 use test_support::archives::{four_pairs, no_items, one_unit, three_keys};
 
 // `len` and `size_hint` of an iterator.
@@ -32,60 +31,42 @@ fn next_key<K: Element, V: Element, H, W>(rest: &mut Keys<'_, K, V, H, W>) -> Op
 
 // Returns the position of the next value.
 fn next_value(rest: &mut Values<'_, i8, i8>) -> Option<u64> {
-    match rest.next() {
-        Some(value) => Some(value.pos()),
-        None => None,
-    }
+    rest.next().map(|value| value.pos())
 }
 
-// Walks over the pairs of a map. Returns the results of the first six steps. Then come `len` and
+// Takes six steps of an iterator by a function. Returns their results, and then `len` and
 // `size_hint` before the steps, after two of them and after all.
-fn pairs_of(bytes: &[u8]) -> Result<([Option<(u64, u64)>; 6], [Left; 3]), VerifyError> {
-    let mut rest = small_map(bytes)?.iter();
-    let before = (rest.len(), rest.size_hint());
-    let (first, second) = (next_pair(&mut rest), next_pair(&mut rest));
-    let after_two = (rest.len(), rest.size_hint());
-    let steps = [
-        first,
-        second,
-        next_pair(&mut rest),
-        next_pair(&mut rest),
-        next_pair(&mut rest),
-        next_pair(&mut rest),
-    ];
-    Ok((steps, [before, after_two, (rest.len(), rest.size_hint())]))
+macro_rules! six_steps {
+    ($rest:expr, $next:path) => {{
+        let mut rest = $rest;
+        let before = (rest.len(), rest.size_hint());
+        let (first, second) = ($next(&mut rest), $next(&mut rest));
+        let after_two = (rest.len(), rest.size_hint());
+        let (third, fourth) = ($next(&mut rest), $next(&mut rest));
+        let steps = [first, second, third, fourth, $next(&mut rest), $next(&mut rest)];
+        (steps, [before, after_two, (rest.len(), rest.size_hint())])
+    }};
 }
 
-// Does the same with keys. Returns the number left after one step.
-fn keys_of(bytes: &[u8]) -> Result<([Option<u64>; 6], Left), VerifyError> {
-    let mut rest = small_map(bytes)?.keys();
-    let first = next_key(&mut rest);
-    let left = (rest.len(), rest.size_hint());
-    let keys = [
-        first,
-        next_key(&mut rest),
-        next_key(&mut rest),
-        next_key(&mut rest),
-        next_key(&mut rest),
-        next_key(&mut rest),
-    ];
-    Ok((keys, left))
+// The results of six steps, and what is left before, between and after them.
+type Steps<T> = Result<([Option<T>; 6], [Left; 3]), VerifyError>;
+
+fn pairs_of(bytes: &[u8]) -> Steps<(u64, u64)> {
+    Ok(six_steps!(small_map(bytes)?.iter(), next_pair))
 }
 
-// Does the same with values.
-fn values_of(bytes: &[u8]) -> Result<([Option<u64>; 6], Left), VerifyError> {
-    let mut rest = small_map(bytes)?.values();
-    let first = next_value(&mut rest);
-    let left = (rest.len(), rest.size_hint());
-    let values = [
-        first,
-        next_value(&mut rest),
-        next_value(&mut rest),
-        next_value(&mut rest),
-        next_value(&mut rest),
-        next_value(&mut rest),
-    ];
-    Ok((values, left))
+fn keys_of(bytes: &[u8]) -> Steps<u64> {
+    Ok(six_steps!(small_map(bytes)?.keys(), next_key))
+}
+
+fn values_of(bytes: &[u8]) -> Steps<u64> {
+    Ok(six_steps!(small_map(bytes)?.values(), next_value))
+}
+
+// Returns the same of a set.
+fn members<K: Element>(bytes: &[u8]) -> Steps<u64> {
+    let set = ArchivedHashSet::of(access::<HashSetOf<K>>(bytes)?);
+    Ok(six_steps!(set.iter(), next_key))
 }
 
 // Returns the number of pairs whose value a lookup of their key finds at the same position.
@@ -93,34 +74,11 @@ fn found_by_own_keys(bytes: &[u8]) -> Result<usize, VerifyError> {
     let map = small_map(bytes)?;
     let mut count = 0usize;
     for (key, value) in map {
-        match map.get(&key.to_native()) {
-            Some(found) => {
-                if found.pos() == value.pos() {
-                    count = count.wrapping_add(1);
-                }
-            }
-            None => {}
+        if map.get(&key.to_native()).map(|found| found.pos()) == Some(value.pos()) {
+            count = count.wrapping_add(1);
         }
     }
     Ok(count)
-}
-
-// Walks over a set. Returns the number of keys, the results of the first five steps, and
-// `size_hint` after them.
-fn members<K: Element>(
-    bytes: &[u8],
-) -> Result<(usize, [Option<u64>; 5], (usize, Option<usize>)), VerifyError> {
-    let set = ArchivedHashSet::of(access::<HashSetOf<K>>(bytes)?);
-    let mut rest = set.iter();
-    let before = rest.len();
-    let given = [
-        next_key(&mut rest),
-        next_key(&mut rest),
-        next_key(&mut rest),
-        next_key(&mut rest),
-        next_key(&mut rest),
-    ];
-    Ok((before, given, rest.size_hint()))
 }
 
 // Returns the sum of the keys and values of a map, by `for`.
@@ -155,18 +113,13 @@ fn maps_and_sets_are_walked_by_for(rt: HostRuntime) {
     expect_eq!(rt; sums_of_keys(&three_keys()), Ok((6, 6)));
 }
 
-// Compares the results of `pairs_of` for a map.
-fn expect_pairs(rt: &impl Abort, bytes: &[u8], steps: [Option<(u64, u64)>; 6], left: [Left; 3]) {
-    expect_eq!(*rt; pairs_of(bytes), Ok((steps, left)));
-}
-
-// In bucket order, the pairs are 5 to 6, 7 to 8, 1 to 2 and 3 to 4. The first has the last two
-// bytes before the controls.
 #[test]
-fn pairs_are_walked_by_ascending_bucket(rt: HostRuntime) {
+fn maps_are_walked_by_ascending_bucket(rt: HostRuntime) {
+    // In bucket order, the pairs are 5 to 6, 7 to 8, 1 to 2 and 3 to 4. The first has the last two
+    // bytes before the controls.
     map_laws::walks_visit_each::<i8, i8, i8, i8, FxHasher64, Narrow>();
     let bytes = four_pairs();
-    let steps = [
+    let pairs = [
         Some((8, 9)),
         Some((6, 7)),
         Some((2, 3)),
@@ -174,46 +127,26 @@ fn pairs_are_walked_by_ascending_bucket(rt: HostRuntime) {
         None,
         None,
     ];
-    let left = [(4, (4, Some(4))), (2, (2, Some(2))), (0, (0, Some(0)))];
-    expect_pairs(&rt, &bytes, steps, left);
-    expect_eq!(rt; found_by_own_keys(&bytes), Ok(4));
-}
-
-// Compares the results of `keys_of` and of `values_of` for a map.
-fn expect_keys_and_values(
-    rt: &impl Abort,
-    bytes: &[u8],
-    keys: [Option<u64>; 6],
-    values: [Option<u64>; 6],
-    left: Left,
-) {
-    expect_eq!(*rt; keys_of(bytes), Ok((keys, left)));
-    expect_eq!(*rt; values_of(bytes), Ok((values, left)));
-}
-
-#[test]
-fn keys_and_values_are_walked_by_ascending_bucket(rt: HostRuntime) {
     let keys = [Some(8), Some(6), Some(2), Some(0), None, None];
     let values = [Some(9), Some(7), Some(3), Some(1), None, None];
-    expect_keys_and_values(&rt, &four_pairs(), keys, values, (3, (3, Some(3))));
-}
-
-#[test]
-fn a_walk_over_the_empty_map_yields_nothing(rt: HostRuntime) {
-    let bytes = no_items();
-    let left = (0, (0, Some(0)));
-    expect_pairs(&rt, &bytes, [None; 6], [left; 3]);
-    expect_keys_and_values(&rt, &bytes, [None; 6], [None; 6], left);
+    let left = [(4, (4, Some(4))), (2, (2, Some(2))), (0, (0, Some(0)))];
+    expect_eq!(rt; pairs_of(&bytes), Ok((pairs, left)));
+    expect_eq!(rt; keys_of(&bytes), Ok((keys, left)));
+    expect_eq!(rt; values_of(&bytes), Ok((values, left)));
+    expect_eq!(rt; found_by_own_keys(&bytes), Ok(4));
+    let left = [(0, (0, Some(0))); 3];
+    expect_eq!(rt; pairs_of(&no_items()), Ok(([None; 6], left)));
+    expect_eq!(rt; keys_of(&no_items()), Ok(([None; 6], left)));
+    expect_eq!(rt; values_of(&no_items()), Ok(([None; 6], left)));
 }
 
 #[test]
 fn keys_of_a_set_are_walked_by_ascending_bucket(rt: HostRuntime) {
     set_laws::walks_visit_each::<u8, u8, FxHasher64, Narrow>();
-    let members = [members::<u8>(&three_keys()), members::<()>(&one_unit())];
-    let three = [Some(2), Some(1), Some(0), None, None];
-    let one_unit = [Some(0), None, None, None, None];
-    expect_eq!(rt;
-        members,
-        [Ok((3, three, (0, Some(0)))), Ok((1, one_unit, (0, Some(0))))]
-    );
+    let three = [Some(2), Some(1), Some(0), None, None, None];
+    let left = [(3, (3, Some(3))), (1, (1, Some(1))), (0, (0, Some(0)))];
+    expect_eq!(rt; members::<u8>(&three_keys()), Ok((three, left)));
+    let one = [Some(0), None, None, None, None, None];
+    let left = [(1, (1, Some(1))), (0, (0, Some(0))), (0, (0, Some(0)))];
+    expect_eq!(rt; members::<()>(&one_unit()), Ok((one, left)));
 }

@@ -74,20 +74,12 @@ fn maps_are_written(rt: HostRuntime) {
     let four = [
         3, 4, 1, 2, 0, 0, 7, 8, 5, 6, 0x4b, 0x1d, 0xff, 0x28, 0x7a, 0x4b, 0x1d, 0xff, 0x28, 0x7a,
     ];
-    let written = [
-        map_pos(alloc, &[(1, 2)], &one, 27),
-        map_pos(alloc, &[(1, 2), (1, 9)], &twice, 25),
-        map_pos(alloc, &[(1, 2), (3, 4), (5, 6), (7, 8)], &four, 21),
-        map_pos(alloc, &[], &[], 0),
-    ];
-    expect_eq!(rt; written, [Ok(Some(4)), Ok(Some(6)), Ok(Some(10)), Ok(Some(0))]);
-}
-
-#[test]
-fn four_pairs_in_reverse_order(rt: HostRuntime) {
+    expect_eq!(rt; map_pos(alloc, &[(1, 2)], &one, 27), Ok(Some(4)));
+    expect_eq!(rt; map_pos(alloc, &[(1, 2), (1, 9)], &twice, 25), Ok(Some(6)));
+    expect_eq!(rt; map_pos(alloc, &[(1, 2), (3, 4), (5, 6), (7, 8)], &four, 21), Ok(Some(10)));
+    expect_eq!(rt; map_pos(alloc, &[], &[], 0), Ok(Some(0)));
     let pairs: &[(i8, i8)] = &[(7, 8), (5, 6), (3, 4), (1, 2)];
-    let same = is_map_archive(rt.alloc(), pairs, &four_pairs_backwards());
-    assert!(rt; same);
+    assert!(rt; is_map_archive(rt.alloc(), pairs, &four_pairs_backwards()));
 }
 
 #[test]
@@ -98,13 +90,10 @@ fn sets_are_written(rt: HostRuntime) {
     written_sets_represent::<Narrow, FxHasher64, u8, u8>();
     let alloc = rt.alloc();
     let three = [3, 2, 1, 0, 0xff, 0x28, 0x51, 0x7a, 0xff, 0x28, 0x51, 0x7a];
-    let written = [
-        set_pos::<()>(alloc, &[()], &[0, 0xff, 0], 28),
-        set_pos::<()>(alloc, &[(), ()], &[0, 0, 0xff, 0, 0], 26),
-        set_pos::<u8>(alloc, &[1, 2, 3], &three, 23),
-        set_pos::<u8>(alloc, &[], &[], 0),
-    ];
-    expect_eq!(rt; written, [Ok(Some(0)), Ok(Some(0)), Ok(Some(4)), Ok(Some(0))]);
+    expect_eq!(rt; set_pos::<()>(alloc, &[()], &[0, 0xff, 0], 28), Ok(Some(0)));
+    expect_eq!(rt; set_pos::<()>(alloc, &[(), ()], &[0, 0, 0xff, 0, 0], 26), Ok(Some(0)));
+    expect_eq!(rt; set_pos::<u8>(alloc, &[1, 2, 3], &three, 23), Ok(Some(4)));
+    expect_eq!(rt; set_pos::<u8>(alloc, &[], &[], 0), Ok(Some(0)));
 }
 
 // Returns the header of the set of 1, 2 and 3 at position 36, and whether it fits.
@@ -159,21 +148,13 @@ fn map_header(alloc: Global, pos: u32) -> Result<([u8; 12], bool), WriteError<No
 }
 
 #[test]
-fn the_header_of_a_map(rt: HostRuntime) {
-    let headers = [
-        map_header(rt.alloc(), 36),
-        map_header(rt.alloc(), 2_147_483_652),
-        map_header(rt.alloc(), 2_147_483_656),
-    ];
+fn the_header_of_a_map_and_the_empty_map(rt: HostRuntime) {
     let near = [0xe0, 0xff, 0xff, 0xff, 1, 0, 0, 0, 2, 0, 0, 0];
+    expect_eq!(rt; map_header(rt.alloc(), 36), Ok((near, true)));
     let farthest = [0, 0, 0, 0x80, 1, 0, 0, 0, 2, 0, 0, 0];
-    expect_eq!(rt; headers, [Ok((near, true)), Ok((farthest, true)), Ok(([7; 12], false))]);
-}
-
-#[test]
-fn the_empty_map(rt: HostRuntime) {
-    let same = is_map_archive::<i8, i8>(rt.alloc(), &[], &no_items());
-    assert!(rt; same);
+    expect_eq!(rt; map_header(rt.alloc(), 2_147_483_652), Ok((farthest, true)));
+    expect_eq!(rt; map_header(rt.alloc(), 2_147_483_656), Ok(([7; 12], false)));
+    assert!(rt; is_map_archive::<i8, i8>(rt.alloc(), &[], &no_items()));
 }
 
 // Returns the archive of a list of five pairs, two of them with one key.
