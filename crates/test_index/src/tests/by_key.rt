@@ -10,6 +10,7 @@ use rkyv_scan::FxHasher64;
 use std::alloc::Global;
 use std::test::Fail;
 use test_support::archives::four_entries;
+use test_support::changes::with_bytes;
 
 // Writes the value of a key in a map of `i8` to `i8`. Returns the result of the call.
 fn set_small<W: IndexWidth>(bytes: &mut [u8], key: i8, value: i8) -> Result<bool, VerifyError> {
@@ -18,40 +19,22 @@ fn set_small<W: IndexWidth>(bytes: &mut [u8], key: i8, value: i8) -> Result<bool
 }
 
 #[test]
-fn a_value_is_written_by_its_key(rt: HostRuntime) {
+fn values_are_written_by_their_keys(rt: HostRuntime) {
     let mut bytes = four_entries();
-    let set = set_small::<Narrow>(&mut bytes, 5, 60);
-    let mut expected = four_entries();
-    expected[56] = 60;
+    expect_eq!(rt; set_small::<Narrow>(&mut bytes, 5, 60), Ok(true));
     let mut wide = wide_pair();
-    let wide_set = set_small::<Wide>(&mut wide, 1, 20);
-    let mut wide_expected = wide_pair();
-    wide_expected[48] = 20;
-    expect_eq!(rt;
-        (set, bytes == expected, wide_set, wide == wide_expected),
-        (Ok(true), true, Ok(true), true)
-    );
-}
-
-#[test]
-fn no_value_is_written_of_a_missing_key(rt: HostRuntime) {
+    expect_eq!(rt; set_small::<Wide>(&mut wide, 1, 20), Ok(true));
+    expect_eq!(rt; bytes, with_bytes(four_entries(), 56, &[60]));
+    expect_eq!(rt; wide, with_bytes(wide_pair(), 48, &[20]));
     let mut bytes = four_entries();
-    let set = set_small::<Narrow>(&mut bytes, 9, 60);
+    expect_eq!(rt; set_small::<Narrow>(&mut bytes, 9, 60), Ok(false));
     let mut wide = wide_pair();
-    let wide_set = set_small::<Wide>(&mut wide, 9, 20);
-    expect_eq!(rt;
-        (set, bytes == four_entries(), wide_set, wide == wide_pair()),
-        (Ok(false), true, Ok(false), true)
-    );
-}
-
-#[test]
-fn of_equal_keys_the_first_value_is_written(rt: HostRuntime) {
+    expect_eq!(rt; set_small::<Wide>(&mut wide, 9, 20), Ok(false));
+    expect_eq!(rt; bytes, four_entries());
+    expect_eq!(rt; wide, wide_pair());
     let mut bytes = one_key_twice();
-    let set = set_small::<Narrow>(&mut bytes, 1, 60);
-    let mut expected = one_key_twice();
-    expected[44] = 60;
-    expect_eq!(rt; (set, bytes == expected), (Ok(true), true));
+    expect_eq!(rt; set_small::<Narrow>(&mut bytes, 1, 60), Ok(true));
+    expect_eq!(rt; bytes, with_bytes(one_key_twice(), 44, &[60]));
 }
 
 // Writes the text of a key in upper case. Returns the result of the call.
@@ -61,48 +44,30 @@ fn uppercase_of<W: IndexWidth>(bytes: &mut [u8], key: i8) -> Result<Option<bool>
 }
 
 #[test]
-fn an_inline_text_is_uppercased_by_its_key(rt: HostRuntime) {
+fn inline_texts_are_uppercased_by_their_keys(rt: HostRuntime) {
     let mut bytes = two_texts();
-    let uppercased = uppercase_of::<Narrow>(&mut bytes, 1);
-    let mut expected = two_texts();
-    expected[56..61].copy_from_slice(b"HELLO");
+    expect_eq!(rt; uppercase_of::<Narrow>(&mut bytes, 1), Ok(Some(true)));
     let mut wide = wide_texts();
-    let wide_uppercased = uppercase_of::<Wide>(&mut wide, 1);
-    let mut wide_expected = wide_texts();
-    wide_expected[80..85].copy_from_slice(b"HELLO");
-    expect_eq!(rt;
-        (uppercased, bytes == expected, wide_uppercased, wide == wide_expected),
-        (Ok(Some(true)), true, Ok(Some(true)), true)
-    );
-}
-
-// Both buckets have the index of the text that is out of line.
-#[test]
-fn no_text_is_written_out_of_line(rt: HostRuntime) {
+    expect_eq!(rt; uppercase_of::<Wide>(&mut wide, 1), Ok(Some(true)));
+    expect_eq!(rt; bytes, with_bytes(two_texts(), 56, b"HELLO"));
+    expect_eq!(rt; wide, with_bytes(wide_texts(), 80, b"HELLO"));
+    // Both buckets have the index of the text that is out of line.
     let mut bytes = two_texts();
     bytes[8] = 1;
     let before = bytes;
-    let uppercased = uppercase_of::<Narrow>(&mut bytes, 1);
+    expect_eq!(rt; uppercase_of::<Narrow>(&mut bytes, 1), Ok(Some(false)));
     let mut wide = wide_texts();
     wide[16] = 1;
     let wide_before = wide;
-    let wide_uppercased = uppercase_of::<Wide>(&mut wide, 1);
-    expect_eq!(rt;
-        (uppercased, bytes == before, wide_uppercased, wide == wide_before),
-        (Ok(Some(false)), true, Ok(Some(false)), true)
-    );
-}
-
-#[test]
-fn no_text_is_written_of_a_missing_key(rt: HostRuntime) {
+    expect_eq!(rt; uppercase_of::<Wide>(&mut wide, 1), Ok(Some(false)));
+    expect_eq!(rt; bytes, before);
+    expect_eq!(rt; wide, wide_before);
     let mut bytes = two_texts();
-    let uppercased = uppercase_of::<Narrow>(&mut bytes, 9);
+    expect_eq!(rt; uppercase_of::<Narrow>(&mut bytes, 9), Ok(None));
     let mut wide = wide_texts();
-    let wide_uppercased = uppercase_of::<Wide>(&mut wide, 9);
-    expect_eq!(rt;
-        (uppercased, bytes == two_texts(), wide_uppercased, wide == wide_texts()),
-        (Ok(None), true, Ok(None), true)
-    );
+    expect_eq!(rt; uppercase_of::<Wide>(&mut wide, 9), Ok(None));
+    expect_eq!(rt; bytes, two_texts());
+    expect_eq!(rt; wide, wide_texts());
 }
 
 type Prices = IndexMapOf<Text, u32>;
@@ -145,9 +110,7 @@ fn set_prices(archive: &mut [u8]) -> Result<([bool; 2], [Option<u32>; 3]), Verif
 #[test]
 fn a_price_is_written_by_its_name(rt: HostRuntime) -> Result<(), Fail> {
     let mut archive = write_prices(rt.alloc())?;
-    expect_eq!(rt;
-        set_prices(archive.as_mut_slice()),
-        Ok(([true, false], [Some(9), Some(4), Some(5)]))
-    );
+    expect_eq!(rt; set_prices(archive.as_mut_slice()),
+        Ok(([true, false], [Some(9), Some(4), Some(5)])));
     Ok(())
 }

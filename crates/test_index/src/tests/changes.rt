@@ -18,19 +18,7 @@ fn is_whole(bytes: &[u8]) -> Result<bool, VerifyError> {
 #[test]
 fn changes_of_one_byte_have_known_outcomes(rt: HostRuntime) {
     let mut bytes = four_entries();
-    let outcomes = outcomes_of_changes(&mut bytes, is_whole);
-    expect_eq!(rt;
-        outcomes,
-        OutcomeCounts {
-            right: 4962,
-            accepted: 5995,
-            place_out_of_range: 4068,
-            unwrapped: 4599,
-            out_of_range: 3045,
-            invalid_length: 1021,
-            wrong_number: 645,
-            unaligned: 7,
-            other: 0,
-        }
-    );
+    expect_eq!(rt; outcomes_of_changes(&mut bytes, is_whole), OutcomeCounts { right: 4962,
+        accepted: 5995, place_out_of_range: 4068, unwrapped: 4599, out_of_range: 3045,
+        invalid_length: 1021, wrong_number: 645, unaligned: 7, other: 0, });
 }

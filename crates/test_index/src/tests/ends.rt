@@ -25,21 +25,12 @@ fn ends<W: IndexWidth>(bytes: &[u8]) -> Result<Ends, VerifyError> {
 
 #[test]
 fn the_first_and_the_last_pair_are_read(rt: HostRuntime) {
-    let four = ends::<Narrow>(&four_entries());
-    let twice = ends::<Narrow>(&one_key_twice());
-    let wide = ends::<Wide>(&wide_pair());
     let one = Some((1, 2));
-    expect_eq!(rt;
-        (four, twice, wide),
-        (Ok((one, Some((7, 8)))), Ok((one, Some((1, 9)))), Ok((one, one)))
-    );
-}
-
-#[test]
-fn an_empty_map_has_no_first_and_no_last_pair(rt: HostRuntime) {
-    let narrow = ends::<Narrow>(&no_pairs());
-    let wide = ends::<Wide>(&no_wide_pairs());
-    expect_eq!(rt; (narrow, wide), (Ok((None, None)), Ok((None, None))));
+    expect_eq!(rt; ends::<Narrow>(&four_entries()), Ok((one, Some((7, 8)))));
+    expect_eq!(rt; ends::<Narrow>(&one_key_twice()), Ok((one, Some((1, 9)))));
+    expect_eq!(rt; ends::<Wide>(&wide_pair()), Ok((one, one)));
+    expect_eq!(rt; ends::<Narrow>(&no_pairs()), Ok((None, None)));
+    expect_eq!(rt; ends::<Wide>(&no_wide_pairs()), Ok((None, None)));
 }
 
 // Returns the first and the last key of a set.
@@ -58,15 +49,11 @@ fn end_keys<W: IndexWidth>(bytes: &[u8]) -> Result<(Option<i8>, Option<i8>), Ver
 
 #[test]
 fn the_first_and_the_last_key_are_read(rt: HostRuntime) {
-    let one = end_keys::<Narrow>(&one_index_key());
-    let wide = end_keys::<Wide>(&wide_key());
-    let none = end_keys::<Narrow>(&no_pairs());
-    let wide_none = end_keys::<Wide>(&no_wide_pairs());
     let both = Ok((Some(1), Some(1)));
-    expect_eq!(rt;
-        (one, wide, none, wide_none),
-        (both, both, Ok((None, None)), Ok((None, None)))
-    );
+    expect_eq!(rt; end_keys::<Narrow>(&one_index_key()), both);
+    expect_eq!(rt; end_keys::<Wide>(&wide_key()), both);
+    expect_eq!(rt; end_keys::<Narrow>(&no_pairs()), Ok((None, None)));
+    expect_eq!(rt; end_keys::<Wide>(&no_wide_pairs()), Ok((None, None)));
 }
 
 // Returns the value of a key by `index`, if the map has the key.
@@ -82,11 +69,8 @@ fn indexed<W: IndexWidth>(bytes: &[u8], key: i8) -> Result<Option<i8>, VerifyErr
 #[test]
 fn a_key_that_is_found_has_a_value(rt: HostRuntime) {
     let four = four_entries();
-    let found = [
-        indexed::<Narrow>(&four, 5),
-        indexed::<Narrow>(&four, 9),
-        indexed::<Wide>(&wide_pair(), 1),
-        indexed::<Wide>(&no_wide_pairs(), 1),
-    ];
-    expect_eq!(rt; found, [Ok(Some(6)), Ok(None), Ok(Some(2)), Ok(None)]);
+    expect_eq!(rt; indexed::<Narrow>(&four, 5), Ok(Some(6)));
+    expect_eq!(rt; indexed::<Narrow>(&four, 9), Ok(None));
+    expect_eq!(rt; indexed::<Wide>(&wide_pair(), 1), Ok(Some(2)));
+    expect_eq!(rt; indexed::<Wide>(&no_wide_pairs(), 1), Ok(None));
 }

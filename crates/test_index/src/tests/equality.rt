@@ -25,11 +25,6 @@ fn equal<'a, W: IndexWidth>(first: &'a [u8], second: &'a [u8]) -> Result<bool, V
     Ok(map_in::<W>(first)? == map_in::<W>(second)?)
 }
 
-// Whether the index sets in two archives are `==`.
-fn same_keys<'a>(first: &'a [u8], second: &'a [u8]) -> Result<bool, VerifyError> {
-    Ok(key_set(first)? == key_set(second)?)
-}
-
 const FOUR_PAIRS: &[(i8, i8)] = &[(1, 2), (3, 4), (5, 6), (7, 8)];
 
 const THREE_PAIRS: &[(i8, i8)] = &[(1, 2), (3, 4), (5, 6)];
@@ -46,25 +41,6 @@ const MAPS: &[PairsRow] = &[
     (FOUR_PAIRS, &[(1, 2), (3, 4), (5, 6), (9, 8)], false),
     (FOUR_PAIRS, THREE_PAIRS, false),
     (THREE_PAIRS, FOUR_PAIRS, false),
-];
-
-// Whether two lists of pairs are archived as equal index maps.
-fn equal_maps(alloc: Global, first: &[(i8, i8)], second: &[(i8, i8)]) -> Result<bool, Fail> {
-    let first = narrow(alloc, first)?;
-    let second = narrow(alloc, second)?;
-    Ok(equal::<Narrow>(first.as_slice(), second.as_slice())?)
-}
-
-#[test]
-fn equal_maps_have_the_same_pairs_in_order(rt: HostRuntime) -> Result<(), Fail> {
-    read_index_maps_are_compared::<i8, i8, FxHasher64, Narrow>();
-    for (first, second, expected) in MAPS {
-        expect_eq!(rt; equal_maps(rt.alloc(), first, second)?, *expected);
-    }
-    Ok(())
-}
-
-const WIDE_MAPS: &[PairsRow] = &[
     (TWO_PAIRS, TWO_PAIRS, true),
     (TWO_PAIRS, &[(3, 4), (1, 2)], false),
     (TWO_PAIRS, &[(1, 2), (3, 5)], false),
@@ -72,17 +48,14 @@ const WIDE_MAPS: &[PairsRow] = &[
     (TWO_PAIRS, &[(1, 2)], false),
 ];
 
-// Whether two lists of pairs are archived as equal wide index maps.
-fn equal_wide_maps(alloc: Global, first: &[(i8, i8)], second: &[(i8, i8)]) -> Result<bool, Fail> {
-    let first = wide(alloc, first)?;
-    let second = wide(alloc, second)?;
-    Ok(equal::<Wide>(first.as_slice(), second.as_slice())?)
-}
-
 #[test]
-fn equal_wide_maps_have_the_same_pairs_in_order(rt: HostRuntime) -> Result<(), Fail> {
-    for (first, second, expected) in WIDE_MAPS {
-        expect_eq!(rt; equal_wide_maps(rt.alloc(), first, second)?, *expected);
+fn equal_maps_have_the_same_pairs_in_order(rt: HostRuntime) -> Result<(), Fail> {
+    read_index_maps_are_compared::<i8, i8, FxHasher64, Narrow>();
+    for (first, second, expected) in MAPS {
+        let (one, other) = (narrow(rt.alloc(), first)?, narrow(rt.alloc(), second)?);
+        expect_eq!(rt; equal::<Narrow>(one.as_slice(), other.as_slice())?, *expected);
+        let (one, other) = (wide(rt.alloc(), first)?, wide(rt.alloc(), second)?);
+        expect_eq!(rt; equal::<Wide>(one.as_slice(), other.as_slice())?, *expected);
     }
     Ok(())
 }
@@ -95,18 +68,15 @@ const SETS: &[(&[i8], &[i8], bool)] = &[
     (&[4, 1], &[4], false),
 ];
 
-// Whether two lists of items are archived as equal index sets.
-fn equal_sets(alloc: Global, first: &[i8], second: &[i8]) -> Result<bool, Fail> {
-    let first = set_archive(alloc, first)?;
-    let second = set_archive(alloc, second)?;
-    Ok(same_keys(first.as_slice(), second.as_slice())?)
-}
-
 #[test]
 fn equal_sets_have_the_same_keys_in_order(rt: HostRuntime) -> Result<(), Fail> {
     read_index_sets_are_compared::<i8, FxHasher64, Narrow>();
     for (first, second, expected) in SETS {
-        expect_eq!(rt; equal_sets(rt.alloc(), first, second)?, *expected);
+        let (one, other) = (
+            set_archive(rt.alloc(), first)?,
+            set_archive(rt.alloc(), second)?,
+        );
+        expect_eq!(rt; key_set(one.as_slice())? == key_set(other.as_slice())?, *expected);
     }
     Ok(())
 }
@@ -114,8 +84,7 @@ fn equal_sets_have_the_same_keys_in_order(rt: HostRuntime) -> Result<(), Fail> {
 #[test]
 fn a_map_of_known_bytes_equals_the_one_that_is_written(rt: HostRuntime) -> Result<(), Fail> {
     let written = narrow(rt.alloc(), &[(1, 2), (3, 4), (5, 6), (7, 8)])?;
-    let same = equal::<Narrow>(&four_entries(), written.as_slice())?;
-    assert!(rt; same);
+    assert!(rt; equal::<Narrow>(&four_entries(), written.as_slice())?);
     Ok(())
 }
 
@@ -132,11 +101,8 @@ fn maps_that_are_values_have_the_same_pairs_in_order(rt: HostRuntime) -> Result<
     matched_keys_are_found::<i8, i8, i8, FxHasher64, Narrow>();
     let alloc = rt.alloc();
     let backwards = narrow(alloc, &[(7, 8), (5, 6), (3, 4), (1, 2)])?;
-    let found = [
-        same_maps(&four_entries(), &four_entries())?,
-        same_maps(&four_entries(), backwards.as_slice())?,
-    ];
-    expect_eq!(rt; found, [true, false]);
+    expect_eq!(rt; same_maps(&four_entries(), &four_entries())?, true);
+    expect_eq!(rt; same_maps(&four_entries(), backwards.as_slice())?, false);
     Ok(())
 }
 
@@ -153,11 +119,8 @@ fn sets_that_are_values_have_the_same_keys_in_order(rt: HostRuntime) -> Result<(
     let alloc = rt.alloc();
     let four = set_archive(alloc, &[1, 3, 5, 7])?;
     let backwards = set_archive(alloc, &[7, 5, 3, 1])?;
-    let found = [
-        same_sets(four.as_slice(), four.as_slice())?,
-        same_sets(four.as_slice(), backwards.as_slice())?,
-    ];
-    expect_eq!(rt; found, [true, false]);
+    expect_eq!(rt; same_sets(four.as_slice(), four.as_slice())?, true);
+    expect_eq!(rt; same_sets(four.as_slice(), backwards.as_slice())?, false);
     Ok(())
 }
 
@@ -180,38 +143,26 @@ fn hash_maps_compare_index_maps_in_order(rt: HostRuntime) -> Result<(), Fail> {
     let alloc = rt.alloc();
     let two = map_of_two(alloc, (1, 2), (3, 4))?;
     let backwards = map_of_two(alloc, (3, 4), (1, 2))?;
-    let found = [
-        same_values(two.as_slice(), two.as_slice())?,
-        same_values(two.as_slice(), backwards.as_slice())?,
-    ];
-    expect_eq!(rt; found, [true, false]);
+    expect_eq!(rt; same_values(two.as_slice(), two.as_slice())?, true);
+    expect_eq!(rt; same_values(two.as_slice(), backwards.as_slice())?, false);
     Ok(())
 }
 
 #[test]
-fn lists_are_equal_in_the_same_order(rt: HostRuntime) -> Result<(), Fail> {
+fn lists_are_compared_and_printed(rt: HostRuntime) -> Result<(), Fail> {
     pair_lists_are_compared::<i8, i8>();
     item_lists_are_compared::<i8>();
     let alloc = rt.alloc();
     let pairs = OrderedPairs(vec![in alloc; (1i8, 2i8), (3, 4)]?);
     let items = OrderedItems(vec![in alloc; 1i8, 2]?);
-    let equal = [
-        pairs == OrderedPairs(vec![in alloc; (1, 2), (3, 4)]?),
-        pairs == OrderedPairs(vec![in alloc; (3, 4), (1, 2)]?),
-        pairs == OrderedPairs(vec![in alloc; (1, 2), (5, 4)]?),
-        pairs == OrderedPairs(vec![in alloc; (1, 2), (3, 5)]?),
-        pairs == OrderedPairs(vec![in alloc; (1, 2)]?),
-        items == OrderedItems(vec![in alloc; 1, 2]?),
-        items == OrderedItems(vec![in alloc; 1, 3]?),
-        items == OrderedItems(vec![in alloc; 1]?),
-    ];
-    expect_eq!(rt; equal, [true, false, false, false, false, true, false, false]);
-    Ok(())
-}
-
-#[test]
-fn lists_print_their_items(rt: HostRuntime) -> Result<(), Fail> {
-    let alloc = rt.alloc();
+    expect_eq!(rt; pairs == OrderedPairs(vec![in alloc; (1, 2), (3, 4)]?), true);
+    expect_eq!(rt; pairs == OrderedPairs(vec![in alloc; (3, 4), (1, 2)]?), false);
+    expect_eq!(rt; pairs == OrderedPairs(vec![in alloc; (1, 2), (5, 4)]?), false);
+    expect_eq!(rt; pairs == OrderedPairs(vec![in alloc; (1, 2), (3, 5)]?), false);
+    expect_eq!(rt; pairs == OrderedPairs(vec![in alloc; (1, 2)]?), false);
+    expect_eq!(rt; items == OrderedItems(vec![in alloc; 1, 2]?), true);
+    expect_eq!(rt; items == OrderedItems(vec![in alloc; 1, 3]?), false);
+    expect_eq!(rt; items == OrderedItems(vec![in alloc; 1]?), false);
     let pairs = OrderedPairs(vec![in alloc; (1i8, 2i8)]?);
     let items = OrderedItems(vec![in alloc; 1i8, 2]?);
     let shown = format!(in alloc; "{pairs:?} {items:?}")?;

@@ -40,25 +40,12 @@ fn misplaced_within(archive: &[u8], limit: u64) -> Result<Option<usize>, VerifyE
 fn misplaced_keys_are_counted_up_to_a_limit(rt: HostRuntime) {
     let four = four_entries();
     let twice = one_key_twice();
-    let counted = [
-        misplaced_within(&four, 3),
-        misplaced_within(&four, 4),
-        misplaced_within(&four, u64::MAX),
-        misplaced_within(&twice, 1),
-        misplaced_within(&twice, 2),
-        misplaced_within(&no_pairs(), 0),
-    ];
-    expect_eq!(rt;
-        counted,
-        [
-            Ok(None),
-            Ok(Some(0)),
-            Ok(Some(0)),
-            Ok(None),
-            Ok(Some(1)),
-            Ok(Some(0))
-        ]
-    );
+    expect_eq!(rt; misplaced_within(&four, 3), Ok(None));
+    expect_eq!(rt; misplaced_within(&four, 4), Ok(Some(0)));
+    expect_eq!(rt; misplaced_within(&four, u64::MAX), Ok(Some(0)));
+    expect_eq!(rt; misplaced_within(&twice, 1), Ok(None));
+    expect_eq!(rt; misplaced_within(&twice, 2), Ok(Some(1)));
+    expect_eq!(rt; misplaced_within(&no_pairs(), 0), Ok(Some(0)));
 }
 
 // Returns the count of misplaced keys of an index map, and of the strides that it reads.

@@ -99,8 +99,7 @@ fn resolved_at(
 
 #[test]
 fn the_header_of_a_resolver(rt: HostRuntime) {
-    let header = resolved_at(rt.alloc(), &[(1, 2)], 44);
-    expect_eq!(rt; header, Ok((NEAR, true)));
+    expect_eq!(rt; resolved_at(rt.alloc(), &[(1, 2)], 44), Ok((NEAR, true)));
 }
 
 // Does the same as `header_at`, with the index set of these keys.
@@ -124,9 +123,8 @@ fn set_header_at(
 
 #[test]
 fn the_header_of_a_set(rt: HostRuntime) {
-    let header = set_header_at(rt.alloc(), &[1], 40);
     let expected = [
         0xe0, 0xff, 0xff, 0xff, 1, 0, 0, 0, 2, 0, 0, 0, 0xf3, 0xff, 0xff, 0xff,
     ];
-    expect_eq!(rt; header, Ok((expected, true)));
+    expect_eq!(rt; set_header_at(rt.alloc(), &[1], 40), Ok((expected, true)));
 }

@@ -11,7 +11,7 @@ use rkyv_index::{ArchivedIndexMap, IndexMapOf, IndexWidth};
 use rkyv_keys::{KeyElement, Query};
 use rkyv_scan::{FxHasher64, KeyHasher};
 use test_support::archives::four_entries;
-use test_support::changes::change;
+use test_support::changes::{change, with_bytes};
 
 // Writes a byte over the value of a key. Returns the position of the value, if the key is found.
 fn change_found<K: KeyElement, N: Scalar, H: KeyHasher, W: IndexWidth, Q: Query<K>>(
@@ -40,29 +40,17 @@ fn change_small<W: IndexWidth>(
 #[test]
 fn a_found_value_is_written_over_the_bare_bytes(rt: HostRuntime) {
     let mut bytes = four_entries();
-    let pos = change_small::<Narrow>(&mut bytes, 5, 60);
-    let mut expected = four_entries();
-    expected[56] = 60;
+    expect_eq!(rt; change_small::<Narrow>(&mut bytes, 5, 60), Ok(Some(56)));
     let mut wide = wide_pair();
-    let wide_pos = change_small::<Wide>(&mut wide, 1, 20);
-    let mut wide_expected = wide_pair();
-    wide_expected[48] = 20;
-    expect_eq!(rt;
-        (pos, bytes == expected, wide_pos, wide == wide_expected),
-        (Ok(Some(56)), true, Ok(Some(48)), true)
-    );
-}
-
-#[test]
-fn lookup_of_a_missing_key_changes_nothing(rt: HostRuntime) {
+    expect_eq!(rt; change_small::<Wide>(&mut wide, 1, 20), Ok(Some(48)));
+    expect_eq!(rt; bytes, with_bytes(four_entries(), 56, &[60]));
+    expect_eq!(rt; wide, with_bytes(wide_pair(), 48, &[20]));
     let mut bytes = four_entries();
-    let pos = change_small::<Narrow>(&mut bytes, 9, 60);
+    expect_eq!(rt; change_small::<Narrow>(&mut bytes, 9, 60), Ok(None));
     let mut wide = wide_pair();
-    let wide_pos = change_small::<Wide>(&mut wide, 9, 20);
-    expect_eq!(rt;
-        (pos, bytes == four_entries(), wide_pos, wide == wide_pair()),
-        (Ok(None), true, Ok(None), true)
-    );
+    expect_eq!(rt; change_small::<Wide>(&mut wide, 9, 20), Ok(None));
+    expect_eq!(rt; bytes, four_entries());
+    expect_eq!(rt; wide, wide_pair());
 }
 
 // Writes a byte over the value of a key, if the comparison accepts it. Returns the position of
@@ -86,29 +74,17 @@ fn change_accepted<W: IndexWidth>(
 #[test]
 fn an_accepted_value_is_written_over_the_bare_bytes(rt: HostRuntime) {
     let mut bytes = four_entries();
-    let pos = change_accepted::<Narrow>(&mut bytes, 5, true, 60);
-    let mut expected = four_entries();
-    expected[56] = 60;
+    expect_eq!(rt; change_accepted::<Narrow>(&mut bytes, 5, true, 60), Ok(Some(56)));
     let mut wide = wide_pair();
-    let wide_pos = change_accepted::<Wide>(&mut wide, 1, true, 20);
-    let mut wide_expected = wide_pair();
-    wide_expected[48] = 20;
-    expect_eq!(rt;
-        (pos, bytes == expected, wide_pos, wide == wide_expected),
-        (Ok(Some(56)), true, Ok(Some(48)), true)
-    );
-}
-
-#[test]
-fn a_value_that_is_not_accepted_is_unchanged(rt: HostRuntime) {
+    expect_eq!(rt; change_accepted::<Wide>(&mut wide, 1, true, 20), Ok(Some(48)));
+    expect_eq!(rt; bytes, with_bytes(four_entries(), 56, &[60]));
+    expect_eq!(rt; wide, with_bytes(wide_pair(), 48, &[20]));
     let mut bytes = four_entries();
-    let pos = change_accepted::<Narrow>(&mut bytes, 5, false, 60);
+    expect_eq!(rt; change_accepted::<Narrow>(&mut bytes, 5, false, 60), Ok(None));
     let mut wide = wide_pair();
-    let wide_pos = change_accepted::<Wide>(&mut wide, 1, false, 20);
-    expect_eq!(rt;
-        (pos, bytes == four_entries(), wide_pos, wide == wide_pair()),
-        (Ok(None), true, Ok(None), true)
-    );
+    expect_eq!(rt; change_accepted::<Wide>(&mut wide, 1, false, 20), Ok(None));
+    expect_eq!(rt; bytes, four_entries());
+    expect_eq!(rt; wide, wide_pair());
 }
 
 // Returns the length of the map at `root`.
@@ -154,16 +130,10 @@ fn uppercase_three<W: IndexWidth>(bytes: &mut [u8]) -> [Result<Option<bool>, Ver
 #[test]
 fn an_inline_text_is_uppercased_by_its_index(rt: HostRuntime) {
     let mut bytes = two_texts();
-    let uppercased = uppercase_three::<Narrow>(&mut bytes);
-    let mut expected = two_texts();
-    expected[56..61].copy_from_slice(b"HELLO");
-    let mut wide = wide_texts();
-    let wide_uppercased = uppercase_three::<Wide>(&mut wide);
-    let mut wide_expected = wide_texts();
-    wide_expected[80..85].copy_from_slice(b"HELLO");
     let results = [Ok(Some(true)), Ok(Some(false)), Ok(None)];
-    expect_eq!(rt;
-        (uppercased, bytes == expected, wide_uppercased, wide == wide_expected),
-        (results, true, results, true)
-    );
+    expect_eq!(rt; uppercase_three::<Narrow>(&mut bytes), results);
+    let mut wide = wide_texts();
+    expect_eq!(rt; uppercase_three::<Wide>(&mut wide), results);
+    expect_eq!(rt; bytes, with_bytes(two_texts(), 56, b"HELLO"));
+    expect_eq!(rt; wide, with_bytes(wide_texts(), 80, b"HELLO"));
 }

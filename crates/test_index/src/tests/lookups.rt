@@ -20,6 +20,7 @@ use rkyv_scan::{FxHasher64, FxHasher64Wide};
 use rkyv_table::Strides;
 use std::alloc::Global;
 use std::cell::Cell;
+use std::fmt::Debug;
 use std::test::Fail;
 use test_support::archives::four_entries;
 
@@ -38,7 +39,7 @@ pub(crate) fn counts(bytes: &[u8]) -> Result<(usize, usize), VerifyError> {
 }
 
 #[test]
-fn a_pair_is_found_by_its_index(rt: HostRuntime) {
+fn found_pairs_have_their_indices(rt: HostRuntime) -> Result<(), Fail> {
     index_maps_are_laid_out::<Narrow, FxHasher64, i8, i8, i8, i8>();
     items_are_yielded::<i8, i8>();
     pairs_at_are_listed::<i8, i8, i8, i8, FxHasher64, Narrow>();
@@ -50,35 +51,19 @@ fn a_pair_is_found_by_its_index(rt: HostRuntime) {
     texts_found_are_listed::<i8, i8, i8, FxHasher64, Narrow>();
     let four = four_entries();
     expect_eq!(rt; [pair_at(&four, 1), pair_at(&four, 4)], [Ok(Some((3, 4))), Ok(None)]);
-}
-
-// Returns the index and the value of a key, in a map whose header was decoded before.
-fn found_by_header(bytes: &[u8], key: i8) -> Result<Option<(usize, i8)>, VerifyError> {
-    let root = access::<Small>(bytes)?;
+    let bytes = four_entries();
+    let root = access::<Small>(&bytes)?;
     let map = ArchivedIndexMap::with_header(root, ArchivedIndexMap::of(root).header());
-    match map.get_full(&key) {
-        Some((index, _, value)) => Ok(Some((index, value.to_native()))),
-        None => Ok(None),
-    }
-}
-
-#[test]
-fn a_decoded_header_leads_to_the_same_pair(rt: HostRuntime) {
-    expect_eq!(rt; found_by_header(&four_entries(), 7), Ok(Some((3, 8))));
-}
-
-// Returns the index, the key and the value of a key, under the hasher that feeds all bits.
-fn found_by_all_bits(bytes: &[u8], key: i8) -> Result<Option<(usize, i8, i8)>, VerifyError> {
-    let map = ArchivedIndexMap::of(access::<IndexMapOf<i8, i8, FxHasher64Wide>>(bytes)?);
-    match map.get_full(&key) {
-        Some((index, key, value)) => Ok(Some((index, key.to_native(), value.to_native()))),
-        None => Ok(None),
-    }
-}
-
-#[test]
-fn lookup_under_the_hasher_that_feeds_all_bits(rt: HostRuntime) {
-    expect_eq!(rt; found_by_all_bits(&one_pair(), 1), Ok(Some((0, 1, 2))));
+    let found = map
+        .get_full(&7i8)
+        .map(|(index, _, value)| (index, value.to_native()));
+    expect_eq!(rt; found, Some((3, 8)));
+    let bytes = one_pair();
+    let map = ArchivedIndexMap::of(access::<IndexMapOf<i8, i8, FxHasher64Wide>>(&bytes)?);
+    let found = map.get_full(&1i8);
+    let found = found.map(|(index, key, value)| (index, key.to_native(), value.to_native()));
+    expect_eq!(rt; found, Some((0, 1, 2)));
+    Ok(())
 }
 
 // Accepts each key.
@@ -95,20 +80,14 @@ fn reject(_query: &i8, _key: View<'_, i8>) -> bool {
 fn lookup_takes_a_comparison(rt: HostRuntime) -> Result<(), Fail> {
     let bytes = four_entries();
     let map = small_map(&bytes)?;
-    let found = match map.get_full_with(&5i8, accept) {
-        Some((index, _, value)) => (index, value.to_native()),
-        None => (0, 0),
-    };
-    let value = match map.get_with(&5i8, accept) {
-        Some(value) => value.to_native(),
-        None => 0,
-    };
-    let key = match map.get_key_value_with(&5i8, accept) {
-        Some((key, _)) => key.to_native(),
-        None => 0,
-    };
+    let found = map.get_full_with(&5i8, accept);
+    let found = found.map(|(index, _, value)| (index, value.to_native()));
+    let value = map.get_with(&5i8, accept).map(|value| value.to_native());
+    let key = map
+        .get_key_value_with(&5i8, accept)
+        .map(|(key, _)| key.to_native());
     let index = map.get_index_of_with(&5i8, accept);
-    expect_eq!(rt; (found, value, key), ((2, 6), 6, 5));
+    expect_eq!(rt; (found, value, key), (Some((2, 6)), Some(6), Some(5)));
     assert!(rt; index == Some(2));
     Ok(())
 }
@@ -165,10 +144,7 @@ pub(crate) fn next_key<V: Element>(rest: &mut Keys<'_, i8, V>) -> Option<i8> {
 
 // Returns the next value.
 fn next_value(rest: &mut Values<'_, i8, i8>) -> Option<i8> {
-    match rest.next() {
-        Some(value) => Some(value.to_native()),
-        None => None,
-    }
+    rest.next().map(|value| value.to_native())
 }
 
 // Takes six steps of an iterator by a function. Returns their results, and then `len` and
@@ -248,22 +224,15 @@ fn strides_are_counted(rt: HostRuntime) -> Result<(), Fail> {
     let none = no_pairs();
     let empty = small_map(&none)?;
     let mut strides = Strides::new();
-    let found = map.get_index_of_counted(&5i8, |_: &i8, _: View<'_, i8>| true, &mut strides);
-    let one = strides.count();
-    let rejected = map.get_index_of_counted(&5i8, reject, &mut strides);
-    let two = strides.count();
-    let nothing = empty.get_index_of_counted(&5i8, accept, &mut strides);
-    expect_eq!(rt;
-        (found, rejected, nothing, one, two, strides.count()),
-        (Some(2), None, None, 1, 2, 2)
-    );
-    Ok(())
-}
-
-// Seventeen equal keys fill the sixteen buckets of the first stride of their hash, and one of the
-// second stride, which has an empty control byte behind it.
-#[test]
-fn strides_of_seventeen_keys_under_one_hash(rt: HostRuntime) -> Result<(), Fail> {
+    expect_eq!(rt; map.get_index_of_counted(&5i8, |_: &i8, _: View<'_, i8>| true, &mut strides),
+        Some(2));
+    expect_eq!(rt; strides.count(), 1);
+    expect_eq!(rt; map.get_index_of_counted(&5i8, reject, &mut strides), None);
+    expect_eq!(rt; strides.count(), 2);
+    expect_eq!(rt; empty.get_index_of_counted(&5i8, accept, &mut strides), None);
+    expect_eq!(rt; strides.count(), 2);
+    // Seventeen equal keys fill the sixteen buckets of the first stride of their hash, and one of
+    // the second stride, which has an empty control byte behind it.
     let bytes = narrow(rt.alloc(), &[(1, 2); 17])?;
     let map = small_map(bytes.as_slice())?;
     let last = match map.get_index(16) {
@@ -271,14 +240,13 @@ fn strides_of_seventeen_keys_under_one_hash(rt: HostRuntime) -> Result<(), Fail>
         None => 0,
     };
     let mut strides = Strides::new();
-    let first = map.get_index_of_counted(&1i8, accept, &mut strides);
-    let one = strides.count();
+    expect_eq!(rt; map.get_index_of_counted(&1i8, accept, &mut strides), Some(0));
+    expect_eq!(rt; strides.count(), 1);
     let at = |_: &i8, key: View<'_, i8>| key.pos() == last;
-    let behind = map.get_index_of_counted(&1i8, at, &mut strides);
-    let three = strides.count();
-    let rejected = map.get_index_of_counted(&1i8, reject, &mut strides);
-    expect_eq!(rt; (first, behind, rejected), (Some(0), Some(16), None));
-    expect_eq!(rt; (one, three, strides.count()), (1, 3, 5));
+    expect_eq!(rt; map.get_index_of_counted(&1i8, at, &mut strides), Some(16));
+    expect_eq!(rt; strides.count(), 3);
+    expect_eq!(rt; map.get_index_of_counted(&1i8, reject, &mut strides), None);
+    expect_eq!(rt; strides.count(), 5);
     Ok(())
 }
 
@@ -303,75 +271,40 @@ fn equality_is_that_of_the_lists(rt: HostRuntime) -> Result<(), Fail> {
     Ok(())
 }
 
-// Returns whether the bytes are valid and their map prints as `text`.
-fn prints(alloc: Global, bytes: &[u8], text: &str) -> bool {
-    match small_map(bytes) {
-        Ok(map) => matches!(format!(in alloc; "{map:?}"), Ok(shown) if shown.as_str() == text),
-        Err(_) => false,
-    }
+// Returns whether a value prints as `text`.
+pub(crate) fn prints<M: Debug>(alloc: Global, value: &M, text: &str) -> bool {
+    matches!(format!(in alloc; "{value:?}"), Ok(shown) if shown.as_str() == text)
 }
 
 #[test]
-fn maps_are_printed(rt: HostRuntime) {
-    let printed = [
-        prints(rt.alloc(), &four_entries(), "{1: 2, 3: 4, 5: 6, 7: 8}"),
-        prints(rt.alloc(), &no_pairs(), "{}"),
-    ];
-    expect_eq!(rt; printed, [true; 2]);
+fn maps_are_printed(rt: HostRuntime) -> Result<(), Fail> {
+    let (four, none) = (four_entries(), no_pairs());
+    expect_eq!(rt; prints(rt.alloc(), &small_map(&four)?, "{1: 2, 3: 4, 5: 6, 7: 8}"), true);
+    expect_eq!(rt; prints(rt.alloc(), &small_map(&none)?, "{}"), true);
+    Ok(())
 }
 
 type Nested = IndexMapOf<i8, Small>;
 
 type Sets = IndexMapOf<i8, IndexSetOf<i8>>;
 
-// Returns whether the map of maps in an archive prints as `text`, and whether it equals itself.
-fn nested_prints(alloc: Global, bytes: &[u8], text: &str) -> Result<(bool, bool), VerifyError> {
-    let map = ArchivedIndexMap::of(access::<Nested>(bytes)?);
-    let printed = matches!(format!(in alloc; "{map:?}"), Ok(shown) if shown.as_str() == text);
-    Ok((printed, map == map))
-}
-
-// Does the same with a map of sets.
-fn sets_print(alloc: Global, bytes: &[u8], text: &str) -> Result<(bool, bool), VerifyError> {
-    let map = ArchivedIndexMap::of(access::<Sets>(bytes)?);
-    let printed = matches!(format!(in alloc; "{map:?}"), Ok(shown) if shown.as_str() == text);
-    Ok((printed, map == map))
-}
-
 #[test]
-fn an_index_map_in_an_index_map(rt: HostRuntime) {
-    let found = nested_prints(rt.alloc(), &map_in_a_map(), "{1: {1: 2}}");
-    expect_eq!(rt; found, Ok((true, true)));
-}
-
-// Returns the archive of the index map of 1 to the index set of 4, 1 and 3.
-fn set_in_a_map(alloc: Global) -> Result<Vec<u8>, Fail> {
-    let items = OrderedItems(vec![in alloc; 4i8, 1, 3]?);
-    let outer = OrderedPairs(vec![in alloc; (1i8, items)]?);
-    Ok(to_bytes(alloc, &outer)?)
-}
-
-#[test]
-fn an_index_set_in_an_index_map(rt: HostRuntime) -> Result<(), Fail> {
-    let bytes = set_in_a_map(rt.alloc())?;
-    let found = sets_print(rt.alloc(), bytes.as_slice(), "{1: {4, 1, 3}}");
-    expect_eq!(rt; found, Ok((true, true)));
+fn nested_collections_are_printed_and_compared(rt: HostRuntime) -> Result<(), Fail> {
+    let bytes = map_in_a_map();
+    let map = ArchivedIndexMap::of(access::<Nested>(&bytes)?);
+    expect_eq!(rt; (prints(rt.alloc(), &map, "{1: {1: 2}}"), map == map), (true, true));
+    let items = OrderedItems(vec![in rt.alloc(); 4i8, 1, 3]?);
+    let outer = OrderedPairs(vec![in rt.alloc(); (1i8, items)]?);
+    let bytes = to_bytes(rt.alloc(), &outer)?;
+    let map = ArchivedIndexMap::of(access::<Sets>(bytes.as_slice())?);
+    expect_eq!(rt; (prints(rt.alloc(), &map, "{1: {4, 1, 3}}"), map == map), (true, true));
     Ok(())
 }
 
-// Returns the length of a copy of a map.
-fn copied_len(bytes: &[u8]) -> Option<usize> {
-    match small_map(bytes) {
-        Ok(map) => match map.clone() {
-            Ok(copy) => Some(copy.len()),
-            Err(_) => None,
-        },
-        Err(_) => None,
-    }
-}
-
 #[test]
-fn a_copy_of_a_map_is_read(rt: HostRuntime) {
+fn a_copy_of_a_map_is_read(rt: HostRuntime) -> Result<(), Fail> {
     clones_are_the_same::<i8, i8, FxHasher64, Narrow>();
-    expect_eq!(rt; copied_len(&four_entries()), Some(4));
+    let bytes = four_entries();
+    expect_eq!(rt; small_map(&bytes)?.clone()?.len(), 4);
+    Ok(())
 }

@@ -115,34 +115,21 @@ fn differences(one: &[u8], other: &[u8]) -> Option<usize> {
 }
 
 #[test]
-fn a_hash_map_in_an_index_map_is_written(rt: HostRuntime) -> Result<(), Fail> {
+fn maps_of_the_other_kind_are_written_in_place(rt: HostRuntime) -> Result<(), Fail> {
     nested_writes_keep_index_maps::<i8, HashMapOf<i8, i8>, FxHasher64, Narrow>();
     let before = maps_in_order(rt.alloc())?;
     let mut bytes = maps_in_order(rt.alloc())?;
-    let written = [
-        write_in_map(&mut bytes, 1, 7),
-        write_in_map(&mut bytes, 2, 8),
-    ];
-    expect_eq!(rt; written, [Ok(true), Ok(false)]);
+    expect_eq!(rt; write_in_map(&mut bytes, 1, 7), Ok(true));
+    expect_eq!(rt; write_in_map(&mut bytes, 2, 8), Ok(false));
     expect_eq!(rt; differences(&before, &bytes), Some(1));
-    let values = [value_in_map(&before), value_in_map(&bytes)];
-    expect_eq!(rt; values, [Ok(Some(2)), Ok(Some(7))]);
-    Ok(())
-}
-
-#[test]
-fn an_index_map_in_a_hash_map_is_written(rt: HostRuntime) -> Result<(), Fail> {
+    expect_eq!(rt; [value_in_map(&before), value_in_map(&bytes)], [Ok(Some(2)), Ok(Some(7))]);
     nested_writes_keep_maps::<i8, IndexMapOf<i8, i8>, FxHasher64, Narrow>();
     nested_writes_keep_lookups::<i8, IndexMapOf<i8, i8>, i8, FxHasher64, Narrow>();
     let before = ordered_maps(rt.alloc())?;
     let mut bytes = ordered_maps(rt.alloc())?;
-    let written = [
-        write_in_order(&mut bytes, 1, 7),
-        write_in_order(&mut bytes, 2, 8),
-    ];
-    expect_eq!(rt; written, [Ok(true), Ok(false)]);
+    expect_eq!(rt; write_in_order(&mut bytes, 1, 7), Ok(true));
+    expect_eq!(rt; write_in_order(&mut bytes, 2, 8), Ok(false));
     expect_eq!(rt; differences(&before, &bytes), Some(1));
-    let values = [value_in_order(&before), value_in_order(&bytes)];
-    expect_eq!(rt; values, [Ok(Some(2)), Ok(Some(7))]);
+    expect_eq!(rt; [value_in_order(&before), value_in_order(&bytes)], [Ok(Some(2)), Ok(Some(7))]);
     Ok(())
 }

@@ -33,14 +33,13 @@ fn is_read<W: IndexWidth>(alloc: Global, bytes: &[u8], pairs: &[(i8, i8)]) -> bo
 fn pairs_are_read_back_in_their_order(rt: HostRuntime) {
     pairs_read_back_are_listed::<i8, i8, i8, i8, FxHasher64, Narrow>();
     let alloc = rt.alloc();
-    let read = [
-        is_read::<Narrow>(alloc, &four_entries(), &[(1, 2), (3, 4), (5, 6), (7, 8)]),
-        is_read::<Narrow>(alloc, &one_key_twice(), &[(1, 2), (1, 9)]),
-        is_read::<Narrow>(alloc, &no_pairs(), &[]),
-        is_read::<Wide>(alloc, &wide_pair(), &[(1, 2)]),
-        is_read::<Narrow>(alloc, &four_entries(), &[(1, 2), (3, 4), (7, 8), (5, 6)]),
-    ];
-    expect_eq!(rt; read, [true, true, true, true, false]);
+    expect_eq!(rt; is_read::<Narrow>(alloc, &four_entries(), &[(1, 2), (3, 4), (5, 6), (7, 8)]),
+        true);
+    expect_eq!(rt; is_read::<Narrow>(alloc, &one_key_twice(), &[(1, 2), (1, 9)]), true);
+    expect_eq!(rt; is_read::<Narrow>(alloc, &no_pairs(), &[]), true);
+    expect_eq!(rt; is_read::<Wide>(alloc, &wide_pair(), &[(1, 2)]), true);
+    expect_eq!(rt; is_read::<Narrow>(alloc, &four_entries(), &[(1, 2), (3, 4), (7, 8), (5, 6)]),
+        false);
 }
 
 // Returns the items in the archive of an index set, if it is valid and no allocation fails.
@@ -50,10 +49,7 @@ fn items(alloc: Global, bytes: &[u8]) -> Option<Vec<i8>> {
 
 // Returns whether these are exactly the items in the archive.
 fn are_items(alloc: Global, bytes: &[u8], expected: &[i8]) -> bool {
-    match items(alloc, bytes) {
-        Some(list) => list.as_slice() == expected,
-        None => false,
-    }
+    matches!(items(alloc, bytes), Some(list) if list.as_slice() == expected)
 }
 
 #[test]
@@ -62,14 +58,11 @@ fn items_are_read_back_in_their_order(rt: HostRuntime) -> Result<(), Fail> {
     let alloc = rt.alloc();
     let written = set_archive(alloc, &[4, 1, 3])?;
     let equal = set_archive(alloc, &[1, 1])?;
-    let read = [
-        are_items(alloc, written.as_slice(), &[4, 1, 3]),
-        are_items(alloc, &one_index_key(), &[1]),
-        are_items(alloc, &no_pairs(), &[]),
-        are_items(alloc, equal.as_slice(), &[1, 1]),
-        are_items(alloc, written.as_slice(), &[1, 3, 4]),
-    ];
-    expect_eq!(rt; read, [true, true, true, true, false]);
+    expect_eq!(rt; are_items(alloc, written.as_slice(), &[4, 1, 3]), true);
+    expect_eq!(rt; are_items(alloc, &one_index_key(), &[1]), true);
+    expect_eq!(rt; are_items(alloc, &no_pairs(), &[]), true);
+    expect_eq!(rt; are_items(alloc, equal.as_slice(), &[1, 1]), true);
+    expect_eq!(rt; are_items(alloc, written.as_slice(), &[1, 3, 4]), false);
     Ok(())
 }
 
@@ -90,9 +83,6 @@ fn numbers_round_trip(alloc: Global) -> Option<bool> {
 #[test]
 fn lists_round_trip(rt: HostRuntime) {
     let alloc = rt.alloc();
-    let back = [
-        names_round_trip(alloc, "main", "a name of more than eight bytes"),
-        numbers_round_trip(alloc),
-    ];
-    expect_eq!(rt; back, [Some(true); 2]);
+    expect_eq!(rt; names_round_trip(alloc, "main", "a name of more than eight bytes"), Some(true));
+    expect_eq!(rt; numbers_round_trip(alloc), Some(true));
 }

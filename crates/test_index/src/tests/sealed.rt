@@ -23,6 +23,7 @@ use rkyv_index::{ArchivedIndexMap, IndexMapOf, IndexWidth, OrderedPairs};
 use rkyv_keys::{KeyElement, Query};
 use rkyv_scan::{FxHasher64, KeyHasher};
 use test_support::archives::four_entries;
+use test_support::changes::with_bytes;
 
 type Small = IndexMapOf<i8, i8>;
 
@@ -30,88 +31,59 @@ type SmallOf<W> = IndexMapOf<i8, i8, FxHasher64, W>;
 
 // Returns the value of a key, by a plain lookup.
 fn value_of(bytes: &[u8], key: i8) -> Result<Option<i8>, VerifyError> {
-    match small_map(bytes)?.get(&key) {
-        Some(value) => Ok(Some(value.to_native())),
-        None => Ok(None),
-    }
+    Ok(small_map(bytes)?.get(&key).map(|value| value.to_native()))
 }
 
-// Writes a number over the value of a key. Returns the index, the key, and the value before that.
-fn replace<W: IndexWidth>(
-    bytes: &mut [u8],
-    key: i8,
-    value: i8,
-) -> Result<Option<(usize, i8, i8)>, VerifyError> {
-    let whole = access_mut_in::<W, SmallOf<W>>(bytes)?;
-    match ArchivedIndexMap::get_full_seal(whole, &key) {
-        Some((index, stored, mut seal)) => {
-            let before = (index, stored.to_native(), seal.to_native());
-            seal.set(value);
-            Ok(Some(before))
+// Writes a number by a found seal, after what is read before.
+macro_rules! write_found {
+    ($found:expr, $pattern:pat => $seal:ident, $value:expr; $before:expr) => {
+        match $found {
+            Some($pattern) => {
+                let before = $before;
+                $seal.set($value);
+                Ok(Some(before))
+            }
+            None => Ok(None),
         }
-        None => Ok(None),
-    }
+    };
+}
+
+type Full = Result<Option<(usize, i8, i8)>, VerifyError>;
+
+type Pair = Result<Option<(i8, i8)>, VerifyError>;
+
+// Writes a number over the value of a key. Returns the index, the key, and the value before that.
+fn replace<W: IndexWidth>(bytes: &mut [u8], key: i8, value: i8) -> Full {
+    let found = ArchivedIndexMap::get_full_seal(access_mut_in::<W, SmallOf<W>>(bytes)?, &key);
+    write_found!(found, (index, stored, mut seal) => seal, value;
+        (index, stored.to_native(), seal.to_native()))
 }
 
 // Does the same by a comparison that always returns `accepts`.
-fn replace_by(
-    bytes: &mut [u8],
-    key: i8,
-    value: i8,
-    accepts: bool,
-) -> Result<Option<(usize, i8, i8)>, VerifyError> {
+fn replace_by(bytes: &mut [u8], key: i8, value: i8, accepts: bool) -> Full {
     let whole = small_seal(bytes)?;
-    match ArchivedIndexMap::get_full_seal_with(whole, &key, |_: &i8, _: View<'_, i8>| accepts) {
-        Some((index, stored, mut seal)) => {
-            let before = (index, stored.to_native(), seal.to_native());
-            seal.set(value);
-            Ok(Some(before))
-        }
-        None => Ok(None),
-    }
+    let accept = |_: &i8, _: View<'_, i8>| accepts;
+    let found = ArchivedIndexMap::get_full_seal_with(whole, &key, accept);
+    write_found!(found, (index, stored, mut seal) => seal, value;
+        (index, stored.to_native(), seal.to_native()))
 }
 
 // Does the same by `get_key_value_seal`. Returns the key, and the value before the write.
-fn replace_beside_key(
-    bytes: &mut [u8],
-    key: i8,
-    value: i8,
-) -> Result<Option<(i8, i8)>, VerifyError> {
-    let whole = small_seal(bytes)?;
-    match ArchivedIndexMap::get_key_value_seal(whole, &key) {
-        Some((stored, mut seal)) => {
-            let before = (stored.to_native(), seal.to_native());
-            seal.set(value);
-            Ok(Some(before))
-        }
-        None => Ok(None),
-    }
+fn replace_beside_key(bytes: &mut [u8], key: i8, value: i8) -> Pair {
+    let found = ArchivedIndexMap::get_key_value_seal(small_seal(bytes)?, &key);
+    write_found!(found, (stored, mut seal) => seal, value; (stored.to_native(), seal.to_native()))
 }
 
 // Does the same by a comparison that always returns `accepts`.
-fn replace_beside_key_by(
-    bytes: &mut [u8],
-    key: i8,
-    value: i8,
-    accepts: bool,
-) -> Result<Option<(i8, i8)>, VerifyError> {
+fn replace_beside_key_by(bytes: &mut [u8], key: i8, value: i8, accepts: bool) -> Pair {
     let whole = small_seal(bytes)?;
-    match ArchivedIndexMap::get_key_value_seal_with(
-        whole,
-        &key,
-        |_: &i8, _: View<'_, i8>| accepts,
-    ) {
-        Some((stored, mut seal)) => {
-            let before = (stored.to_native(), seal.to_native());
-            seal.set(value);
-            Ok(Some(before))
-        }
-        None => Ok(None),
-    }
+    let accept = |_: &i8, _: View<'_, i8>| accepts;
+    let found = ArchivedIndexMap::get_key_value_seal_with(whole, &key, accept);
+    write_found!(found, (stored, mut seal) => seal, value; (stored.to_native(), seal.to_native()))
 }
 
 // Writes a number over the value of a key. Returns the values before and after the write.
-fn replace_value(bytes: &mut [u8], key: i8, value: i8) -> Result<Option<(i8, i8)>, VerifyError> {
+fn replace_value(bytes: &mut [u8], key: i8, value: i8) -> Pair {
     let whole = access_mut::<Small>(bytes)?;
     match ArchivedIndexMap::get_seal(whole, &key) {
         Some(mut seal) => {
@@ -123,7 +95,7 @@ fn replace_value(bytes: &mut [u8], key: i8, value: i8) -> Result<Option<(i8, i8)
     }
 }
 
-// Does the same by a comparison that always returns `accepts`. Returns the value before the write.
+// Does the same by a comparison that always returns `accepts`.
 fn replace_value_by(
     bytes: &mut [u8],
     key: i8,
@@ -131,106 +103,42 @@ fn replace_value_by(
     accepts: bool,
 ) -> Result<Option<i8>, VerifyError> {
     let whole = small_seal(bytes)?;
-    match ArchivedIndexMap::get_seal_with(whole, &key, |_: &i8, _: View<'_, i8>| accepts) {
-        Some(mut seal) => {
-            let before = seal.to_native();
-            seal.set(value);
-            Ok(Some(before))
-        }
-        None => Ok(None),
-    }
+    let accept = |_: &i8, _: View<'_, i8>| accepts;
+    let found = ArchivedIndexMap::get_seal_with(whole, &key, accept);
+    write_found!(found, mut seal => seal, value; seal.to_native())
 }
 
 #[test]
-fn a_found_value_is_written_in_place(rt: HostRuntime) {
+fn found_values_are_written_in_place(rt: HostRuntime) {
     value_writes_keep_index_maps::<i8, i8, FxHasher64, Narrow>();
     value_writes_keep_lookups::<i8, i8, i8, FxHasher64, Narrow>();
     values_written_represent::<i8, i8, i8, i8, FxHasher64, Narrow>();
     let mut bytes = one_pair();
-    let replaced = replace::<Narrow>(&mut bytes, 1, -1);
-    let found = value_of(&bytes, 1);
-    let mut expected = one_pair();
-    expected[40] = 0xff;
-    expect_eq!(rt;
-        (replaced, found, bytes == expected),
-        (Ok(Some((0, 1, 2))), Ok(Some(-1)), true)
-    );
-}
-
-#[test]
-fn a_value_of_a_wide_map_is_written_in_place(rt: HostRuntime) {
+    expect_eq!(rt; replace::<Narrow>(&mut bytes, 1, -1), Ok(Some((0, 1, 2))));
+    expect_eq!(rt; value_of(&bytes, 1), Ok(Some(-1)));
+    expect_eq!(rt; bytes, with_bytes(one_pair(), 40, &[0xff]));
     let mut bytes = wide_pair();
-    let replaced = [
-        replace::<Wide>(&mut bytes, 1, -1),
-        replace::<Wide>(&mut bytes, 2, 7),
-    ];
-    let mut expected = wide_pair();
-    expected[48] = 0xff;
-    expect_eq!(rt; (replaced, bytes == expected), ([Ok(Some((0, 1, 2))), Ok(None)], true));
-}
-
-#[test]
-fn every_form_writes_the_same(rt: HostRuntime) {
+    expect_eq!(rt; replace::<Wide>(&mut bytes, 1, -1), Ok(Some((0, 1, 2))));
+    expect_eq!(rt; replace::<Wide>(&mut bytes, 2, 7), Ok(None));
+    expect_eq!(rt; bytes, with_bytes(wide_pair(), 48, &[0xff]));
     let mut bytes = four_entries();
-    let replaced = [
-        replace::<Narrow>(&mut bytes, 7, 80),
-        replace_by(&mut bytes, 3, 40, true),
-    ];
-    let beside_key = replace_beside_key(&mut bytes, 5, 60);
-    let value = replace_value(&mut bytes, 1, 20);
-    let mut expected = four_entries();
-    expected[51..59].copy_from_slice(&[1, 20, 3, 40, 5, 60, 7, 80]);
-    expect_eq!(rt;
-        (replaced, beside_key, value, bytes == expected),
-        (
-            [Ok(Some((3, 7, 8))), Ok(Some((1, 3, 4)))],
-            Ok(Some((5, 6))),
-            Ok(Some((2, 20))),
-            true,
-        )
-    );
-}
-
-#[test]
-fn values_found_by_a_comparison_are_written(rt: HostRuntime) {
+    expect_eq!(rt; replace::<Narrow>(&mut bytes, 7, 80), Ok(Some((3, 7, 8))));
+    expect_eq!(rt; replace_by(&mut bytes, 3, 40, true), Ok(Some((1, 3, 4))));
+    expect_eq!(rt; replace_beside_key(&mut bytes, 5, 60), Ok(Some((5, 6))));
+    expect_eq!(rt; replace_value(&mut bytes, 1, 20), Ok(Some((2, 20))));
+    expect_eq!(rt; bytes, with_bytes(four_entries(), 51, &[1, 20, 3, 40, 5, 60, 7, 80]));
     let (mut pair_bytes, mut value_bytes) = (four_entries(), four_entries());
-    let pair = replace_beside_key_by(&mut pair_bytes, 5, 60, true);
-    let value = replace_value_by(&mut value_bytes, 5, 60, true);
-    let mut expected = four_entries();
-    expected[56] = 60;
-    let same = [pair_bytes == expected, value_bytes == expected];
-    expect_eq!(rt; (pair, value, same), (Ok(Some((5, 6))), Ok(Some(6)), [true; 2]));
-}
-
-#[test]
-fn unsuccessful_lookup_returns_no_seal(rt: HostRuntime) {
+    expect_eq!(rt; replace_beside_key_by(&mut pair_bytes, 5, 60, true), Ok(Some((5, 6))));
+    expect_eq!(rt; replace_value_by(&mut value_bytes, 5, 60, true), Ok(Some(6)));
+    expect_eq!(rt; [pair_bytes, value_bytes], [with_bytes(four_entries(), 56, &[60]); 2]);
     let mut bytes = four_entries();
-    let full = [
-        replace::<Narrow>(&mut bytes, 9, 80),
-        replace_by(&mut bytes, 3, 40, false),
-    ];
-    let beside_key = replace_beside_key(&mut bytes, 2, 60);
-    let value = replace_value(&mut bytes, 2, 20);
-    let by_comparison = (
-        replace_beside_key_by(&mut bytes, 5, 60, false),
-        replace_value_by(&mut bytes, 5, 60, false),
-    );
-    expect_eq!(rt;
-        (
-            full,
-            beside_key,
-            value,
-            by_comparison,
-            bytes == four_entries()
-        ),
-        (
-            [Ok(None); 2],
-            Ok(None),
-            Ok(None),
-            (Ok(None), Ok(None)),
-            true
-        )
-    );
+    expect_eq!(rt; replace::<Narrow>(&mut bytes, 9, 80), Ok(None));
+    expect_eq!(rt; replace_by(&mut bytes, 3, 40, false), Ok(None));
+    expect_eq!(rt; replace_beside_key(&mut bytes, 2, 60), Ok(None));
+    expect_eq!(rt; replace_value(&mut bytes, 2, 20), Ok(None));
+    expect_eq!(rt; replace_beside_key_by(&mut bytes, 5, 60, false), Ok(None));
+    expect_eq!(rt; replace_value_by(&mut bytes, 5, 60, false), Ok(None));
+    expect_eq!(rt; bytes, four_entries());
 }
 
 // Returns the index of a key, by a plain lookup in the map at `root`.
@@ -269,17 +177,10 @@ fn write_small(bytes: &mut [u8], key: i8, value: i8) -> Result<Option<usize>, Ve
 #[test]
 fn a_value_is_written_by_its_index(rt: HostRuntime) {
     let mut bytes = four_entries();
-    let written = [
-        write_small(&mut bytes, 5, -1),
-        write_small(&mut bytes, 9, 0),
-    ];
-    let found = value_of(&bytes, 5);
-    let mut expected = four_entries();
-    expected[56] = 0xff;
-    expect_eq!(rt;
-        (written, found, bytes == expected),
-        ([Ok(Some(2)), Ok(None)], Ok(Some(-1)), true)
-    );
+    expect_eq!(rt; write_small(&mut bytes, 5, -1), Ok(Some(2)));
+    expect_eq!(rt; write_small(&mut bytes, 9, 0), Ok(None));
+    expect_eq!(rt; value_of(&bytes, 5), Ok(Some(-1)));
+    expect_eq!(rt; bytes, with_bytes(four_entries(), 56, &[0xff]));
 }
 
 // Returns the position of the value of a key, which is valid.
@@ -311,15 +212,8 @@ fn a_value_of_an_inner_map_is_written(rt: HostRuntime) {
     nested_writes_keep_lookups::<i8, Small, i8, FxHasher64, Narrow>();
     nested_writes_represent::<i8, OrderedPairs<i8, i8>, i8, Small, FxHasher64, Narrow>();
     let mut bytes = map_in_a_map();
-    let written = [
-        write_inner(&mut bytes, 1, 1, 7),
-        write_inner(&mut bytes, 1, 2, 8),
-        write_inner(&mut bytes, 2, 1, 9),
-    ];
-    let mut expected = map_in_a_map();
-    expected[80] = 7;
-    expect_eq!(rt;
-        (written, bytes == expected),
-        ([Ok(true), Ok(false), Ok(false)], true)
-    );
+    expect_eq!(rt; write_inner(&mut bytes, 1, 1, 7), Ok(true));
+    expect_eq!(rt; write_inner(&mut bytes, 1, 2, 8), Ok(false));
+    expect_eq!(rt; write_inner(&mut bytes, 2, 1, 9), Ok(false));
+    expect_eq!(rt; bytes, with_bytes(map_in_a_map(), 80, &[7]));
 }

@@ -1,7 +1,7 @@
 //! Tests of index sets.
 
 use crate::tests::archives::{no_pairs, one_key_parts};
-use crate::tests::lookups::{Lengths, next_key};
+use crate::tests::lookups::{Lengths, next_key, prints};
 use crate::tests::opened::key_set;
 use crate::tests::writing::{expect_archive, set_archive};
 use rkyv_base::access::access;
@@ -33,11 +33,10 @@ fn one_item_is_written(rt: HostRuntime) -> Result<(), Fail> {
     let bytes = set_archive(alloc, &[1])?;
     expect_eq!(rt; bytes.as_slice(), one_index_key().as_slice());
     let set = key_set(bytes.as_slice())?;
-    let found = match set.get_full(&1) {
-        Some((index, key)) => (index, key.to_native()),
-        None => (9, 0),
-    };
-    expect_eq!(rt; found, (0, 1));
+    let found = set
+        .get_full(&1i8)
+        .map(|(index, key)| (index, key.to_native()));
+    expect_eq!(rt; found, Some((0, 1)));
     Ok(())
 }
 
@@ -85,26 +84,15 @@ fn keys_are_found(rt: HostRuntime) -> Result<(), Fail> {
     let alloc = rt.alloc();
     let bytes = set_archive(alloc, &[4, 1, 3])?;
     let set = ArchivedIndexSet::of(access::<Keys>(bytes.as_slice())?);
-    let stored = match set.get(&3) {
-        Some(key) => key.to_native(),
-        None => 0,
-    };
-    let first = match set.get_index(0) {
-        Some(key) => key.to_native(),
-        None => 0,
-    };
-    expect_eq!(rt; (stored, first, set.len(), set.misplaced()), (3, 4, 3, 0));
-    let up_to = (set.misplaced_up_to(2), set.misplaced_up_to(3));
-    expect_eq!(rt; up_to, (None, Some(0)));
-    let has = set.contains(&3);
-    let none = set.contains(&2);
-    let same = set.eq_index(set);
-    expect_eq!(rt;
-        (has, none, same, set.is_empty()),
-        (true, false, true, false)
-    );
-    let index = set.get_index_of(&3);
-    assert!(rt; index == Some(2));
+    let stored = set.get(&3i8).map(|key| key.to_native());
+    let first = set.get_index(0).map(|key| key.to_native());
+    expect_eq!(rt; (stored, first, set.len(), set.misplaced()), (Some(3), Some(4), 3, 0));
+    expect_eq!(rt; (set.misplaced_up_to(2), set.misplaced_up_to(3)), (None, Some(0)));
+    expect_eq!(rt; set.contains(&3), true);
+    expect_eq!(rt; set.contains(&2), false);
+    expect_eq!(rt; set.eq_index(set), true);
+    expect_eq!(rt; set.is_empty(), false);
+    assert!(rt; set.get_index_of(&3) == Some(2));
     assert!(rt; set.get_index(3).is_none());
     // 4, 1 and 3 are digits to the base 5.
     let mut digits = [0i8; 2];
@@ -129,11 +117,8 @@ fn misplaced_keys_are_counted(rt: HostRuntime) -> Result<(), Fail> {
     let twice = set_archive(rt.alloc(), &[4, 1, 4])?;
     let mut changed = one_index_key();
     changed[39] = 5;
-    let found = [
-        misplaced_and_five(twice.as_slice()),
-        misplaced_and_five(&changed),
-    ];
-    expect_eq!(rt; found, [Ok((1, false)); 2]);
+    expect_eq!(rt; misplaced_and_five(twice.as_slice()), Ok((1, false)));
+    expect_eq!(rt; misplaced_and_five(&changed), Ok((1, false)));
     Ok(())
 }
 
@@ -163,68 +148,19 @@ fn a_walk_keeps_the_order(rt: HostRuntime) -> Result<(), Fail> {
     Ok(())
 }
 
-// Returns whether the sets in two archives are equal by `eq_index`.
-fn are_equal(first: &[u8], second: &[u8]) -> Result<bool, VerifyError> {
-    let set = key_set(first)?;
-    let other = key_set(second)?;
-    Ok(set.eq_index(other))
-}
-
 #[test]
-fn equality_is_that_of_the_lists(rt: HostRuntime) -> Result<(), Fail> {
+fn sets_are_compared_printed_and_copied(rt: HostRuntime) -> Result<(), Fail> {
     let bytes = set_archive(rt.alloc(), &[4, 1, 3])?;
     let backwards = set_archive(rt.alloc(), &[3, 1, 4])?;
-    let equal = [
-        are_equal(bytes.as_slice(), bytes.as_slice()),
-        are_equal(bytes.as_slice(), backwards.as_slice()),
-    ];
-    expect_eq!(rt; equal, [Ok(true), Ok(false)]);
-    Ok(())
-}
-
-// Returns whether the bytes are valid and their set prints as `text`.
-fn prints(alloc: Global, bytes: &[u8], text: &str) -> bool {
-    match key_set(bytes) {
-        Ok(set) => matches!(format!(in alloc; "{set:?}"), Ok(shown) if shown.as_str() == text),
-        Err(_) => false,
-    }
-}
-
-#[test]
-fn sets_are_printed(rt: HostRuntime) -> Result<(), Fail> {
+    let (set, other) = (key_set(bytes.as_slice())?, key_set(backwards.as_slice())?);
+    expect_eq!(rt; (set.eq_index(set), set.eq_index(other)), (true, false));
     let bytes = set_archive(rt.alloc(), &[4, 1, 3])?;
-    let printed = [
-        prints(rt.alloc(), &one_index_key(), "{1}"),
-        prints(rt.alloc(), bytes.as_slice(), "{4, 1, 3}"),
-        prints(rt.alloc(), &no_pairs(), "{}"),
-    ];
-    expect_eq!(rt; printed, [true; 3]);
-    Ok(())
-}
-
-// Returns the number of buckets of a set.
-fn capacity(bytes: &[u8]) -> Result<usize, VerifyError> {
-    Ok(key_set(bytes)?.capacity())
-}
-
-#[test]
-fn the_buckets_of_a_set(rt: HostRuntime) {
-    expect_eq!(rt; capacity(&one_index_key()), Ok(2));
-}
-
-// Returns the length of a copy of a set.
-fn copied_len(bytes: &[u8]) -> Option<usize> {
-    match key_set(bytes) {
-        Ok(set) => match set.clone() {
-            Ok(copy) => Some(copy.len()),
-            Err(_) => None,
-        },
-        Err(_) => None,
-    }
-}
-
-#[test]
-fn a_copy_of_a_set_is_read(rt: HostRuntime) {
+    let (one, none) = (one_index_key(), no_pairs());
+    expect_eq!(rt; prints(rt.alloc(), &key_set(&one)?, "{1}"), true);
+    expect_eq!(rt; prints(rt.alloc(), &key_set(bytes.as_slice())?, "{4, 1, 3}"), true);
+    expect_eq!(rt; prints(rt.alloc(), &key_set(&none)?, "{}"), true);
     clones_are_the_same::<i8, FxHasher64, Narrow>();
-    expect_eq!(rt; copied_len(&one_index_key()), Some(1));
+    let bytes = one_index_key();
+    expect_eq!(rt; (key_set(&bytes)?.capacity(), key_set(&bytes)?.clone()?.len()), (2, 1));
+    Ok(())
 }

@@ -88,27 +88,16 @@ fn pairs_are_written(rt: HostRuntime) -> Result<(), Fail> {
     expect_archive(&rt, narrow(alloc, &[(1, 2)]), &one_pair())?;
     let four = narrow(alloc, &[(1, 2), (3, 4), (5, 6), (7, 8)]);
     expect_archive(&rt, four, &four_entries())?;
-    expect_archive(&rt, narrow(alloc, &[(1, 2), (1, 9)]), &one_key_twice())
-}
-
-#[test]
-fn wide_pairs_are_written(rt: HostRuntime) -> Result<(), Fail> {
-    let alloc = rt.alloc();
+    expect_archive(&rt, narrow(alloc, &[(1, 2), (1, 9)]), &one_key_twice())?;
     expect_archive(&rt, wide(alloc, &[]), &no_wide_pairs())?;
-    expect_archive(&rt, wide(alloc, &[(1, 2)]), &wide_pair())
-}
-
-// Returns the wide archive of the item 1 as an index set.
-fn wide_item(alloc: Global) -> Result<Vec<u8>, Fail> {
-    let list = OrderedItems(vec![in alloc; 1i8]?);
-    Ok(to_bytes_in::<Wide, _>(alloc, &list)?)
+    expect_archive(&rt, wide(alloc, &[(1, 2)]), &wide_pair())?;
+    Ok(())
 }
 
 #[test]
 fn a_wide_item_is_written(rt: HostRuntime) -> Result<(), Fail> {
-    let bytes = wide_item(rt.alloc())?;
-    expect_eq!(rt; bytes.as_slice(), wide_key().as_slice());
-    Ok(())
+    let list = OrderedItems(vec![in rt.alloc(); 1i8]?);
+    expect_archive(&rt, to_bytes_in::<Wide, _>(rt.alloc(), &list), &wide_key())
 }
 
 // Returns the value of the key 1 in the value of the key 1, or 0.
@@ -155,78 +144,40 @@ fn written(
     Ok(writer.into_vec())
 }
 
-// A claimed length, a load factor, and the error of a write with them.
-type FailureRow = (usize, (usize, usize), WriteError<NoMemory>);
-
-// Fails the test unless the writes of the pair of 1 and 2 have these errors.
-fn expect_failures(rt: &impl Abort, alloc: Global, rows: &[FailureRow]) -> Result<(), Fail> {
-    for (len, load_factor, error) in rows {
-        let failed = written(alloc, vec![in alloc; (1, 2)]?, *len, *load_factor).err();
-        expect_eq!(*rt; failed, Some(*error));
-    }
-    Ok(())
+// Returns the error of a write of the pair of 1 and 2 under a claimed length.
+fn failure(
+    alloc: Global,
+    len: usize,
+    load_factor: (usize, usize),
+) -> Result<Option<WriteError<NoMemory>>, Fail> {
+    Ok(written(alloc, vec![in alloc; (1, 2)]?, len, load_factor).err())
 }
 
 #[test]
 fn bad_load_factors_and_lengths(rt: HostRuntime) -> Result<(), Fail> {
-    let bad_load_factor = WriteError::InvalidLoadFactor {
-        numerator: 8,
-        denominator: 7,
-    };
-    expect_failures(
-        &rt,
-        rt.alloc(),
-        &[
-            (2, (8, 7), bad_load_factor),
-            (1, (1, 4294967296), WriteError::CapacityTooLarge { len: 1 }),
-        ],
-    )
+    expect_eq!(rt; failure(rt.alloc(), 2, (8, 7))?,
+        Some(WriteError::InvalidLoadFactor { numerator: 8, denominator: 7 }));
+    expect_eq!(rt; failure(rt.alloc(), 1, (1, 4294967296))?,
+        Some(WriteError::CapacityTooLarge { len: 1 }));
+    let (too_few, too_many) = (mismatch(3, 1), mismatch(0, 1));
+    expect_eq!(rt; failure(rt.alloc(), 3, (7, 8))?, Some(too_few));
+    expect_eq!(rt; failure(rt.alloc(), 0, (7, 8))?, Some(too_many));
+    Ok(())
 }
 
-// Returns the length and the load factor of the resolver of an index map of two pairs.
-fn map_under(
-    alloc: Global,
-    load_factor: (usize, usize),
-) -> Result<(usize, (usize, usize)), WriteError<NoMemory>> {
-    let resolver = map_resolver(alloc, &[(1, 2), (3, 4)], load_factor)?;
-    Ok((resolver.len(), resolver.load_factor()))
-}
-
-// Does the same with an index set of one key.
-fn set_under(
-    alloc: Global,
-    load_factor: (usize, usize),
-) -> Result<(usize, (usize, usize)), WriteError<NoMemory>> {
-    let resolver = set_resolver(alloc, &[1], load_factor)?;
-    Ok((resolver.len(), resolver.load_factor()))
+fn mismatch(expected: usize, actual: usize) -> WriteError<NoMemory> {
+    WriteError::IteratorLengthMismatch(IteratorLengthMismatch { expected, actual })
 }
 
 #[test]
-fn resolvers_have_the_given_load_factor(rt: HostRuntime) {
+fn resolvers_have_the_given_load_factor(rt: HostRuntime) -> Result<(), Fail> {
     for load_factor in [(1, 1), (1, 2)] {
-        expect_eq!(rt; map_under(rt.alloc(), load_factor), Ok((2, load_factor)));
-        expect_eq!(rt; set_under(rt.alloc(), load_factor), Ok((1, load_factor)));
+        let map = map_resolver(rt.alloc(), &[(1, 2), (3, 4)], load_factor)?;
+        let set = set_resolver(rt.alloc(), &[1], load_factor)?;
+        expect_eq!(rt; (map.len(), map.load_factor()), (2, load_factor));
+        expect_eq!(rt; (set.len(), set.load_factor()), (1, load_factor));
     }
-}
-
-#[test]
-fn another_number_of_pairs(rt: HostRuntime) -> Result<(), Fail> {
-    let too_few = IteratorLengthMismatch {
-        expected: 3,
-        actual: 1,
-    };
-    let too_many = IteratorLengthMismatch {
-        expected: 0,
-        actual: 1,
-    };
-    expect_failures(
-        &rt,
-        rt.alloc(),
-        &[
-            (3, (7, 8), WriteError::IteratorLengthMismatch(too_few)),
-            (0, (7, 8), WriteError::IteratorLengthMismatch(too_many)),
-        ],
-    )
+    Ok(())
 }
 
 // Writes the map of 1 to 2 with a limit. Returns `true` if the writer keeps the first `limit`
@@ -241,17 +192,6 @@ fn keeps_a_prefix(alloc: Global, list: &OrderedPairs<i8, i8>, limit: u64) -> boo
     as_expected && one_pair().get(..limit as usize) == Some(writer.into_inner().bytes())
 }
 
-// Returns the number of limits, up to the archive's length, that keep a prefix of it.
-fn limits_that_keep(alloc: Global, list: &OrderedPairs<i8, i8>) -> usize {
-    let mut right = 0usize;
-    for limit in 0..61 {
-        if keeps_a_prefix(alloc, list, limit) {
-            right = right.wrapping_add(1);
-        }
-    }
-    right
-}
-
 #[test]
 fn a_full_writer(rt: HostRuntime) -> Result<(), Fail> {
     let alloc = rt.alloc();
@@ -263,6 +203,8 @@ fn a_full_writer(rt: HostRuntime) -> Result<(), Fail> {
             Err(WriteError::Writer(LimitFault::Full))
         )
     );
-    expect_eq!(rt; limits_that_keep(alloc, &list), 61);
+    for limit in 0..61 {
+        expect_eq!(rt; (limit, keeps_a_prefix(alloc, &list, limit)), (limit, true));
+    }
     Ok(())
 }
