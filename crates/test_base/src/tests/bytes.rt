@@ -30,29 +30,19 @@ fn represents_as<W: Width>(alloc: Global, items: &[u8], bytes: &[u8]) -> bool {
 }
 
 #[test]
-fn narrow_byte_strings_are_before_their_fixed_bytes(rt: HostRuntime) {
+fn byte_strings_are_before_their_fixed_bytes(rt: HostRuntime) {
     laws::byte_strings_are_their_bytes::<Narrow>();
     let alloc = rt.alloc();
     let five = b"ab\0\xff\x80\0\0\0\xf8\xff\xff\xff\x05\0\0\0";
-    let right = [
-        represents_as::<Narrow>(alloc, b"", &[0; 8]),
-        represents_as::<Narrow>(alloc, b"\xff", b"\xff\0\0\0\xfc\xff\xff\xff\x01\0\0\0"),
-        represents_as::<Narrow>(alloc, b"ab\0\xff\x80", five),
-    ];
-    expect_eq!(rt; right, [true; 3]);
-}
-
-#[test]
-fn wide_byte_strings_are_before_their_fixed_bytes(rt: HostRuntime) {
-    let alloc = rt.alloc();
+    expect_eq!(rt; represents_as::<Narrow>(alloc, b"", &[0; 8]), true);
+    expect_eq!(rt; represents_as::<Narrow>(alloc, b"\xff", b"\xff\0\0\0\xfc\xff\xff\xff\x01\0\0\0"),
+        true);
+    expect_eq!(rt; represents_as::<Narrow>(alloc, b"ab\0\xff\x80", five), true);
     let one = b"\xff\0\0\0\0\0\0\0\xf8\xff\xff\xff\xff\xff\xff\xff\x01\0\0\0\0\0\0\0";
     let five = b"ab\0\xff\x80\0\0\0\xf8\xff\xff\xff\xff\xff\xff\xff\x05\0\0\0\0\0\0\0";
-    let right = [
-        represents_as::<Wide>(alloc, b"", &[0; 16]),
-        represents_as::<Wide>(alloc, b"\xff", one),
-        represents_as::<Wide>(alloc, b"ab\0\xff\x80", five),
-    ];
-    expect_eq!(rt; right, [true; 3]);
+    expect_eq!(rt; represents_as::<Wide>(alloc, b"", &[0; 16]), true);
+    expect_eq!(rt; represents_as::<Wide>(alloc, b"\xff", one), true);
+    expect_eq!(rt; represents_as::<Wide>(alloc, b"ab\0\xff\x80", five), true);
 }
 
 // Returns `len` bytes: 0, 1, 2 and so on, and 0 again after 255.
@@ -104,17 +94,15 @@ fn are_root(bytes: &[u8], items: (&[u8], &[u8])) -> bool {
 fn an_empty_byte_string_is_where_it_was_serialized(rt: HostRuntime) {
     let bytes = b"a\0\0\0\xfc\xff\xff\xff\x01\0\0\0\xf5\xff\xff\xff\0\0\0\0";
     let items: (&[u8], &[u8]) = (b"a", b"");
-    let archived = is_archived_as(rt.alloc(), &items, bytes);
-    expect_eq!(rt; (archived, are_root(bytes, items)), (true, true));
+    expect_eq!(rt; is_archived_as(rt.alloc(), &items, bytes), true);
+    expect_eq!(rt; are_root(bytes, items), true);
 }
 
 #[test]
 fn byte_strings_share_no_byte(rt: HostRuntime) {
     let bytes = b"ab\0\0\xfc\xff\xff\xff\x02\0\0\0\xf5\xff\xff\xff\x01\0\0\0";
-    expect_eq!(rt;
-        access_failure::<Narrow, Entry<Bytes, Bytes>>(bytes),
-        Some(VerifyError::OutOfRange { pos: 1, size: 1 })
-    );
+    expect_eq!(rt; access_failure::<Narrow, Entry<Bytes, Bytes>>(bytes),
+        Some(VerifyError::OutOfRange { pos: 1, size: 1 }));
 }
 
 // Returns the error of the narrow byte string at 4, with this distance and this length.
@@ -127,40 +115,17 @@ fn failure_of(distance: i32, len: u32) -> Option<VerifyError> {
 
 #[test]
 fn byte_strings_lie_in_their_range(rt: HostRuntime) {
-    let failures = [
-        failure_of(-4, 4),
-        failure_of(-4, 0),
-        failure_of(-1, 1),
-        failure_of(0, 0),
-        failure_of(-5, 0),
-        failure_of(-4, 5),
-        failure_of(-1, 2),
-        failure_of(0, 1),
-        failure_of(1, 0),
-        failure_of(-2_147_483_648, 4_294_967_295),
-    ];
-    expect_eq!(rt;
-        failures,
-        [
-            None,
-            None,
-            None,
-            None,
-            Some(VerifyError::OutOfRange { pos: -1, size: 0 }),
-            Some(VerifyError::OutOfRange { pos: 0, size: 5 }),
-            Some(VerifyError::OutOfRange { pos: 3, size: 2 }),
-            Some(VerifyError::OutOfRange { pos: 4, size: 1 }),
-            Some(VerifyError::OutOfRange { pos: 5, size: 0 }),
-            Some(VerifyError::OutOfRange {
-                pos: -2_147_483_644,
-                size: 4_294_967_295
-            })
-        ]
-    );
-}
-
-#[test]
-fn rejects_invalid_wide_byte_strings(rt: HostRuntime) {
+    expect_eq!(rt; failure_of(-4, 4), None);
+    expect_eq!(rt; failure_of(-4, 0), None);
+    expect_eq!(rt; failure_of(-1, 1), None);
+    expect_eq!(rt; failure_of(0, 0), None);
+    expect_eq!(rt; failure_of(-5, 0), Some(VerifyError::OutOfRange { pos: -1, size: 0 }));
+    expect_eq!(rt; failure_of(-4, 5), Some(VerifyError::OutOfRange { pos: 0, size: 5 }));
+    expect_eq!(rt; failure_of(-1, 2), Some(VerifyError::OutOfRange { pos: 3, size: 2 }));
+    expect_eq!(rt; failure_of(0, 1), Some(VerifyError::OutOfRange { pos: 4, size: 1 }));
+    expect_eq!(rt; failure_of(1, 0), Some(VerifyError::OutOfRange { pos: 5, size: 0 }));
+    expect_eq!(rt; failure_of(-2_147_483_648, 4_294_967_295),
+        Some(VerifyError::OutOfRange { pos: -2_147_483_644, size: 4_294_967_295 }));
     let failures = [
         access_failure::<Wide, Bytes<Wide>>(b"\xff\xff\xff\xff\xff\xff\xff\xff\0\0\0\0\0\0\0\0"),
         access_failure::<Wide, Bytes<Wide>>(b"\0\0\0\0\0\0\0\0\xff\xff\xff\xff\xff\xff\xff\xff"),
@@ -168,46 +133,22 @@ fn rejects_invalid_wide_byte_strings(rt: HostRuntime) {
         access_failure::<Narrow, Bytes>(&[0; 9]),
         access_failure::<Narrow, Bytes>(&[0; 7]),
     ];
-    expect_eq!(rt;
-        failures,
-        [
-            Some(VerifyError::OutOfRange { pos: -1, size: 0 }),
-            Some(VerifyError::OutOfRange {
-                pos: 0,
-                size: 18_446_744_073_709_551_615
-            }),
-            Some(VerifyError::Unaligned { pos: 4, align: 8 }),
-            Some(VerifyError::Unaligned { pos: 1, align: 4 }),
-            Some(VerifyError::OutOfRange { pos: -1, size: 8 })
-        ]
-    );
-}
-
-#[test]
-fn the_rest_of_the_range_is_behind_the_byte_string(rt: HostRuntime) {
+    expect_eq!(rt; failures, [Some(VerifyError::OutOfRange { pos: -1, size: 0 }),
+        Some(VerifyError::OutOfRange { pos: 0, size: 18_446_744_073_709_551_615 }),
+        Some(VerifyError::Unaligned { pos: 4, align: 8 }),
+        Some(VerifyError::Unaligned { pos: 1, align: 4 }),
+        Some(VerifyError::OutOfRange { pos: -1, size: 8 })]);
     let bytes = b"abcdefgh\xfb\xff\xff\xff\x02\0\0\0";
-    let sizes = [
-        (Bytes::<Narrow>::size(), Bytes::<Narrow>::align()),
-        (Bytes::<Wide>::size(), Bytes::<Wide>::align()),
-    ];
-    let rests = [
-        Bytes::<Narrow>::check(bytes, 8, PartRange { lo: 3, hi: 5 }).ok(),
-        Bytes::<Narrow>::check(bytes, 8, PartRange { lo: 0, hi: 8 }).ok(),
-        Bytes::<Narrow>::check(bytes, 8, PartRange { lo: 4, hi: 8 }).ok(),
-        Bytes::<Narrow>::check(bytes, 8, PartRange { lo: 0, hi: 4 }).ok(),
-    ];
-    expect_eq!(rt;
-        (sizes, rests),
-        (
-            [(8, 4), (16, 8)],
-            [
-                Some(PartRange { lo: 5, hi: 5 }),
-                Some(PartRange { lo: 5, hi: 8 }),
-                None,
-                None
-            ]
-        )
-    );
+    expect_eq!(rt; Bytes::<Narrow>::size(), 8);
+    expect_eq!(rt; Bytes::<Narrow>::align(), 4);
+    expect_eq!(rt; Bytes::<Wide>::size(), 16);
+    expect_eq!(rt; Bytes::<Wide>::align(), 8);
+    expect_eq!(rt; Bytes::<Narrow>::check(bytes, 8, PartRange { lo: 3, hi: 5 }).ok(),
+        Some(PartRange { lo: 5, hi: 5 }));
+    expect_eq!(rt; Bytes::<Narrow>::check(bytes, 8, PartRange { lo: 0, hi: 8 }).ok(),
+        Some(PartRange { lo: 5, hi: 8 }));
+    expect_eq!(rt; Bytes::<Narrow>::check(bytes, 8, PartRange { lo: 4, hi: 8 }).ok(), None);
+    expect_eq!(rt; Bytes::<Narrow>::check(bytes, 8, PartRange { lo: 0, hi: 4 }).ok(), None);
 }
 
 #[test]
@@ -215,19 +156,13 @@ fn rejects_a_distance_to_bytes_that_does_not_fit(rt: HostRuntime) {
     let (mut local, mut far, mut wide) = ([0; 8], [0; 8], [0; 16]);
     let items: &[u8] = b"ab";
     let start = BytesResolver { pos: 0 };
-    let fits = [
-        Archive::<Narrow>::resolve(&items, start, 2_147_483_648, &mut local).is_ok(),
-        Archive::<Narrow>::resolve(&items, start, 2_147_483_652, &mut far).is_ok(),
-        Archive::<Wide>::resolve(&items, start, 2_147_483_656, &mut wide).is_ok(),
-    ];
-    expect_eq!(rt;
-        (fits, local, wide),
-        (
-            [true, false, true],
-            *b"\0\0\0\x80\x02\0\0\0",
-            *b"\xf8\xff\xff\x7f\xff\xff\xff\xff\x02\0\0\0\0\0\0\0"
-        )
-    );
+    expect_eq!(rt; Archive::<Narrow>::resolve(&items, start, 2_147_483_648, &mut local).is_ok(),
+        true);
+    expect_eq!(rt; Archive::<Narrow>::resolve(&items, start, 2_147_483_652, &mut far).is_ok(),
+        false);
+    expect_eq!(rt; Archive::<Wide>::resolve(&items, start, 2_147_483_656, &mut wide).is_ok(), true);
+    expect_eq!(rt; local, *b"\0\0\0\x80\x02\0\0\0");
+    expect_eq!(rt; wide, *b"\xf8\xff\xff\x7f\xff\xff\xff\xff\x02\0\0\0\0\0\0\0");
 }
 
 // Returns the position of a byte string that is written at the end of a narrow archive,
@@ -244,13 +179,7 @@ fn serialized_late(alloc: Global, items: &[u8]) -> Result<Option<u64>, bool> {
 #[test]
 fn byte_strings_end_within_the_limit(rt: HostRuntime) {
     let alloc = rt.alloc();
-    let positions = [
-        serialized_late(alloc, b"12345"),
-        serialized_late(alloc, b"123456"),
-        serialized_late(alloc, b""),
-    ];
-    expect_eq!(rt;
-        positions,
-        [Ok(Some(4_294_967_290)), Ok(None), Ok(Some(4_294_967_290))]
-    );
+    expect_eq!(rt; serialized_late(alloc, b"12345"), Ok(Some(4_294_967_290)));
+    expect_eq!(rt; serialized_late(alloc, b"123456"), Ok(None));
+    expect_eq!(rt; serialized_late(alloc, b""), Ok(Some(4_294_967_290)));
 }

@@ -13,16 +13,10 @@ fn capacity_of_unit(alloc: Global) -> Option<usize> {
 fn a_new_writer_has_no_memory(rt: HostRuntime) {
     let new = VecWriter::new(rt.alloc()).into_vec().capacity();
     let mut empty = VecWriter::new(rt.alloc());
-    let written = empty.write(&[]).is_ok();
-    expect_eq!(rt;
-        (
-            new,
-            written,
-            empty.into_vec().capacity(),
-            capacity_of_unit(rt.alloc())
-        ),
-        (0, true, 0, Some(0))
-    );
+    expect_eq!(rt; empty.write(&[]).is_ok(), true);
+    expect_eq!(rt; new, 0);
+    expect_eq!(rt; empty.into_vec().capacity(), 0);
+    expect_eq!(rt; capacity_of_unit(rt.alloc()), Some(0));
 }
 
 // Returns whether a vector's memory for 64 bytes is the same after 8 bytes were written into it.

@@ -122,8 +122,8 @@ fn grams_of(bytes: &[u8]) -> Result<Grams, VerifyError> {
 #[test]
 fn an_own_scalar_is_archived(rt: HostRuntime) {
     let bytes = [1, 0, 0, 0, 2, 1, 0, 0];
-    let archived = is_archived_as(rt.alloc(), &(true, Grams(258)), &bytes);
-    expect_eq!(rt; (archived, grams_of(&bytes)), (true, Ok(Grams(258))));
+    expect_eq!(rt; is_archived_as(rt.alloc(), &(true, Grams(258)), &bytes), true);
+    expect_eq!(rt; grams_of(&bytes), Ok(Grams(258)));
 }
 
 // Returns `true` if archiving a value fails with `Refused(0)`.
@@ -134,29 +134,13 @@ fn write_fails<V: Serialize<VecWriter, Narrow>>(alloc: Global, value: &V) -> boo
 #[test]
 fn rejects_entries_that_are_too_large(rt: HostRuntime) {
     laws::largest_element();
-    let sizes = [
-        <Entry<Huge, ()> as Element>::size(),
-        whole_size::<Huge, u16>(),
-        <Entry<Huge, u16> as Element>::size(),
-        <Entry<Huge, u16> as Element>::align(),
-    ];
-    let access_failures = [
-        access_failure::<Narrow, Entry<Huge, ()>>(&[]),
-        access_failure::<Narrow, Entry<Huge, u16>>(&[]),
-    ];
-    let fails = [
-        write_fails(rt.alloc(), &(Huge, 7u16)),
-        write_fails(rt.alloc(), &(1u8, (7u16, Huge))),
-    ];
-    expect_eq!(rt;
-        (sizes, access_failures, fails),
-        (
-            [1_073_741_824, 1_073_741_826, 0, 2],
-            [
-                Some(VerifyError::OutOfRange { pos: -1_073_741_824, size: 1_073_741_824 }),
-                Some(VerifyError::Refused(0))
-            ],
-            [true; 2]
-        )
-    );
+    expect_eq!(rt; <Entry<Huge, ()> as Element>::size(), 1_073_741_824);
+    expect_eq!(rt; whole_size::<Huge, u16>(), 1_073_741_826);
+    expect_eq!(rt; <Entry<Huge, u16> as Element>::size(), 0);
+    expect_eq!(rt; <Entry<Huge, u16> as Element>::align(), 2);
+    expect_eq!(rt; access_failure::<Narrow, Entry<Huge, ()>>(&[]),
+        Some(VerifyError::OutOfRange { pos: -1_073_741_824, size: 1_073_741_824 }));
+    expect_eq!(rt; access_failure::<Narrow, Entry<Huge, u16>>(&[]), Some(VerifyError::Refused(0)));
+    expect_eq!(rt; write_fails(rt.alloc(), &(Huge, 7u16)), true);
+    expect_eq!(rt; write_fails(rt.alloc(), &(1u8, (7u16, Huge))), true);
 }

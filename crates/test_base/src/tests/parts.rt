@@ -9,25 +9,15 @@ use rkyv_base::{
 #[test]
 fn parts_lie_in_their_range(rt: HostRuntime) {
     let range = PartRange { lo: 4, hi: 16 };
-    let begins = [
-        part_in(4, 12, 4, range).ok(),
-        part_in(16, 0, 8, range).ok(),
-        part_in(3, 1, 1, range).ok(),
-        part_in(-1, 1, 1, range).ok(),
-        part_in(8, 9, 1, range).ok(),
-        part_in(6, 4, 4, range).ok(),
-    ];
-    expect_eq!(rt; begins, [Some(4), Some(16), None, None, None, None]);
-}
-
-#[test]
-fn distances_lead_to_their_targets(rt: HostRuntime) {
-    let targets = [
-        distance_target(16, -12),
-        distance_target(4, -8),
-        distance_target(u64::MAX, i64::MAX),
-    ];
-    expect_eq!(rt; targets, [4, -4, 27_670_116_110_564_327_422]);
+    expect_eq!(rt; part_in(4, 12, 4, range).ok(), Some(4));
+    expect_eq!(rt; part_in(16, 0, 8, range).ok(), Some(16));
+    expect_eq!(rt; part_in(3, 1, 1, range).ok(), None);
+    expect_eq!(rt; part_in(-1, 1, 1, range).ok(), None);
+    expect_eq!(rt; part_in(8, 9, 1, range).ok(), None);
+    expect_eq!(rt; part_in(6, 4, 4, range).ok(), None);
+    expect_eq!(rt; distance_target(16, -12), 4);
+    expect_eq!(rt; distance_target(4, -8), -4);
+    expect_eq!(rt; distance_target(u64::MAX, i64::MAX), 27_670_116_110_564_327_422);
 }
 
 // Returns the fixed bytes of a pair at position 0.
@@ -49,18 +39,11 @@ fn number_again(bytes: &[u8]) -> Option<u32> {
 }
 
 #[test]
-fn entries_are_resolved(rt: HostRuntime) {
+fn entries_are_resolved_and_found(rt: HostRuntime) {
     let resolved = resolved(&(1, 2));
-    let is_small = whole_size::<u8, u32>() <= MAX_ELEMENT_SIZE;
-    let again = number_again(&[7, 0, 0, 0]);
-    expect_eq!(rt;
-        (resolved, is_small, again),
-        ([1, 0, 0, 0, 2, 0, 0, 0], true, Some(7))
-    );
-}
-
-#[test]
-fn a_found_value_has_its_position(rt: HostRuntime) {
+    expect_eq!(rt; whole_size::<u8, u32>() <= MAX_ELEMENT_SIZE, true);
+    expect_eq!(rt; number_again(&[7, 0, 0, 0]), Some(7));
+    expect_eq!(rt; resolved, [1, 0, 0, 0, 2, 0, 0, 0]);
     let found = access::<u8>(&[7, 8]).ok();
     expect_eq!(rt; (found_pos(found), found_pos::<u8>(None)), (Some(1), None));
 }
@@ -77,7 +60,6 @@ fn cloned_number(bytes: &[u8]) -> Option<(u64, u32, bool)> {
 fn clones_are_the_same(rt: HostRuntime) {
     laws::views_are_cloned::<u32>();
     let range = PartRange { lo: 4, hi: 16 };
-    let same = range.clone().ok();
-    let number = cloned_number(&[0, 0, 0, 0, 7, 0, 0, 0]);
-    expect_eq!(rt; (same, number), (Some(range), Some((4, 7, true))));
+    expect_eq!(rt; range.clone().ok(), Some(range));
+    expect_eq!(rt; cloned_number(&[0, 0, 0, 0, 7, 0, 0, 0]), Some((4, 7, true)));
 }

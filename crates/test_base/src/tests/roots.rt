@@ -14,12 +14,9 @@ fn pairs_are_padded(rt: HostRuntime) {
     laws::entries_are_keys_and_values::<Narrow, u8, u32>();
     laws::units_are_empty::<Narrow>();
     let alloc = rt.alloc();
-    let padded = [
-        is_archived_as(alloc, &(1u8, 2u32), &[1, 0, 0, 0, 2, 0, 0, 0]),
-        is_archived_as(alloc, &(1u32, 2u8), &[1, 0, 0, 0, 2, 0, 0, 0]),
-        is_archived_as(alloc, &((), 2u16), &[2, 0]),
-    ];
-    expect_eq!(rt; padded, [true; 3]);
+    expect_eq!(rt; is_archived_as(alloc, &(1u8, 2u32), &[1, 0, 0, 0, 2, 0, 0, 0]), true);
+    expect_eq!(rt; is_archived_as(alloc, &(1u32, 2u8), &[1, 0, 0, 0, 2, 0, 0, 0]), true);
+    expect_eq!(rt; is_archived_as(alloc, &((), 2u16), &[2, 0]), true);
 }
 
 // Returns `true` for each of these: the archive of a value has the first bytes, and that of the
@@ -68,8 +65,8 @@ fn roots_of_64_and_of_72_bytes(rt: HostRuntime) {
     both[..64].copy_from_slice(&first);
     both[64] = 9;
     let eight = (((1u64, 2u64), (3u64, 4u64)), ((5u64, 6u64), (7u64, 8u64)));
-    let written = pairs_are_archived_as::<(u64, u64)>(rt.alloc(), eight, &first, &both);
-    expect_eq!(rt; written, [true; 2]);
+    expect_eq!(rt; pairs_are_archived_as::<(u64, u64)>(rt.alloc(), eight, &first, &both),
+        [true; 2]);
 }
 
 // Returns the parts of a pair and of its inner pair, read in place.
@@ -98,21 +95,14 @@ fn pairs_are_read_in_place(rt: HostRuntime) {
 
 #[test]
 fn rejects_invalid_roots(rt: HostRuntime) {
-    let failure = [
-        access_failure::<Narrow, bool>(&[2]),
-        access_failure::<Narrow, char>(&[0x00, 0xd8, 0x00, 0x00]),
-        access_failure::<Narrow, u32>(&[0, 0, 0]),
-        access_failure::<Narrow, u32>(&[0, 0, 0, 0, 0]),
-    ];
-    expect_eq!(rt;
-        failure,
-        [
-            Some(VerifyError::InvalidValue { pos: 0 }),
-            Some(VerifyError::InvalidValue { pos: 0 }),
-            Some(VerifyError::OutOfRange { pos: -1, size: 4 }),
-            Some(VerifyError::Unaligned { pos: 1, align: 4 })
-        ]
-    );
+    expect_eq!(rt; access_failure::<Narrow, bool>(&[2]),
+        Some(VerifyError::InvalidValue { pos: 0 }));
+    expect_eq!(rt; access_failure::<Narrow, char>(&[0x00, 0xd8, 0x00, 0x00]),
+        Some(VerifyError::InvalidValue { pos: 0 }));
+    expect_eq!(rt; access_failure::<Narrow, u32>(&[0, 0, 0]),
+        Some(VerifyError::OutOfRange { pos: -1, size: 4 }));
+    expect_eq!(rt; access_failure::<Narrow, u32>(&[0, 0, 0, 0, 0]),
+        Some(VerifyError::Unaligned { pos: 1, align: 4 }));
 }
 
 /// Archives a pair, and returns its key, read in place. It is the key that was archived.

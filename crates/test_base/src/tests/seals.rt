@@ -45,24 +45,16 @@ fn sets_behind_key(archive: &mut [u8], entry_pos: u64, value: u32) -> u32
 fn numbers_are_written_over_bytes(rt: HostRuntime) {
     let mut bytes = [1, 2, 3];
     let mut seal = Seal::<u8>::over(&mut bytes, 1);
-    let before = seal.to_native();
+    expect_eq!(rt; seal.to_native(), 2);
     seal.set(255);
-    let after = seal.to_native();
+    expect_eq!(rt; seal.to_native(), 255);
     drop(seal);
     let mut others = [9; 10];
     sets_over(&mut others, 1, -2);
-    let signed = others;
+    expect_eq!(rt; others, [9, 254, 255, 255, 255, 255, 255, 255, 255, 9]);
     set_at(&mut others, 4, 16_909_060u32);
-    expect_eq!(rt;
-        (before, after, bytes, signed, others),
-        (
-            2,
-            255,
-            [1, 255, 3],
-            [9, 254, 255, 255, 255, 255, 255, 255, 255, 9],
-            [9, 254, 255, 255, 4, 3, 2, 1, 255, 9]
-        )
-    );
+    expect_eq!(rt; bytes, [1, 255, 3]);
+    expect_eq!(rt; others, [9, 254, 255, 255, 4, 3, 2, 1, 255, 9]);
 }
 
 #[test]
@@ -88,8 +80,8 @@ fn root_replaced(bytes: &mut [u8], value: bool) -> Result<(u64, bool, bool, bool
 fn roots_are_written_in_place(rt: HostRuntime) {
     let mut bytes = [1];
     expect_eq!(rt; root_replaced(&mut bytes, false), Ok((0, true, true, false)));
-    let written = is_archived_as(rt.alloc(), &true, &[1]);
-    expect_eq!(rt; (bytes, written), ([0], true));
+    expect_eq!(rt; is_archived_as(rt.alloc(), &true, &[1]), true);
+    expect_eq!(rt; bytes, [0]);
 }
 
 // Writes a character over the root of a wide archive. Returns the old value and the new value.
@@ -143,37 +135,24 @@ fn value_sealed(bytes: &mut [u8], value: u32) -> Result<u32, VerifyError> {
 }
 
 #[test]
-fn the_value_of_an_entry_is_sealed(rt: HostRuntime) {
+fn values_of_entries_are_sealed(rt: HostRuntime) {
     let mut bytes = [1, 0, 0, 0, 2, 0, 0, 0];
-    let before = value_sealed(&mut bytes, 16_909_060);
-    expect_eq!(rt; (before, bytes), (Ok(2), [1, 0, 0, 0, 4, 3, 2, 1]));
-}
-
-// The wide text is at position 8, behind a key of one byte and its padding.
-#[test]
-fn the_value_of_a_wide_entry_is_sealed(rt: HostRuntime) {
+    expect_eq!(rt; value_sealed(&mut bytes, 16_909_060), Ok(2));
+    expect_eq!(rt; bytes, [1, 0, 0, 0, 4, 3, 2, 1]);
+    // The wide text is at position 8, behind a key of one byte and its padding.
     let mut bytes = *b"\x01\0\0\0\0\0\0\0wonderful\xff\xff\xff\xff\xff\xff\xff";
     let whole = ArchiveSeal::<Entry<u8, Text<Wide>>>::new(&mut bytes, 0);
     let mut seal = whole.value_seal::<u8, Text<Wide>>(0);
-    let uppercased = seal.make_ascii_uppercase();
+    expect_eq!(rt; seal.make_ascii_uppercase(), true);
     drop(seal);
-    expect_eq!(rt;
-        (uppercased, bytes),
-        (
-            true,
-            *b"\x01\0\0\0\0\0\0\0WONDERFUL\xff\xff\xff\xff\xff\xff\xff"
-        )
-    );
+    expect_eq!(rt; bytes, *b"\x01\0\0\0\0\0\0\0WONDERFUL\xff\xff\xff\xff\xff\xff\xff");
 }
 
 #[test]
 fn a_value_is_written_behind_its_key(rt: HostRuntime) -> Result<(), Fail> {
     let mut bytes = to_bytes(rt.alloc(), &(1u32, 2u32))?;
-    let key = sets_behind_key(bytes.as_mut_slice(), 0, 9);
-    expect_eq!(rt;
-        (key, bytes.as_slice()),
-        (1, [1, 0, 0, 0, 9, 0, 0, 0].as_slice())
-    );
+    expect_eq!(rt; sets_behind_key(bytes.as_mut_slice(), 0, 9), 1);
+    expect_eq!(rt; bytes.as_slice(), [1, 0, 0, 0, 9, 0, 0, 0].as_slice());
     Ok(())
 }
 
@@ -192,22 +171,13 @@ fn archive_seal_returns_the_archive(rt: HostRuntime) {
 #[test]
 fn access_mut_rejects_invalid_roots(rt: HostRuntime) {
     let (mut bytes, mut zeros) = ([2], [0, 0, 0, 0, 0]);
-    let failure = [
-        access_mut_failure::<Narrow, bool>(&mut bytes),
-        access_mut_failure::<Narrow, u32>(&mut zeros),
-        access_mut_failure::<Wide, u64>(&mut zeros),
-    ];
-    expect_eq!(rt;
-        (failure, bytes),
-        (
-            [
-                Some(VerifyError::InvalidValue { pos: 0 }),
-                Some(VerifyError::Unaligned { pos: 1, align: 4 }),
-                Some(VerifyError::OutOfRange { pos: -3, size: 8 })
-            ],
-            [2]
-        )
-    );
+    expect_eq!(rt; access_mut_failure::<Narrow, bool>(&mut bytes),
+        Some(VerifyError::InvalidValue { pos: 0 }));
+    expect_eq!(rt; access_mut_failure::<Narrow, u32>(&mut zeros),
+        Some(VerifyError::Unaligned { pos: 1, align: 4 }));
+    expect_eq!(rt; access_mut_failure::<Wide, u64>(&mut zeros),
+        Some(VerifyError::OutOfRange { pos: -3, size: 8 }));
+    expect_eq!(rt; bytes, [2]);
 }
 
 // Returns `true` if a seal of the text at the root has this text.
@@ -222,10 +192,6 @@ fn shows_in_place<W: Width>(bytes: &mut [u8], text: &str) -> Result<bool, Verify
 fn inline_text_is_read_in_place(rt: HostRuntime) {
     let mut bytes = *b"hello\xff\xff\xff";
     expect_eq!(rt; shows_in_place::<Narrow>(&mut bytes, "hello"), Ok(true));
-}
-
-#[test]
-fn bytes_that_are_not_utf8_have_no_text(rt: HostRuntime) {
     let mut bytes = *b"\xc3(\xff\xff\xff\xff\xff\xff";
     let seal = Seal::<Text>::over(&mut bytes, 0);
     expect_eq!(rt; seal.as_str(), None);
@@ -236,38 +202,19 @@ fn inline_text_is_uppercased_in_place(rt: HostRuntime) {
     let mut bytes = [0x68, 0x65, 0x6c, 0x6c, 0x6f, 255, 255, 255, 97];
     let mut full = [0x7a; 8];
     let mut seal = Seal::<Text>::over(&mut bytes, 0);
-    let uppercased = seal.make_ascii_uppercase();
+    expect_eq!(rt; seal.make_ascii_uppercase(), true);
     drop(seal);
     let mut seal = Seal::<Text>::over(&mut full, 0);
-    let full_uppercased = seal.make_ascii_uppercase();
+    expect_eq!(rt; seal.make_ascii_uppercase(), true);
     drop(seal);
-    expect_eq!(rt;
-        (uppercased, bytes, full_uppercased, full),
-        (
-            true,
-            [0x48, 0x45, 0x4c, 0x4c, 0x4f, 255, 255, 255, 97],
-            true,
-            [0x5a; 8]
-        )
-    );
-}
-
-#[test]
-fn text_is_uppercased_at_a_position(rt: HostRuntime) {
+    expect_eq!(rt; bytes, [0x48, 0x45, 0x4c, 0x4c, 0x4f, 255, 255, 255, 97]);
+    expect_eq!(rt; full, [0x5a; 8]);
     let mut inline = *b"abchello\xff\xff\xffxyz";
     let mut wonderful = *b"wonderful\0\0\0\x89\0\0\0\xf4\xff\xff\xff";
-    let uppercased = [
-        uppercase_at::<Narrow>(&mut inline, 3),
-        uppercase_at::<Narrow>(&mut wonderful, 12),
-    ];
-    expect_eq!(rt;
-        (uppercased, inline, wonderful),
-        (
-            [true, false],
-            *b"abcHELLO\xff\xff\xffxyz",
-            *b"wonderful\0\0\0\x89\0\0\0\xf4\xff\xff\xff"
-        )
-    );
+    expect_eq!(rt; uppercase_at::<Narrow>(&mut inline, 3), true);
+    expect_eq!(rt; uppercase_at::<Narrow>(&mut wonderful, 12), false);
+    expect_eq!(rt; inline, *b"abcHELLO\xff\xff\xffxyz");
+    expect_eq!(rt; wonderful, *b"wonderful\0\0\0\x89\0\0\0\xf4\xff\xff\xff");
 }
 
 // Returns two flags: a seal of the text at the root has no text, and it converts the text.
@@ -279,40 +226,27 @@ fn uppercases_elsewhere<W: Width>(bytes: &mut [u8]) -> Result<(bool, bool), Veri
 }
 
 #[test]
-fn text_out_of_line_stays(rt: HostRuntime) {
+fn wide_texts_are_written_in_place(rt: HostRuntime) {
     let wonderful = *b"wonderful\0\0\0\x89\0\0\0\xf4\xff\xff\xff";
     let mut bytes = wonderful;
-    let uppercased = uppercases_elsewhere::<Narrow>(&mut bytes);
-    let same = is_archived_as(rt.alloc(), &"wonderful", &bytes);
-    expect_eq!(rt; uppercased, Ok((true, false)));
-    expect_eq!(rt; (bytes, same), (wonderful, true));
-}
-
-#[test]
-fn wide_text_is_read_in_place(rt: HostRuntime) {
+    expect_eq!(rt; uppercases_elsewhere::<Narrow>(&mut bytes), Ok((true, false)));
+    expect_eq!(rt; is_archived_as(rt.alloc(), &"wonderful", &bytes), true);
+    expect_eq!(rt; bytes, wonderful);
     let mut bytes = *b"wonderful\xff\xff\xff\xff\xff\xff\xff";
     expect_eq!(rt; shows_in_place::<Wide>(&mut bytes, "wonderful"), Ok(true));
-}
-
-#[test]
-fn wide_text_is_uppercased_in_place(rt: HostRuntime) {
     let mut bytes = [
         0x77, 0x6f, 0x6e, 0x64, 0x65, 0x72, 0x66, 0x75, 0x6c, 255, 97, 97, 97, 97, 97, 97,
     ];
     let mut seal = Seal::<Text<Wide>>::over(&mut bytes, 0);
-    let is_uppercased = seal.make_ascii_uppercase();
+    expect_eq!(rt; seal.make_ascii_uppercase(), true);
     drop(seal);
     let uppercased = [
         0x57, 0x4f, 0x4e, 0x44, 0x45, 0x52, 0x46, 0x55, 0x4c, 255, 97, 97, 97, 97, 97, 97,
     ];
-    expect_eq!(rt; (is_uppercased, bytes), (true, uppercased));
-}
-
-#[test]
-fn wide_text_out_of_line_stays(rt: HostRuntime) {
+    expect_eq!(rt; bytes, uppercased);
     // The text, five zeros, its length, and the distance back to its start.
     let text = *b"most wonderful text\0\0\0\0\0\x93\0\0\0\0\0\0\0\xe8\xff\xff\xff\xff\xff\xff\xff";
     let mut bytes = text;
-    let uppercased = uppercases_elsewhere::<Wide>(&mut bytes);
-    expect_eq!(rt; (uppercased, bytes), (Ok((true, false)), text));
+    expect_eq!(rt; uppercases_elsewhere::<Wide>(&mut bytes), Ok((true, false)));
+    expect_eq!(rt; bytes, text);
 }

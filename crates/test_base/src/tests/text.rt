@@ -34,27 +34,16 @@ fn represents_as<W: Width>(alloc: Global, text: &str, bytes: &[u8]) -> bool {
 }
 
 #[test]
-fn short_text_is_inline(rt: HostRuntime) {
+fn texts_are_inline_or_before_their_fixed_bytes(rt: HostRuntime) {
     laws::texts_are_their_bytes::<Narrow>();
     let alloc = rt.alloc();
     let wide = b"wonderful\xff\xff\xff\xff\xff\xff\xff";
-    let right = [
-        represents_as::<Narrow>(alloc, "hello", b"hello\xff\xff\xff"),
-        represents_as::<Wide>(alloc, "wonderful", wide),
-    ];
-    expect_eq!(rt; right, [true; 2]);
-}
-
-#[test]
-fn long_text_is_before_its_fixed_bytes(rt: HostRuntime) {
-    let alloc = rt.alloc();
+    expect_eq!(rt; represents_as::<Narrow>(alloc, "hello", b"hello\xff\xff\xff"), true);
+    expect_eq!(rt; represents_as::<Wide>(alloc, "wonderful", wide), true);
     let narrow = b"wonderful\0\0\0\x89\0\0\0\xf4\xff\xff\xff";
     let wide = b"wonderfulwonderfu\0\0\0\0\0\0\0\x91\0\0\0\0\0\0\0\xe8\xff\xff\xff\xff\xff\xff\xff";
-    let right = [
-        represents_as::<Narrow>(alloc, "wonderful", narrow),
-        represents_as::<Wide>(alloc, "wonderfulwonderfu", wide),
-    ];
-    expect_eq!(rt; right, [true; 2]);
+    expect_eq!(rt; represents_as::<Narrow>(alloc, "wonderful", narrow), true);
+    expect_eq!(rt; represents_as::<Wide>(alloc, "wonderfulwonderfu", wide), true);
 }
 
 // Returns `true` if these two texts are the root of an archive.
@@ -68,48 +57,29 @@ fn are_root(bytes: &[u8], texts: (&str, &str)) -> bool {
 #[test]
 fn two_texts_are_one_behind_the_other(rt: HostRuntime) {
     let mut bytes = *b"wonderfulexcellent\0\0\x89\0\0\0\xec\xff\xff\xff\x89\0\0\0\xed\xff\xff\xff";
-    let archived = is_archived_as(rt.alloc(), &("wonderful", "excellent"), &bytes);
-    let read = are_root(&bytes, ("wonderful", "excellent"));
+    expect_eq!(rt; is_archived_as(rt.alloc(), &("wonderful", "excellent"), &bytes), true);
+    expect_eq!(rt; are_root(&bytes, ("wonderful", "excellent")), true);
     bytes[32] = 0xe4;
-    let failure = access_failure::<Narrow, Entry<Text, Text>>(&bytes);
-    expect_eq!(rt;
-        (archived, read, failure),
-        (true, true, Some(VerifyError::OutOfRange { pos: 0, size: 9 }))
-    );
+    expect_eq!(rt; access_failure::<Narrow, Entry<Text, Text>>(&bytes),
+        Some(VerifyError::OutOfRange { pos: 0, size: 9 }));
 }
 
 #[test]
-fn rejects_invalid_texts(rt: HostRuntime) {
+fn invalid_texts_and_bytes_behind_texts_have_known_results(rt: HostRuntime) {
     let mut bytes = *b"wonderful\0\0\0\x89\0\0\0\xf4\xff\xff\xff";
     bytes[0] = 0xff;
-    let failure = [
-        access_failure::<Narrow, Text>(b"\x89\0\0\0\xf4\xff\xff\xff"),
-        access_failure::<Narrow, Text>(b"\x88\0\0\0\0\0\0\0"),
-        access_failure::<Wide, Text<Wide>>(b"\x90\0\0\0\0\0\0\0\0\0\0\0\0\0\0\0"),
-        access_failure::<Narrow, Text>(&bytes),
-        access_failure::<Narrow, Text>(b"\xc3\xff\xff\xff\xff\xff\xff\xff"),
-    ];
+    expect_eq!(rt; access_failure::<Narrow, Text>(b"\x89\0\0\0\xf4\xff\xff\xff"),
+        Some(VerifyError::OutOfRange { pos: -12, size: 9 }));
     let invalid = Some(VerifyError::InvalidValue { pos: 0 });
-    expect_eq!(rt;
-        failure,
-        [
-            Some(VerifyError::OutOfRange { pos: -12, size: 9 }),
-            invalid,
-            invalid,
-            Some(VerifyError::InvalidValue { pos: 12 }),
-            invalid
-        ]
-    );
-}
-
-#[test]
-fn text_ends_before_the_first_ff(rt: HostRuntime) {
-    let right = [
-        is_root::<Narrow>(b"\xff\xff\xff\xff\xff\xff\xff\xff", ""),
-        is_root::<Narrow>(b"ab\xffcdefg", "ab"),
-        is_root::<Narrow>(b"abcdefgh", "abcdefgh"),
-    ];
-    expect_eq!(rt; right, [true; 3]);
+    expect_eq!(rt; access_failure::<Narrow, Text>(b"\x88\0\0\0\0\0\0\0"), invalid);
+    expect_eq!(rt; access_failure::<Wide, Text<Wide>>(b"\x90\0\0\0\0\0\0\0\0\0\0\0\0\0\0\0"),
+        invalid);
+    expect_eq!(rt; access_failure::<Narrow, Text>(&bytes),
+        Some(VerifyError::InvalidValue { pos: 12 }));
+    expect_eq!(rt; access_failure::<Narrow, Text>(b"\xc3\xff\xff\xff\xff\xff\xff\xff"), invalid);
+    expect_eq!(rt; is_root::<Narrow>(b"\xff\xff\xff\xff\xff\xff\xff\xff", ""), true);
+    expect_eq!(rt; is_root::<Narrow>(b"ab\xffcdefg", "ab"), true);
+    expect_eq!(rt; is_root::<Narrow>(b"abcdefgh", "abcdefgh"), true);
 }
 
 // Returns `true` if an owned text is archived as a borrowed one is, and reads back.
@@ -160,13 +130,10 @@ fn has_word(alloc: Global, len: usize, root: usize, word: &[u8]) -> bool {
 #[test]
 fn first_word_encodes_the_length(rt: HostRuntime) {
     let alloc = rt.alloc();
-    let right = [
-        has_word(alloc, 9, 12, &[0x89, 0, 0, 0]),
-        has_word(alloc, 63, 64, &[0xbf, 0, 0, 0]),
-        has_word(alloc, 64, 64, &[0x80, 1, 0, 0]),
-        has_word(alloc, 100, 100, &[0xa4, 1, 0, 0]),
-    ];
-    expect_eq!(rt; right, [true; 4]);
+    expect_eq!(rt; has_word(alloc, 9, 12, &[0x89, 0, 0, 0]), true);
+    expect_eq!(rt; has_word(alloc, 63, 64, &[0xbf, 0, 0, 0]), true);
+    expect_eq!(rt; has_word(alloc, 64, 64, &[0x80, 1, 0, 0]), true);
+    expect_eq!(rt; has_word(alloc, 100, 100, &[0xa4, 1, 0, 0]), true);
 }
 
 // Returns `true` if a text is archived in this width, and reads back.
@@ -191,28 +158,16 @@ fn wide_characters_are_inline_and_out_of_line(rt: HostRuntime) {
 fn rejects_a_distance_that_does_not_fit(rt: HostRuntime) {
     let (mut local, mut inline, mut wide) = ([0; 8], [0; 8], [0; 16]);
     let overflow = TextResolver { pos: 0 };
-    let fits = Archive::<Narrow>::resolve(
-        &"wonderful",
-        overflow,
-        2_147_483_648,
-        &mut local,
-    ).is_ok();
-    let long = Archive::<Narrow>::resolve(
-        &"wonderful",
-        overflow,
-        2_147_483_652,
-        &mut inline,
-    ).is_ok();
-    let short = Archive::<Narrow>::resolve(&"hello", overflow, 2_147_483_652, &mut inline).is_ok();
+    expect_eq!(rt; Archive::<Narrow>::resolve(&"wonderful", overflow, 2_147_483_648,
+        &mut local).is_ok(), true);
+    expect_eq!(rt; Archive::<Narrow>::resolve(&"wonderful", overflow, 2_147_483_652,
+        &mut inline).is_ok(), false);
+    expect_eq!(rt; Archive::<Narrow>::resolve(&"hello", overflow, 2_147_483_652,
+        &mut inline).is_ok(), true);
     let text = "wonderfulwonderfu";
-    let wide_fits = Archive::<Wide>::resolve(&text, overflow, 2_147_483_652, &mut wide).is_ok();
-    expect_eq!(rt;
-        ([fits, long, short, wide_fits], local, inline, wide),
-        (
-            [true, false, true, true],
-            [0x89, 0, 0, 0, 0, 0, 0, 0x80],
-            *b"hello\xff\xff\xff",
-            *b"\x91\0\0\0\0\0\0\0\xfc\xff\xff\x7f\xff\xff\xff\xff"
-        )
-    );
+    expect_eq!(rt; Archive::<Wide>::resolve(&text, overflow, 2_147_483_652, &mut wide).is_ok(),
+        true);
+    expect_eq!(rt; local, [0x89, 0, 0, 0, 0, 0, 0, 0x80]);
+    expect_eq!(rt; inline, *b"hello\xff\xff\xff");
+    expect_eq!(rt; wide, *b"\x91\0\0\0\0\0\0\0\xfc\xff\xff\x7f\xff\xff\xff\xff");
 }

@@ -12,40 +12,18 @@ use test_support::written::is_archived_as;
 fn vec_writer_stores_the_written_bytes(rt: HostRuntime) {
     laws::outputs_of_writers::<VecWriter>();
     let mut writer = VecWriter::new(rt.alloc());
-    let begins = writer.pos();
-    let first = [
-        writer.write(&[1, 2, 3]).is_ok(),
-        append(&mut writer, &[4]).is_ok(),
-    ];
-    let narrow = align_for::<u8, VecWriter>(&mut writer).ok();
-    let last = append_in::<Wide, VecWriter>(&mut writer, &[5]).is_ok();
-    let wide = align_for_in::<Wide, u64, VecWriter>(&mut writer).ok();
-    let ends = (writer.pos(), writer.failures());
+    expect_eq!(rt; writer.pos(), 0);
+    expect_eq!(rt; writer.write(&[1, 2, 3]).is_ok(), true);
+    expect_eq!(rt; append(&mut writer, &[4]).is_ok(), true);
+    expect_eq!(rt; align_for::<u8, VecWriter>(&mut writer).ok(), Some(4));
+    expect_eq!(rt; append_in::<Wide, VecWriter>(&mut writer, &[5]).is_ok(), true);
+    expect_eq!(rt; align_for_in::<Wide, u64, VecWriter>(&mut writer).ok(), Some(8));
+    expect_eq!(rt; writer.pos(), 8);
+    expect_eq!(rt; writer.failures(), 0);
     let expected = [1, 2, 3, 4, 5, 0, 0, 0];
-    let equal = writer.bytes() == expected.as_slice();
+    expect_eq!(rt; writer.bytes() == expected.as_slice(), true);
     let bytes = writer.into_vec();
-    expect_eq!(rt;
-        (
-            begins,
-            first,
-            narrow,
-            last,
-            wide,
-            ends,
-            equal,
-            bytes.as_slice()
-        ),
-        (
-            0,
-            [true; 2],
-            Some(4),
-            true,
-            Some(8),
-            (8, 0),
-            true,
-            expected.as_slice()
-        )
-    );
+    expect_eq!(rt; bytes.as_slice(), expected.as_slice());
 }
 
 // Returns `true` if a write fails since it would end after the greatest position.
@@ -54,98 +32,47 @@ fn is_too_large<T: Drop>(outcome: Result<T, WriteError<NoRoom>>) -> bool {
 }
 
 #[test]
-fn pieces_are_appended_up_to_the_limit(rt: HostRuntime) {
+fn bytes_are_appended_up_to_the_limit(rt: HostRuntime) {
     let mut writer = LateWriter::new(rt.alloc());
-    let first = (
-        is_too_large(append(&mut writer, &[1, 2, 3, 4, 5, 6])),
-        writer.bytes().len(),
-    );
-    let written = [
-        append(&mut writer, &[1, 2]).is_ok(),
-        append(&mut writer, &[3, 4, 5]).is_ok(),
-    ];
-    let greatest = writer.pos();
-    let full = is_too_large(append(&mut writer, &[6]));
-    let nothing = append(&mut writer, &[]).is_ok();
-    let equal = writer.bytes() == [1, 2, 3, 4, 5].as_slice();
-    let wide = append_in::<Wide, LateWriter>(&mut writer, &[6]).is_ok();
-    let above = writer.pos();
-    let past = is_too_large(append(&mut writer, &[]));
-    expect_eq!(rt;
-        (
-            first,
-            written,
-            [full, nothing, equal, wide, past],
-            (greatest, above, writer.failures())
-        ),
-        (
-            (true, 0),
-            [true; 2],
-            [true; 5],
-            (4_294_967_295, 4_294_967_296, 0)
-        )
-    );
+    expect_eq!(rt; is_too_large(append(&mut writer, &[1, 2, 3, 4, 5, 6])), true);
+    expect_eq!(rt; writer.bytes().len(), 0);
+    expect_eq!(rt; append(&mut writer, &[1, 2]).is_ok(), true);
+    expect_eq!(rt; append(&mut writer, &[3, 4, 5]).is_ok(), true);
+    expect_eq!(rt; writer.pos(), 4_294_967_295);
+    expect_eq!(rt; is_too_large(append(&mut writer, &[6])), true);
+    expect_eq!(rt; append(&mut writer, &[]).is_ok(), true);
+    expect_eq!(rt; writer.bytes() == [1, 2, 3, 4, 5].as_slice(), true);
+    expect_eq!(rt; append_in::<Wide, LateWriter>(&mut writer, &[6]).is_ok(), true);
+    expect_eq!(rt; writer.pos(), 4_294_967_296);
+    expect_eq!(rt; is_too_large(append(&mut writer, &[])), true);
+    expect_eq!(rt; writer.failures(), 0);
+    let mut writer = LateWriter::new(rt.alloc());
+    expect_eq!(rt; is_too_large(align_for::<u64, LateWriter>(&mut writer)), true);
+    expect_eq!(rt; align_for::<u16, LateWriter>(&mut writer).ok(), Some(4_294_967_290));
+    expect_eq!(rt; writer.bytes().len(), 0);
+    expect_eq!(rt; align_for::<u32, LateWriter>(&mut writer).ok(), Some(4_294_967_292));
+    expect_eq!(rt; writer.bytes() == [0, 0].as_slice(), true);
+    expect_eq!(rt; align_for_in::<Wide, u64, LateWriter>(&mut writer).ok(), Some(4_294_967_296));
+    let mut writer = LateWriter::new(rt.alloc());
+    expect_eq!(rt; is_too_large(write_root(rt.alloc(), &(1u32, 2u32), &mut writer)), true);
+    expect_eq!(rt; writer.bytes() == [0, 0].as_slice(), true);
+    expect_eq!(rt; write_root(rt.alloc(), &(1u8, 2u8), &mut writer).ok(), Some(4_294_967_292));
+    expect_eq!(rt; write_root_in::<Wide, LateWriter, u8>(rt.alloc(), &3, &mut writer).ok(),
+        Some(4_294_967_294));
+    expect_eq!(rt; writer.bytes(), [0, 0, 1, 2, 3].as_slice());
 }
 
 #[test]
-fn zeros_are_appended_up_to_the_limit(rt: HostRuntime) {
-    let mut writer = LateWriter::new(rt.alloc());
-    let failed = is_too_large(align_for::<u64, LateWriter>(&mut writer));
-    let two = align_for::<u16, LateWriter>(&mut writer).ok();
-    let none = writer.bytes().len();
-    let four = align_for::<u32, LateWriter>(&mut writer).ok();
-    let equal = writer.bytes() == [0, 0].as_slice();
-    let wide = align_for_in::<Wide, u64, LateWriter>(&mut writer).ok();
-    expect_eq!(rt;
-        (failed, [two, four, wide], none, equal),
-        (
-            true,
-            [
-                Some(4_294_967_290),
-                Some(4_294_967_292),
-                Some(4_294_967_296)
-            ],
-            0,
-            true
-        )
-    );
-}
-
-#[test]
-fn rejects_a_root_past_the_limit(rt: HostRuntime) {
-    let mut writer = LateWriter::new(rt.alloc());
-    let failed = is_too_large(write_root(rt.alloc(), &(1u32, 2u32), &mut writer));
-    let equal = writer.bytes() == [0, 0].as_slice();
-    let narrow = write_root(rt.alloc(), &(1u8, 2u8), &mut writer).ok();
-    let wide = write_root_in::<Wide, LateWriter, u8>(rt.alloc(), &3, &mut writer).ok();
-    expect_eq!(rt;
-        (failed, equal, [narrow, wide], writer.bytes()),
-        (
-            true,
-            true,
-            [Some(4_294_967_292), Some(4_294_967_294)],
-            [0, 0, 1, 2, 3].as_slice()
-        )
-    );
-}
-
-#[test]
-fn nothing_is_written_after_a_fault(rt: HostRuntime) {
+fn failures_are_counted(rt: HostRuntime) {
     let mut writer = BrokenWriter::new(0);
-    let failed = matches!(
-        write_root(rt.alloc(), &(1u32, 2u32), &mut writer),
-        Err(WriteError::Writer(Broken))
-    );
-    expect_eq!(rt; (failed, writer.calls(), writer.failures()), (true, 1, 1));
-}
-
-#[test]
-fn failure_count_saturates(rt: HostRuntime) {
+    expect_eq!(rt; matches!(write_root(rt.alloc(), &(1u32, 2u32), &mut writer),
+        Err(WriteError::Writer(Broken))), true);
+    expect_eq!(rt; writer.calls(), 1);
+    expect_eq!(rt; writer.failures(), 1);
     let mut writer = BrokenWriter::new(18_446_744_073_709_551_614);
-    let first = (append(&mut writer, &[1]).is_err(), writer.failures());
-    let second = (append(&mut writer, &[1]).is_err(), writer.failures());
     let expected = (true, 18_446_744_073_709_551_615);
-    expect_eq!(rt; [first, second], [expected; 2]);
+    expect_eq!(rt; (append(&mut writer, &[1]).is_err(), writer.failures()), expected);
+    expect_eq!(rt; (append(&mut writer, &[1]).is_err(), writer.failures()), expected);
 }
 
 // The byte 9, followed by the aligned archive of 1 and 2.
@@ -180,60 +107,34 @@ fn limit_keeps_a_prefix_of_the_archive(rt: HostRuntime) {
         right = right && keeps_a_prefix(rt.alloc(), limit);
     }
     let mut writer = LimitWriter::new(VecWriter::new(rt.alloc()), 12);
-    let root = write_whole(rt.alloc(), &mut writer).ok();
-    let state = (writer.pos(), writer.failures());
-    let nothing = append(&mut writer, &[]).is_ok();
-    let full = append(&mut writer, &[1]).err();
+    expect_eq!(rt; write_whole(rt.alloc(), &mut writer).ok(), Some(4));
+    expect_eq!(rt; writer.pos(), 12);
+    expect_eq!(rt; writer.failures(), 0);
+    expect_eq!(rt; append(&mut writer, &[]).is_ok(), true);
+    expect_eq!(rt; append(&mut writer, &[1]).err(), Some(WriteError::Writer(LimitFault::Full)));
     let inner = writer.into_inner();
-    expect_eq!(rt;
-        (right, root, state, nothing, full, inner.bytes()),
-        (
-            true,
-            Some(4),
-            (12, 0),
-            true,
-            Some(WriteError::Writer(LimitFault::Full)),
-            WHOLE.as_slice()
-        )
-    );
+    expect_eq!(rt; right, true);
+    expect_eq!(rt; inner.bytes(), WHOLE.as_slice());
 }
 
 #[test]
 fn errors_of_the_inner_writer_are_returned(rt: HostRuntime) {
     let mut writer = LimitWriter::new(LimitWriter::new(VecWriter::new(rt.alloc()), 3), 5);
     // The piece fits in the outer limit, and the inner writer takes three of its bytes.
-    let first = writer.write(&[1, 2, 3, 4]).err();
-    let state = (writer.pos(), writer.failures());
+    expect_eq!(rt; writer.write(&[1, 2, 3, 4]).err(), Some(LimitFault::Inner(LimitFault::Full)));
+    expect_eq!(rt; writer.pos(), 3);
+    expect_eq!(rt; writer.failures(), 1);
     // The inner writer takes none of the two bytes that still fit in the outer limit.
-    let second = writer.write(&[4, 5, 6]).err();
-    let third = writer.write(&[4, 5]).err();
-    let nothing = writer.write(&[]).is_ok();
-    let next_state = (writer.pos(), writer.failures());
+    expect_eq!(rt; writer.write(&[4, 5, 6]).err(), Some(LimitFault::Inner(LimitFault::Full)));
+    expect_eq!(rt; writer.write(&[4, 5]).err(), Some(LimitFault::Inner(LimitFault::Full)));
+    expect_eq!(rt; writer.write(&[]).is_ok(), true);
+    expect_eq!(rt; writer.pos(), 3);
+    expect_eq!(rt; writer.failures(), 3);
     let inner = writer.into_inner();
     let failures = inner.failures();
     let inmost = inner.into_inner();
-    expect_eq!(rt;
-        (
-            [first, second, third],
-            nothing,
-            state,
-            next_state,
-            failures,
-            inmost.bytes()
-        ),
-        (
-            [Some(LimitFault::Inner(LimitFault::Full)); 3],
-            true,
-            (3, 1),
-            (3, 3),
-            3,
-            [1, 2, 3].as_slice()
-        )
-    );
-}
-
-#[test]
-fn full_writer_does_not_call_the_inner_writer(rt: HostRuntime) {
+    expect_eq!(rt; failures, 3);
+    expect_eq!(rt; inmost.bytes(), [1, 2, 3].as_slice());
     let mut writer = LimitWriter::new(BrokenWriter::new(0), 0);
     let full = matches!(writer.write(&[1]), Err(LimitFault::Full));
     let broken = matches!(writer.write(&[]), Err(LimitFault::Inner(Broken)));
@@ -247,7 +148,7 @@ fn borrowed_parts_are_archived_as_a_pair(rt: HostRuntime) {
     laws::adapters_are_pairs::<Narrow, u8, &u32, u8, u32, u8, u32>();
     let value = 2u32;
     let adapter = EntryAdapter::<u8, &u32, u8, u32>::new(1, &value);
-    let archived = is_archived_as(rt.alloc(), &adapter, &[1, 0, 0, 0, 2, 0, 0, 0]);
-    let lent = [*Lend::<u32>::lend(&value), *Lend::<u32>::lend(&&value)];
-    expect_eq!(rt; (archived, lent), (true, [2; 2]));
+    expect_eq!(rt; is_archived_as(rt.alloc(), &adapter, &[1, 0, 0, 0, 2, 0, 0, 0]), true);
+    expect_eq!(rt; *Lend::<u32>::lend(&value), 2);
+    expect_eq!(rt; *Lend::<u32>::lend(&&value), 2);
 }
