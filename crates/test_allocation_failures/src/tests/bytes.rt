@@ -33,16 +33,12 @@ fn byte_string_back(alloc: Global) -> Result<Result<bool, ReadError>, VerifyErro
     let bytes = one_byte_string();
     let root = ArchivedIndexMap::of(access::<IndexMapOf<i8, Bytes>>(&bytes)?);
     let back: Result<Vec<(i8, Vec<u8>)>, ReadError> = root.deserialize_pairs(alloc);
-    match back {
-        Ok(list) => Ok(Ok(is_one_byte_string(list.as_slice()))),
-        Err(e) => Ok(Err(e)),
-    }
+    Ok(back.map(|list| is_one_byte_string(list.as_slice())))
 }
 
 #[test]
 fn byte_string_is_read_back_or_fails_to_allocate(rt: HostRuntime) {
-    let right = is_read_back_or_fails_to_allocate(byte_string_back(rt.alloc()));
-    assert!(rt; right);
+    assert!(rt; is_read_back_or_fails_to_allocate(byte_string_back(rt.alloc())));
 }
 
 #[test]

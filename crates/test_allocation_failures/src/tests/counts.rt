@@ -72,34 +72,30 @@ fn archives_text(alloc: Global, text: &str) -> bool {
 
 #[test]
 fn a_new_writer_makes_no_allocation_and_succeeds(rt: HostRuntime) {
-    let made = new_writers(rt.alloc());
-    expect_eq!(rt; (made, allocates(rt.alloc(), 8)), (20, true));
+    expect_eq!(rt; new_writers(rt.alloc()), 20);
+    expect_eq!(rt; allocates(rt.alloc(), 8), true);
 }
 
 #[test]
 fn an_archive_of_no_bytes_makes_no_allocation_and_succeeds(rt: HostRuntime) {
-    let written = to_bytes(rt.alloc(), &()).is_ok();
-    assert!(rt; written && allocates(rt.alloc(), 8));
+    assert!(rt; to_bytes(rt.alloc(), &()).is_ok() && allocates(rt.alloc(), 8));
 }
 
 // The allocation is the writer's: the buffer for the fixed bytes of a small root needs no memory.
 #[test]
 fn a_number_makes_one_allocation_and_succeeds(rt: HostRuntime) {
-    let ready = allocates(rt.alloc(), 7);
-    assert!(rt; ready && to_bytes(rt.alloc(), &7u32).is_ok());
+    assert!(rt; allocates(rt.alloc(), 7) && to_bytes(rt.alloc(), &7u32).is_ok());
 }
 
 #[test]
 fn an_inline_text_makes_one_allocation_and_succeeds(rt: HostRuntime) {
-    let ready = allocates(rt.alloc(), 7);
-    assert!(rt; ready && archives_text(rt.alloc(), "hello"));
+    assert!(rt; allocates(rt.alloc(), 7) && archives_text(rt.alloc(), "hello"));
 }
 
 // The writer makes one for each of its three pieces: 9, 3 and 8 bytes, and doubles what it has.
 #[test]
 fn an_out_of_line_text_makes_three_allocations_and_succeeds(rt: HostRuntime) {
-    let ready = allocates(rt.alloc(), 5);
-    assert!(rt; ready && archives_text(rt.alloc(), "wonderful"));
+    assert!(rt; allocates(rt.alloc(), 5) && archives_text(rt.alloc(), "wonderful"));
 }
 
 // Writes a root to a writer that fails, and returns whether that is the error.
@@ -111,39 +107,33 @@ fn fails_to_write_root<V: Serialize<BrokenWriter, Narrow>>(alloc: Global, value:
 
 #[test]
 fn a_root_of_64_bytes_makes_no_allocation_of_its_own_and_succeeds(rt: HostRuntime) {
-    let ready = allocates(rt.alloc(), 8);
-    assert!(rt; ready && fails_to_write_root(rt.alloc(), &EIGHT));
+    assert!(rt; allocates(rt.alloc(), 8) && fails_to_write_root(rt.alloc(), &EIGHT));
 }
 
 // The allocation is that of the buffer for the fixed bytes.
 #[test]
 fn a_root_of_72_bytes_makes_one_allocation_of_its_own_and_succeeds(rt: HostRuntime) {
-    let ready = allocates(rt.alloc(), 7);
-    assert!(rt; ready && fails_to_write_root(rt.alloc(), &(EIGHT, 9u64)));
+    assert!(rt; allocates(rt.alloc(), 7) && fails_to_write_root(rt.alloc(), &(EIGHT, 9u64)));
 }
 
 // They are for the slots of items, for the controls and a bucket, and for the resolvers.
 #[test]
 fn a_table_makes_three_allocations_of_its_own_and_succeeds(rt: HostRuntime) {
-    let ready = allocates(rt.alloc(), 5);
-    assert!(rt; ready && fails_to_write_table(rt.alloc(), &7u8));
+    assert!(rt; allocates(rt.alloc(), 5) && fails_to_write_table(rt.alloc(), &7u8));
 }
 
 #[test]
 fn a_table_of_texts_makes_as_many_and_succeeds(rt: HostRuntime) {
-    let ready = allocates(rt.alloc(), 5);
-    assert!(rt; ready && fails_to_write_table(rt.alloc(), &"hello"));
+    assert!(rt; allocates(rt.alloc(), 5) && fails_to_write_table(rt.alloc(), &"hello"));
 }
 
 // The writer makes one for the first bucket and one for the controls.
 #[test]
 fn a_table_in_memory_makes_five_allocations_and_succeeds(rt: HostRuntime) {
-    let ready = allocates(rt.alloc(), 3);
-    assert!(rt; ready && writes_table(rt.alloc(), &[7]));
+    assert!(rt; allocates(rt.alloc(), 3) && writes_table(rt.alloc(), &[7]));
 }
 
 #[test]
 fn a_table_of_no_items_makes_no_allocation_and_succeeds(rt: HostRuntime) {
-    let written = writes_table(rt.alloc(), &[]);
-    assert!(rt; written && allocates(rt.alloc(), 8));
+    assert!(rt; writes_table(rt.alloc(), &[]) && allocates(rt.alloc(), 8));
 }

@@ -52,24 +52,14 @@ fn is_whole(built: Option<Result<Vec<u8>, WriteError<NoMemory>>>, bytes: &[u8]) 
 }
 
 #[test]
-fn map_is_complete_or_fails_to_allocate(rt: HostRuntime) {
-    let right = is_complete_or_fails_to_allocate(four_built(rt.alloc()), &four_entries());
-    assert!(rt; right);
+fn maps_and_sets_are_complete_or_fail_to_allocate(rt: HostRuntime) {
+    assert!(rt; is_complete_or_fails_to_allocate(four_built(rt.alloc()), &four_entries()));
+    assert!(rt; is_complete_or_fails_to_allocate(one_built(rt.alloc()), &one_index_key()));
 }
 
 #[test]
-fn set_is_complete_or_fails_to_allocate(rt: HostRuntime) {
-    let right = is_complete_or_fails_to_allocate(one_built(rt.alloc()), &one_index_key());
-    assert!(rt; right);
-}
-
-#[test]
-fn a_map_succeeds(rt: HostRuntime) {
+fn writing_a_map_and_a_set_succeeds(rt: HostRuntime) {
     assert!(rt; is_whole(four_built(rt.alloc()), &four_entries()));
-}
-
-#[test]
-fn a_set_succeeds(rt: HostRuntime) {
     assert!(rt; is_whole(one_built(rt.alloc()), &one_index_key()));
 }
 
@@ -117,10 +107,7 @@ fn pairs_back(alloc: Global) -> Result<Result<bool, ReadError>, VerifyError> {
     let bytes = four_entries();
     let root = ArchivedIndexMap::of(access::<IndexMapOf<i8, i8>>(&bytes)?);
     let back: Result<Vec<(i8, i8)>, ReadError> = root.deserialize_pairs(alloc);
-    match back {
-        Ok(list) => Ok(Ok(list.as_slice() == [(1i8, 2i8), (3, 4), (5, 6), (7, 8)].as_slice())),
-        Err(e) => Ok(Err(e)),
-    }
+    Ok(back.map(|list| list.as_slice() == [(1i8, 2i8), (3, 4), (5, 6), (7, 8)].as_slice()))
 }
 
 // Returns whether the one key is read back from its archive, or the error.
@@ -128,24 +115,7 @@ fn items_back(alloc: Global) -> Result<Result<bool, ReadError>, VerifyError> {
     let bytes = one_index_key();
     let root = ArchivedIndexSet::of(access::<IndexSetOf<i8>>(&bytes)?);
     let back: Result<Vec<i8>, ReadError> = root.deserialize_items(alloc);
-    match back {
-        Ok(list) => Ok(Ok(list.as_slice() == [1i8].as_slice())),
-        Err(e) => Ok(Err(e)),
-    }
-}
-
-#[test]
-fn lists_are_read_back_or_fail_to_allocate(rt: HostRuntime) {
-    let pairs = is_read_back_or_fails_to_allocate(pairs_back(rt.alloc()));
-    let items = is_read_back_or_fails_to_allocate(items_back(rt.alloc()));
-    assert!(rt; pairs && items);
-}
-
-#[test]
-fn reading_lists_back_succeeds(rt: HostRuntime) {
-    let pairs = pairs_back(rt.alloc());
-    let items = items_back(rt.alloc());
-    expect_eq!(rt; (pairs, items), (Ok(Ok(true)), Ok(Ok(true))));
+    Ok(back.map(|list| list.as_slice() == [1i8].as_slice()))
 }
 
 // Returns the index map of hello to a wonderful text, and of wonderful to world.
@@ -187,19 +157,19 @@ fn texts_back(alloc: Global) -> Result<Result<bool, ReadError>, VerifyError> {
     let bytes = two_texts();
     let root = ArchivedIndexMap::of(access::<IndexMapOf<Text, Text>>(&bytes)?);
     let back: Result<Vec<(String, String)>, ReadError> = root.deserialize_pairs(alloc);
-    match back {
-        Ok(list) => Ok(Ok(are_two_texts(list.as_slice()))),
-        Err(e) => Ok(Err(e)),
-    }
+    Ok(back.map(|list| are_two_texts(list.as_slice())))
 }
 
 #[test]
-fn list_of_texts_is_read_back_or_fails_to_allocate(rt: HostRuntime) {
-    let right = is_read_back_or_fails_to_allocate(texts_back(rt.alloc()));
-    assert!(rt; right);
+fn lists_are_read_back_or_fail_to_allocate(rt: HostRuntime) {
+    assert!(rt; is_read_back_or_fails_to_allocate(pairs_back(rt.alloc())));
+    assert!(rt; is_read_back_or_fails_to_allocate(items_back(rt.alloc())));
+    assert!(rt; is_read_back_or_fails_to_allocate(texts_back(rt.alloc())));
 }
 
 #[test]
-fn reading_a_list_of_texts_back_succeeds(rt: HostRuntime) {
+fn reading_lists_back_succeeds(rt: HostRuntime) {
+    expect_eq!(rt; pairs_back(rt.alloc()), Ok(Ok(true)));
+    expect_eq!(rt; items_back(rt.alloc()), Ok(Ok(true)));
     expect_eq!(rt; texts_back(rt.alloc()), Ok(Ok(true)));
 }

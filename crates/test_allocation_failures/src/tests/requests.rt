@@ -52,140 +52,76 @@ fn fits_too_short(write: (Outcome, usize)) -> bool {
     }
 }
 
-// Writes a map of two pairs.
+// Writes a collection of two items under a claimed length.
 // Returns the outcome, and the number of calls of the iterator.
+macro_rules! two_written {
+    ($collection:ty, [$($param:ty),*], $item:expr, $alloc:expr, $len:expr) => {{
+        let requests = Cell::new(0usize);
+        let mut writer = VecWriter::new($alloc);
+        let outcome = <$collection>::serialize_from_iter::<VecWriter, $($param,)* _>(
+            $alloc,
+            iter::from_fn(|| yields_next(&requests, 2).then_some($item)),
+            $len,
+            (7, 8),
+            &mut writer,
+        );
+        (outcome_of(outcome, &writer), requests.get())
+    }};
+}
+
 fn map(alloc: Global) -> (Outcome, usize) {
-    let requests = Cell::new(0usize);
-    let mut writer = VecWriter::new(alloc);
-    let outcome = Numbers::serialize_from_iter::<VecWriter, i8, i8, i8, i8, _>(
-        alloc,
-        iter::from_fn(|| yields_next(&requests, 2).then_some((1i8, 2i8))),
-        2,
-        (7, 8),
-        &mut writer,
-    );
-    (outcome_of(outcome, &writer), requests.get())
+    two_written!(Numbers, [i8, i8, i8, i8], (1i8, 2i8), alloc, 2)
 }
 
-// Does the same with a set of two keys.
 fn set(alloc: Global) -> (Outcome, usize) {
-    let requests = Cell::new(0usize);
-    let mut writer = VecWriter::new(alloc);
-    let outcome = Keys::serialize_from_iter::<VecWriter, i8, i8, _>(
-        alloc,
-        iter::from_fn(|| yields_next(&requests, 2).then_some(1i8)),
-        2,
-        (7, 8),
-        &mut writer,
-    );
-    (outcome_of(outcome, &writer), requests.get())
+    two_written!(Keys, [i8, i8], 1i8, alloc, 2)
 }
 
-// Does the same with an index map of two pairs under the claimed length `len`.
 fn index_map(alloc: Global, len: usize) -> (Outcome, usize) {
-    let requests = Cell::new(0usize);
-    let mut writer = VecWriter::new(alloc);
-    let outcome = OrderedNumbers::serialize_from_iter::<VecWriter, i8, i8, i8, i8, _>(
-        alloc,
-        iter::from_fn(|| yields_next(&requests, 2).then_some((1i8, 2i8))),
-        len,
-        (7, 8),
-        &mut writer,
-    );
-    (outcome_of(outcome, &writer), requests.get())
+    two_written!(OrderedNumbers, [i8, i8, i8, i8], (1i8, 2i8), alloc, len)
 }
 
-// Does the same with an index set of two keys under the claimed length `len`.
 fn index_set(alloc: Global, len: usize) -> (Outcome, usize) {
-    let requests = Cell::new(0usize);
-    let mut writer = VecWriter::new(alloc);
-    let outcome = OrderedKeys::serialize_from_iter::<VecWriter, i8, i8, _>(
-        alloc,
-        iter::from_fn(|| yields_next(&requests, 2).then_some(1i8)),
-        len,
-        (7, 8),
-        &mut writer,
-    );
-    (outcome_of(outcome, &writer), requests.get())
+    two_written!(OrderedKeys, [i8, i8], 1i8, alloc, len)
 }
 
 #[test]
-fn table_allocates_before_reading_items(rt: HostRuntime) {
+fn tables_maps_and_sets_allocate_before_reading_items(rt: HostRuntime) {
     let (outcome, items, hashes) = requests_of_table(rt.alloc(), 2, 2, 2);
     assert!(rt; fits((outcome, items)) && fits((outcome, hashes)));
-}
-
-#[test]
-fn a_table_succeeds(rt: HostRuntime) {
-    expect_eq!(rt; requests_of_table(rt.alloc(), 2, 2, 2), (Outcome::Written, 3, 3));
-}
-
-#[test]
-fn table_allocates_before_reading_pairs(rt: HostRuntime) {
     assert!(rt; fits(requests_of_pairs(rt.alloc(), 2, 2, (7, 8))));
-}
-
-#[test]
-fn a_table_of_pairs_succeeds(rt: HostRuntime) {
-    expect_eq!(rt; requests_of_pairs(rt.alloc(), 2, 2, (7, 8)), (Outcome::Written, 3));
-}
-
-#[test]
-fn map_allocates_before_reading_pairs(rt: HostRuntime) {
     assert!(rt; fits(map(rt.alloc())));
-}
-
-#[test]
-fn a_map_succeeds(rt: HostRuntime) {
-    expect_eq!(rt; map(rt.alloc()), (Outcome::Written, 3));
-}
-
-#[test]
-fn set_allocates_before_reading_keys(rt: HostRuntime) {
     assert!(rt; fits(set(rt.alloc())));
 }
 
 #[test]
-fn a_set_succeeds(rt: HostRuntime) {
+fn writing_tables_maps_and_sets_succeeds(rt: HostRuntime) {
+    expect_eq!(rt; requests_of_table(rt.alloc(), 2, 2, 2), (Outcome::Written, 3, 3));
+    expect_eq!(rt; requests_of_pairs(rt.alloc(), 2, 2, (7, 8)), (Outcome::Written, 3));
+    expect_eq!(rt; map(rt.alloc()), (Outcome::Written, 3));
     expect_eq!(rt; set(rt.alloc()), (Outcome::Written, 3));
 }
 
 #[test]
-fn an_index_map_without_memory_has_taken_no_pair_or_all(rt: HostRuntime) {
+fn index_maps_and_sets_without_memory_have_taken_no_item_or_all(rt: HostRuntime) {
     assert!(rt; fits_index(index_map(rt.alloc(), 2)));
-}
-
-#[test]
-fn an_index_map_succeeds(rt: HostRuntime) {
-    expect_eq!(rt; index_map(rt.alloc(), 2), (Outcome::Written, 3));
-}
-
-#[test]
-fn an_index_set_without_memory_has_taken_no_key_or_all(rt: HostRuntime) {
     assert!(rt; fits_index(index_set(rt.alloc(), 2)));
 }
 
 #[test]
-fn an_index_set_succeeds(rt: HostRuntime) {
+fn writing_index_maps_and_sets_succeeds(rt: HostRuntime) {
+    expect_eq!(rt; index_map(rt.alloc(), 2), (Outcome::Written, 3));
     expect_eq!(rt; index_set(rt.alloc(), 2), (Outcome::Written, 3));
 }
 
 #[test]
-fn an_index_map_counts_its_pairs_before_it_allocates_its_table(rt: HostRuntime) {
+fn index_maps_and_sets_count_their_items_before_they_allocate_their_table(rt: HostRuntime) {
     assert!(rt; fits_too_short(index_map(rt.alloc(), 3)));
-}
-
-#[test]
-fn the_count_of_an_index_map_succeeds(rt: HostRuntime) {
-    expect_eq!(rt; index_map(rt.alloc(), 3), (Outcome::Mismatch(3, 2), 3));
-}
-
-#[test]
-fn an_index_set_counts_its_keys_before_it_allocates_its_table(rt: HostRuntime) {
     assert!(rt; fits_too_short(index_set(rt.alloc(), 3)));
 }
 
 #[test]
-fn the_count_of_an_index_set_succeeds(rt: HostRuntime) {
+fn counting_the_items_of_index_maps_and_sets_succeeds(rt: HostRuntime) {
+    expect_eq!(rt; index_map(rt.alloc(), 3), (Outcome::Mismatch(3, 2), 3));
     expect_eq!(rt; index_set(rt.alloc(), 3), (Outcome::Mismatch(3, 2), 3));
 }

@@ -46,10 +46,7 @@ fn equals(archived: ArchivedMaps<'_>, maps: &Maps) -> bool {
 
 // Returns whether the archive is valid, and its map equals `maps`.
 fn is_the_same(bytes: &[u8], maps: &Maps) -> bool {
-    match archived_maps(bytes) {
-        Ok(archived) => equals(archived, maps),
-        Err(_) => false,
-    }
+    matches!(archived_maps(bytes), Ok(archived) if equals(archived, maps))
 }
 
 // Returns whether the archive of the map is right, or the error of its write and the number
@@ -91,10 +88,7 @@ fn read_back(alloc: Global) -> Result<Result<bool, ReadError>, VerifyError> {
         alloc,
         BuildHasherDefault::new(),
     );
-    match back {
-        Ok(map) => Ok(Ok(root.eq_std(&map))),
-        Err(e) => Ok(Err(e)),
-    }
+    Ok(back.map(|map| root.eq_std(&map)))
 }
 
 /// Returns whether all is read back, or an allocation fails.
@@ -106,17 +100,6 @@ pub(super) fn is_read_back_or_fails_to_allocate(
         Ok(Err(cause)) => matches!(cause, ReadError::Memory),
         Err(_) => false,
     }
-}
-
-#[test]
-fn map_is_read_back_or_fails_to_allocate(rt: HostRuntime) {
-    let right = is_read_back_or_fails_to_allocate(read_back(rt.alloc()));
-    assert!(rt; right);
-}
-
-#[test]
-fn reading_back_succeeds(rt: HostRuntime) {
-    expect_eq!(rt; read_back(rt.alloc()), Ok(Ok(true)));
 }
 
 // Returns the control bytes and the header of a map or a set with the keys hello and wonderful.
@@ -146,21 +129,7 @@ fn texts_back(alloc: Global) -> Result<Result<bool, ReadError>, VerifyError> {
         alloc,
         BuildHasherDefault::new(),
     );
-    match back {
-        Ok(map) => Ok(Ok(root.eq_std(&map))),
-        Err(e) => Ok(Err(e)),
-    }
-}
-
-#[test]
-fn map_of_texts_is_read_back_or_fails_to_allocate(rt: HostRuntime) {
-    let right = is_read_back_or_fails_to_allocate(texts_back(rt.alloc()));
-    assert!(rt; right);
-}
-
-#[test]
-fn reading_a_map_of_texts_back_succeeds(rt: HostRuntime) {
-    expect_eq!(rt; texts_back(rt.alloc()), Ok(Ok(true)));
+    Ok(back.map(|map| root.eq_std(&map)))
 }
 
 // Returns the set of hello and wonderful.
@@ -182,21 +151,7 @@ fn words_back(alloc: Global) -> Result<Result<bool, ReadError>, VerifyError> {
         alloc,
         BuildHasherDefault::new(),
     );
-    match back {
-        Ok(set) => Ok(Ok(root.eq_std(&set))),
-        Err(e) => Ok(Err(e)),
-    }
-}
-
-#[test]
-fn set_of_texts_is_read_back_or_fails_to_allocate(rt: HostRuntime) {
-    let right = is_read_back_or_fails_to_allocate(words_back(rt.alloc()));
-    assert!(rt; right);
-}
-
-#[test]
-fn reading_a_set_of_texts_back_succeeds(rt: HostRuntime) {
-    expect_eq!(rt; words_back(rt.alloc()), Ok(Ok(true)));
+    Ok(back.map(|set| root.eq_std(&set)))
 }
 
 // Returns whether the map of std that is read back has the two maps, or the error.
@@ -204,20 +159,22 @@ fn maps_back(alloc: Global) -> Result<Result<bool, ReadError>, VerifyError> {
     let bytes = archives::two_maps();
     let archived = archived_maps(&bytes)?;
     let back: Result<Maps, ReadError> = archived.deserialize_std(alloc, BuildHasherDefault::new());
-    match back {
-        Ok(maps) => Ok(Ok(equals(archived, &maps))),
-        Err(e) => Ok(Err(e)),
-    }
+    Ok(back.map(|maps| equals(archived, &maps)))
 }
 
 #[test]
-fn map_of_maps_is_read_back_or_fails_to_allocate(rt: HostRuntime) {
-    let right = is_read_back_or_fails_to_allocate(maps_back(rt.alloc()));
-    assert!(rt; right);
+fn maps_and_sets_are_read_back_or_fail_to_allocate(rt: HostRuntime) {
+    assert!(rt; is_read_back_or_fails_to_allocate(read_back(rt.alloc())));
+    assert!(rt; is_read_back_or_fails_to_allocate(texts_back(rt.alloc())));
+    assert!(rt; is_read_back_or_fails_to_allocate(words_back(rt.alloc())));
+    assert!(rt; is_read_back_or_fails_to_allocate(maps_back(rt.alloc())));
 }
 
 #[test]
-fn reading_a_map_of_maps_back_succeeds(rt: HostRuntime) {
+fn reading_maps_and_sets_back_succeeds(rt: HostRuntime) {
+    expect_eq!(rt; read_back(rt.alloc()), Ok(Ok(true)));
+    expect_eq!(rt; texts_back(rt.alloc()), Ok(Ok(true)));
+    expect_eq!(rt; words_back(rt.alloc()), Ok(Ok(true)));
     expect_eq!(rt; maps_back(rt.alloc()), Ok(Ok(true)));
 }
 
