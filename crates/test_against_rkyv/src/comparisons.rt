@@ -23,11 +23,7 @@ pub fn same_bytes(written: &[u8], given: &[u8]) -> Result<(), Difference> {
 ///
 /// - `Len`: it is another number.
 pub fn same_len(len: usize, entries: usize) -> Result<(), Difference> {
-    if len == entries {
-        Ok(())
-    } else {
-        Err(Difference::Len(len))
-    }
+    (len == entries).then_some(()).ok_or(Difference::Len(len))
 }
 
 /// Returns the difference of the lookup of a key.
@@ -69,10 +65,8 @@ impl Visits {
     ///
     /// - `Iteration`: an entry wasn't visited.
     pub fn all(&self) -> Result<(), Difference> {
-        if self.visited.iter().all(|visited| *visited) {
-            Ok(())
-        } else {
-            Err(Difference::Iteration)
-        }
+        (self.visited.iter().all(|visited| *visited))
+            .then_some(())
+            .ok_or(Difference::Iteration)
     }
 }

@@ -40,11 +40,7 @@ fn items_of<A: Field + Drop>(alloc: Global, text: &str) -> Result<Vec<A>, LineEr
 
 /// Fails unless the line has `len` entries.
 fn check_count(line: &Line<'_>, len: usize) -> Result<(), Malformed> {
-    if line.count == len {
-        Ok(())
-    } else {
-        Err(Malformed::Count)
-    }
+    (line.count == len).then_some(()).ok_or(Malformed::Count)
 }
 
 /// Returns the pairs of a line.

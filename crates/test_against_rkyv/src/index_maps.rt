@@ -91,10 +91,10 @@ fn check_iteration<A, B, K: MatchesNative<A>, V: MatchesNative<B>, W: IndexWidth
             return Err(Difference::Iteration);
         }
     }
-    match rest.next() {
-        Some(_) => Err(Difference::Iteration),
-        None => Ok(()),
-    }
+    rest.next()
+        .is_none()
+        .then_some(())
+        .ok_or(Difference::Iteration)
 }
 
 /// Fails unless the map is read back as the entries.
@@ -110,11 +110,9 @@ fn check_read_back<
     entries: &[(A, B)],
 ) -> Result<(), Difference> {
     let back = map.deserialize_pairs::<A, B>(alloc)?;
-    if back.as_slice() == entries {
-        Ok(())
-    } else {
-        Err(Difference::ReadBack)
-    }
+    (back.as_slice() == entries)
+        .then_some(())
+        .ok_or(Difference::ReadBack)
 }
 
 /// Fails unless the entries are archived as these bytes, and the bytes are a map of the entries.

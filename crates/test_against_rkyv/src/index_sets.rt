@@ -65,10 +65,10 @@ fn check_iteration<A, K: MatchesNative<A>, W: IndexWidth>(
             return Err(Difference::Iteration);
         }
     }
-    match rest.next() {
-        Some(_) => Err(Difference::Iteration),
-        None => Ok(()),
-    }
+    rest.next()
+        .is_none()
+        .then_some(())
+        .ok_or(Difference::Iteration)
 }
 
 /// Fails unless the set is read back as the entries.
@@ -78,11 +78,9 @@ fn check_read_back<A: PartialEq + Drop, K: Deserialize<A>, W: IndexWidth>(
     entries: &[A],
 ) -> Result<(), Difference> {
     let back = set.deserialize_items::<A>(alloc)?;
-    if back.as_slice() == entries {
-        Ok(())
-    } else {
-        Err(Difference::ReadBack)
-    }
+    (back.as_slice() == entries)
+        .then_some(())
+        .ok_or(Difference::ReadBack)
 }
 
 /// Fails unless the entries are archived as these bytes, and the bytes are a set of the entries.

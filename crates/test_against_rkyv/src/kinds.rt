@@ -71,111 +71,67 @@ pub struct Kind {
     pub width: PointerWidth,
 }
 
-impl Collection {
-    /// Returns the collection of this name.
-    pub fn named(name: &str) -> Result<Collection, Malformed> {
-        match name {
-            "map" => Ok(Collection::Map),
-            "set" => Ok(Collection::Set),
-            "index map" => Ok(Collection::IndexMap),
-            "index set" => Ok(Collection::IndexSet),
-            _ => Err(Malformed::Collection),
-        }
-    }
+/// The names of the collections.
+pub const COLLECTIONS: &[(&str, Collection)] = &[
+    ("map", Collection::Map),
+    ("set", Collection::Set),
+    ("index map", Collection::IndexMap),
+    ("index set", Collection::IndexSet),
+];
 
-    /// Returns the name of the collection.
-    fn name(self) -> &'static str {
-        match self {
-            Collection::Map => "map",
-            Collection::Set => "set",
-            Collection::IndexMap => "index map",
-            Collection::IndexSet => "index set",
+/// The names of the types of keys and items.
+pub const KEY_TYPES: &[(&str, KeyType)] = &[
+    ("i16", KeyType::I16),
+    ("i64", KeyType::I64),
+    ("u32", KeyType::U32),
+    ("u64", KeyType::U64),
+    ("text", KeyType::Text),
+];
+
+/// The names of the types of values: a hyphen for `Absent`.
+pub const VALUE_TYPES: &[(&str, ValueType)] = &[
+    ("-", ValueType::Absent),
+    ("u8", ValueType::U8),
+    ("i32", ValueType::I32),
+    ("u32", ValueType::U32),
+    ("u64", ValueType::U64),
+    ("text", ValueType::Text),
+    ("map u32 u32", ValueType::Map),
+];
+
+/// The names of the widths.
+pub const WIDTHS: &[(&str, PointerWidth)] = &[
+    ("narrow", PointerWidth::Narrow),
+    ("wide", PointerWidth::Wide),
+];
+
+/// Returns the item of this name, or the error if there is none.
+pub fn named<T: Copy>(rows: &[(&str, T)], name: &str, error: Malformed) -> Result<T, Malformed> {
+    for (known, item) in rows {
+        if *known == name {
+            return Ok(*item);
         }
     }
+    Err(error)
 }
 
-impl KeyType {
-    /// Returns the type of this name.
-    pub fn named(name: &str) -> Result<KeyType, Malformed> {
-        match name {
-            "i16" => Ok(KeyType::I16),
-            "i64" => Ok(KeyType::I64),
-            "u32" => Ok(KeyType::U32),
-            "u64" => Ok(KeyType::U64),
-            "text" => Ok(KeyType::Text),
-            _ => Err(Malformed::Type),
+// Returns the name of an item, which has a row.
+fn name_of<T: Copy + PartialEq>(rows: &[(&'static str, T)], item: T) -> &'static str {
+    for (name, known) in rows {
+        if *known == item {
+            return *name;
         }
     }
-
-    /// Returns the name of the type.
-    fn name(self) -> &'static str {
-        match self {
-            KeyType::I16 => "i16",
-            KeyType::I64 => "i64",
-            KeyType::U32 => "u32",
-            KeyType::U64 => "u64",
-            KeyType::Text => "text",
-        }
-    }
-}
-
-impl ValueType {
-    /// Returns the type of this name, or `Absent` for a hyphen.
-    pub fn named(name: &str) -> Result<ValueType, Malformed> {
-        match name {
-            "-" => Ok(ValueType::Absent),
-            "u8" => Ok(ValueType::U8),
-            "i32" => Ok(ValueType::I32),
-            "u32" => Ok(ValueType::U32),
-            "u64" => Ok(ValueType::U64),
-            "text" => Ok(ValueType::Text),
-            "map u32 u32" => Ok(ValueType::Map),
-            _ => Err(Malformed::Type),
-        }
-    }
-
-    /// Returns the name of the type after a blank, or an empty text if it is `Absent`.
-    fn suffix(self) -> &'static str {
-        match self {
-            ValueType::Absent => "",
-            ValueType::U8 => " u8",
-            ValueType::I32 => " i32",
-            ValueType::U32 => " u32",
-            ValueType::U64 => " u64",
-            ValueType::Text => " text",
-            ValueType::Map => " map u32 u32",
-        }
-    }
-}
-
-impl PointerWidth {
-    /// Returns the width of this name.
-    pub fn named(name: &str) -> Result<PointerWidth, Malformed> {
-        match name {
-            "narrow" => Ok(PointerWidth::Narrow),
-            "wide" => Ok(PointerWidth::Wide),
-            _ => Err(Malformed::Width),
-        }
-    }
-
-    /// Returns the name of the width.
-    fn name(self) -> &'static str {
-        match self {
-            PointerWidth::Narrow => "narrow",
-            PointerWidth::Wide => "wide",
-        }
-    }
+    ""
 }
 
 impl Display for Kind {
     fn fmt<W: Write>(&self, f: &mut Formatter<W>) -> fmt::Result {
-        write!(
-            f,
-            "{} {}{} {}",
-            self.collection.name(),
-            self.key.name(),
-            self.value.suffix(),
-            self.width.name()
-        )
+        let collection = name_of(COLLECTIONS, self.collection);
+        write!(f, "{collection} {}", name_of(KEY_TYPES, self.key))?;
+        if self.value != ValueType::Absent {
+            write!(f, " {}", name_of(VALUE_TYPES, self.value))?;
+        }
+        write!(f, " {}", name_of(WIDTHS, self.width))
     }
 }

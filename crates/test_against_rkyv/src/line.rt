@@ -1,7 +1,7 @@
 //! The lines of the file of archives.
 use crate::errors::{Difference, LineError, Malformed};
 use crate::fields::number;
-use crate::kinds::{Collection, KeyType, Kind, PointerWidth, ValueType};
+use crate::kinds::{COLLECTIONS, KEY_TYPES, Kind, VALUE_TYPES, WIDTHS, named};
 use rkyv_dict::hex::read_hex;
 use std::alloc::Global;
 
@@ -41,10 +41,10 @@ impl<'a> Line<'a> {
     pub fn parse(alloc: Global, text: &'a str) -> Result<Line<'a>, LineError> {
         let mut fields = text.split('\t');
         let kind = Kind {
-            collection: Collection::named(next_field(&mut fields)?)?,
-            key: KeyType::named(next_field(&mut fields)?)?,
-            value: ValueType::named(next_field(&mut fields)?)?,
-            width: PointerWidth::named(next_field(&mut fields)?)?,
+            collection: named(COLLECTIONS, next_field(&mut fields)?, Malformed::Collection)?,
+            key: named(KEY_TYPES, next_field(&mut fields)?, Malformed::Type)?,
+            value: named(VALUE_TYPES, next_field(&mut fields)?, Malformed::Type)?,
+            width: named(WIDTHS, next_field(&mut fields)?, Malformed::Width)?,
         };
         let count = next_field(&mut fields)?;
         let entries = next_field(&mut fields)?;

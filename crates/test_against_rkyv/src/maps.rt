@@ -106,11 +106,9 @@ pub fn same_std<A: Eq + Hash, B: PartialEq>(
     let same = entries
         .iter()
         .all(|(key, value)| map.get(key) == Some(value));
-    if same && map.len() == entries.len() {
-        Ok(())
-    } else {
-        Err(Difference::ReadBack)
-    }
+    (same && map.len() == entries.len())
+        .then_some(())
+        .ok_or(Difference::ReadBack)
 }
 
 /// Fails unless the map is read back as the entries.

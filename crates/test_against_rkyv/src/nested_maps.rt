@@ -117,11 +117,9 @@ fn same_nested(
             None => return Err(Difference::ReadBack),
         }
     }
-    if map.len() == entries.len() {
-        Ok(())
-    } else {
-        Err(Difference::ReadBack)
-    }
+    (map.len() == entries.len())
+        .then_some(())
+        .ok_or(Difference::ReadBack)
 }
 
 /// Fails unless the map is read back as the entries.

@@ -75,11 +75,9 @@ fn check_iteration<A, K: MatchesNative<A>, W: Width>(
 
 /// Fails unless the std set has exactly the entries.
 fn same_std<A: Eq + Hash>(set: &HashSet<A>, entries: &[A]) -> Result<(), Difference> {
-    if entries.iter().all(|item| set.contains(item)) && set.len() == entries.len() {
-        Ok(())
-    } else {
-        Err(Difference::ReadBack)
-    }
+    (entries.iter().all(|item| set.contains(item)) && set.len() == entries.len())
+        .then_some(())
+        .ok_or(Difference::ReadBack)
 }
 
 /// Fails unless the set is read back as the entries.
