@@ -129,8 +129,7 @@ fn of_equal_keys_the_first_is_found(rt: HostRuntime) -> Result<(), Fail> {
     let list = PairList::Numbers(vec![in rt.alloc(); (1, 2), (1, 9)]?);
     let narrow = form(Kind::Num, ArchiveWidth::Bits32);
     let expected = (68, 1, "entries 2\n1 2\n1 9\n2\n");
-    let right = has_output(rt.alloc(), narrow, &list, &[Key::Number(1)], expected);
-    assert!(rt; right);
+    assert!(rt; has_output(rt.alloc(), narrow, &list, &[Key::Number(1)], expected));
     Ok(())
 }
 
@@ -145,20 +144,11 @@ fn build_error(alloc: Global, list: &PairList<'_>) -> Option<WriteError<NoMemory
 #[test]
 fn errors_of_build_and_check(rt: HostRuntime) -> Result<(), Fail> {
     let list = PairList::Numbers(vec![in rt.alloc(); (1, 2)]?);
-    expect_eq!(rt;
-        build_error(rt.alloc(), &list),
-        Some(WriteError::InvalidLoadFactor {
-            numerator: 8,
-            denominator: 7,
-        })
-    );
-    expect_eq!(rt;
-        check(form(Kind::Num, ArchiveWidth::Bits64), &[]),
-        Err(VerifyError::OutOfRange { pos: -24, size: 24 })
-    );
-    expect_eq!(rt;
-        check(form(Kind::Text, ArchiveWidth::Bits32), &[0; 10]),
-        Err(VerifyError::OutOfRange { pos: -2, size: 12 })
-    );
+    expect_eq!(rt; build_error(rt.alloc(), &list),
+        Some(WriteError::InvalidLoadFactor { numerator: 8, denominator: 7, }));
+    expect_eq!(rt; check(form(Kind::Num, ArchiveWidth::Bits64), &[]),
+        Err(VerifyError::OutOfRange { pos: -24, size: 24 }));
+    expect_eq!(rt; check(form(Kind::Text, ArchiveWidth::Bits32), &[0; 10]),
+        Err(VerifyError::OutOfRange { pos: -2, size: 12 }));
     Ok(())
 }

@@ -4,13 +4,10 @@ use rkyv_dict::form::{ArchiveWidth, Form, Key, Kind};
 
 #[test]
 fn kinds_and_widths_differ(rt: HostRuntime) {
-    let equal = [
-        Kind::Num == Kind::Num,
-        Kind::Num == Kind::Text,
-        ArchiveWidth::Bits32 == ArchiveWidth::Bits32,
-        ArchiveWidth::Bits32 == ArchiveWidth::Bits64,
-    ];
-    expect_eq!(rt; equal, [true, false, true, false]);
+    expect_eq!(rt; Kind::Num == Kind::Num, true);
+    expect_eq!(rt; Kind::Num == Kind::Text, false);
+    expect_eq!(rt; ArchiveWidth::Bits32 == ArchiveWidth::Bits32, true);
+    expect_eq!(rt; ArchiveWidth::Bits32 == ArchiveWidth::Bits64, false);
 }
 
 // Returns the form of this kind and width.
@@ -19,25 +16,15 @@ fn form(kind: Kind, bits: ArchiveWidth) -> Form {
 }
 
 #[test]
-fn forms_differ(rt: HostRuntime) {
+fn forms_and_keys_differ(rt: HostRuntime) {
     let narrow = form(Kind::Num, ArchiveWidth::Bits32);
-    let equal = [
-        narrow == form(Kind::Num, ArchiveWidth::Bits32),
-        narrow == form(Kind::Text, ArchiveWidth::Bits32),
-        narrow == form(Kind::Num, ArchiveWidth::Bits64),
-    ];
-    expect_eq!(rt; equal, [true, false, false]);
-}
-
-#[test]
-fn keys_differ(rt: HostRuntime) {
-    let equal = [
-        Key::Number(1) == Key::Number(1),
-        Key::Number(1) == Key::Number(2),
-        Key::Number(1) == Key::Text("1"),
-        Key::Text("a") == Key::Text("a"),
-        Key::Text("a") == Key::Text("b"),
-        Key::Text("a") == Key::Text("aa"),
-    ];
-    expect_eq!(rt; equal, [true, false, false, true, false, false]);
+    expect_eq!(rt; narrow == form(Kind::Num, ArchiveWidth::Bits32), true);
+    expect_eq!(rt; narrow == form(Kind::Text, ArchiveWidth::Bits32), false);
+    expect_eq!(rt; narrow == form(Kind::Num, ArchiveWidth::Bits64), false);
+    expect_eq!(rt; Key::Number(1) == Key::Number(1), true);
+    expect_eq!(rt; Key::Number(1) == Key::Number(2), false);
+    expect_eq!(rt; Key::Number(1) == Key::Text("1"), false);
+    expect_eq!(rt; Key::Text("a") == Key::Text("a"), true);
+    expect_eq!(rt; Key::Text("a") == Key::Text("b"), false);
+    expect_eq!(rt; Key::Text("a") == Key::Text("aa"), false);
 }

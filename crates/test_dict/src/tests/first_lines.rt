@@ -22,19 +22,13 @@ fn first_wrong<'a>(alloc: Global, rows: &[(&'a str, &str)]) -> Option<&'a str> {
 
 #[test]
 fn a_first_line_is_executed(rt: HostRuntime) {
-    let wrong = first_wrong(
-        rt.alloc(),
-        &[
-            ("", ""),
-            ("put 1 2", ""),
-            ("build", "built 12\n"),
-            ("get 1", "error 11 NoArchive\n"),
-            ("put 1  2", "error 10 BadLine\n"),
-            (
-                "check 01000000020000000000000000000000ff28ff28ffffffffffffffffffffffffffffffffffffffffffffffffffffff00e0ffffff0100000002000000",
-                "ok 1\n",
-            ),
-        ],
-    );
-    expect_eq!(rt; wrong, None);
+    expect_eq!(rt; first_wrong(rt.alloc(), &[
+        ("", ""),
+        ("put 1 2", ""),
+        ("build", "built 12\n"),
+        ("get 1", "error 11 NoArchive\n"),
+        ("put 1  2", "error 10 BadLine\n"),
+        (
+            "check 01000000020000000000000000000000ff28ff28ffffffffffffffffffffffffffffffffffffffffffffffffffffff00e0ffffff0100000002000000",
+            "ok 1\n")]), None);
 }

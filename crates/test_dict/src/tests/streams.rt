@@ -153,8 +153,7 @@ fn many_reads_are_made(rt: HostRuntime) -> Result<(), AllocError> {
         kind: io::ErrorKind::Other,
     };
     let mut out = Vec::new(rt.alloc());
-    let status = exit_status(&run(rt.alloc(), &mut reader, &mut out));
-    expect_eq!(rt; status, 0);
+    expect_eq!(rt; exit_status(&run(rt.alloc(), &mut reader, &mut out)), 0);
     expect_eq!(rt; out.as_slice(), EXPECTED_OUTPUT.as_bytes());
     Ok(())
 }

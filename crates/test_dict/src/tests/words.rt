@@ -7,28 +7,18 @@ use std::alloc::{AllocError, Global};
 use std::test::Fail;
 
 #[test]
-fn words_are_separated_by_one_space(rt: HostRuntime) {
+fn words_are_separated_and_parsed(rt: HostRuntime) {
     expect_eq!(rt; cut_word("put 1 2"), ("put", Some("1 2")));
     let one = [one_word(Some("1")), one_word(Some("1 2")), one_word(None)];
     expect_eq!(rt; one, [Some("1"), None, None]);
-    let two = [
-        two_words(Some("1 2")),
-        two_words(Some("1")),
-        two_words(Some("1 2 3")),
-    ];
-    expect_eq!(rt; two, [Some(("1", "2")), None, None]);
-}
-
-#[test]
-fn words_are_numbers_and_names(rt: HostRuntime) {
-    let numbers = [two_numbers(Some("7 8"), 8), two_numbers(Some("7 9"), 8)];
-    expect_eq!(rt; numbers, [Some((7, 8)), None]);
-    let kinds = [
-        kind_by_name("num"),
-        kind_by_name("text"),
-        kind_by_name("Num"),
-    ];
-    expect_eq!(rt; kinds, [Some(Kind::Num), Some(Kind::Text), None]);
+    expect_eq!(rt; two_words(Some("1 2")), Some(("1", "2")));
+    expect_eq!(rt; two_words(Some("1")), None);
+    expect_eq!(rt; two_words(Some("1 2 3")), None);
+    expect_eq!(rt; two_numbers(Some("7 8"), 8), Some((7, 8)));
+    expect_eq!(rt; two_numbers(Some("7 9"), 8), None);
+    expect_eq!(rt; kind_by_name("num"), Some(Kind::Num));
+    expect_eq!(rt; kind_by_name("text"), Some(Kind::Text));
+    expect_eq!(rt; kind_by_name("Num"), None);
     let widths = [bits_by_name("32"), bits_by_name("64"), bits_by_name("16")];
     expect_eq!(rt; widths, [Some(ArchiveWidth::Bits32), Some(ArchiveWidth::Bits64), None]);
 }
@@ -45,11 +35,8 @@ fn bytes_are_two_digits_each(rt: HostRuntime) -> Result<(), Fail> {
     push_hex(&mut digits, &[0, 0x1a, 0xff])?;
     expect_eq!(rt; digits.as_str(), "001aff");
     let alloc = rt.alloc();
-    let right = [
-        are_digits_of(alloc, b"001AfF", &[0, 0x1a, 0xff]).ok(),
-        are_digits_of(alloc, b"001", &[0]).ok(),
-        are_digits_of(alloc, b"0g", &[0]).ok(),
-    ];
-    expect_eq!(rt; right, [Some(true), Some(false), Some(false)]);
+    expect_eq!(rt; are_digits_of(alloc, b"001AfF", &[0, 0x1a, 0xff]).ok(), Some(true));
+    expect_eq!(rt; are_digits_of(alloc, b"001", &[0]).ok(), Some(false));
+    expect_eq!(rt; are_digits_of(alloc, b"0g", &[0]).ok(), Some(false));
     Ok(())
 }

@@ -6,7 +6,6 @@ use rkyv_dict::run::{RunError, run};
 use std::alloc::{AllocError, Global};
 use std::io;
 use std::io::Write;
-use std::process::Abort;
 
 /// A writer of at most `most` bytes of a piece, of which only one write fails.
 #[derive(Drop)]
@@ -98,33 +97,20 @@ fn first_not_returned(alloc: Global, most: usize) -> Option<usize>
 }
 
 #[test]
-fn a_failed_write_is_returned(rt: HostRuntime) {
-    let wrong = [
-        first_not_returned(rt.alloc(), 1),
-        first_not_returned(rt.alloc(), 7),
-        first_not_returned(rt.alloc(), 64),
-        first_not_returned(rt.alloc(), 1000),
-    ];
-    expect_eq!(rt; wrong, [None; 4]);
-}
-
-#[test]
-fn an_interrupted_write_is_returned(rt: HostRuntime) {
+fn outcomes_of_failed_writes_are_returned(rt: HostRuntime) {
+    expect_eq!(rt; first_not_returned(rt.alloc(), 1), None);
+    expect_eq!(rt; first_not_returned(rt.alloc(), 7), None);
+    expect_eq!(rt; first_not_returned(rt.alloc(), 64), None);
+    expect_eq!(rt; first_not_returned(rt.alloc(), 1000), None);
     let mut writer = FailsOnce::new(rt.alloc(), 7, 3);
     writer.kind = io::ErrorKind::Interrupted;
     expect_eq!(rt; outcome(rt.alloc(), SCRIPT, &mut writer), Ending::Write);
     expect_eq!(rt; writer.writes, 3);
     expect_eq!(rt; writer.taken.as_slice(), b"built 60\n01000".as_slice());
-}
-
-#[test]
-fn failure_past_the_last_write_has_no_effect(rt: HostRuntime) {
     let mut writer = FailsOnce::new(rt.alloc(), 64, writes(64).saturating_add(1));
-    let outcome = outcome(rt.alloc(), SCRIPT, &mut writer);
-    expect_eq!(rt;
-        (outcome, writer.writes, writer.taken.as_slice()),
-        (Ending::Done, writes(64), EXPECTED_OUTPUT.as_bytes())
-    );
+    expect_eq!(rt; outcome(rt.alloc(), SCRIPT, &mut writer), Ending::Done);
+    expect_eq!(rt; writer.writes, writes(64));
+    expect_eq!(rt; writer.taken.as_slice(), EXPECTED_OUTPUT.as_bytes());
 }
 
 // Returns a script whose output has two pieces of at least 65,536 bytes and a shorter one.
@@ -146,25 +132,12 @@ fn long_outcome(alloc: Global, fails_at: usize) -> Result<(Ending, usize, usize)
     Ok((outcome, writer.writes, writer.taken.len()))
 }
 
-// Fails the test unless the long script has this outcome if the write of this number fails.
-fn expect_long_outcomes(rt: &impl Abort, alloc: Global, rows: &[(usize, (Ending, usize, usize))]) {
-    for (fails_at, expected) in rows {
-        expect_eq!(*rt; long_outcome(alloc, *fails_at), Ok(*expected));
-    }
-}
-
 // `built 60` is a line of 9 bytes, and each `hex` one of 121. So 542 lines of digits are the first
 // that fill a piece, and so do the 542 after them.
 #[test]
 fn nothing_is_written_after_a_failed_write(rt: HostRuntime) {
-    expect_long_outcomes(
-        &rt,
-        rt.alloc(),
-        &[
-            (1, (Ending::Write, 1, 0)),
-            (2, (Ending::Write, 2, 9 + 542 * 121)),
-            (3, (Ending::Write, 3, 9 + 1084 * 121)),
-            (4, (Ending::Done, 3, 9 + 1100 * 121)),
-        ],
-    );
+    expect_eq!(rt; long_outcome(rt.alloc(), 1), Ok((Ending::Write, 1, 0)));
+    expect_eq!(rt; long_outcome(rt.alloc(), 2), Ok((Ending::Write, 2, 9 + 542 * 121)));
+    expect_eq!(rt; long_outcome(rt.alloc(), 3), Ok((Ending::Write, 3, 9 + 1084 * 121)));
+    expect_eq!(rt; long_outcome(rt.alloc(), 4), Ok((Ending::Done, 3, 9 + 1100 * 121)));
 }
