@@ -3,7 +3,6 @@ ghost use Rattle.std.specs.Prelude.{◌<◌, ◌≤◌};
 
 use crate::tests::rows::{NAMES, NUMBERS, names};
 use rkyv_container::{ContainerError, Contents, Header, ItemType, Kind, Width, open, open_as};
-use std::process::Abort;
 
 // Returns the error of reading the header of numbers with another byte at `at`.
 fn header_fault(at: usize, byte: u8) -> Option<ContainerError>
@@ -40,150 +39,45 @@ fn open_as_fault(bytes: &[u8], expected: Contents) -> Option<ContainerError> {
 }
 
 #[test]
-fn short_bytes_are_errors(rt: HostRuntime) {
-    expect_eq!(rt;
-        Header::read(&NUMBERS[..31]),
-        Err(ContainerError::TooShort { len: 31 })
-    );
+fn faults_of_headers_are_errors(rt: HostRuntime) {
+    expect_eq!(rt; Header::read(&NUMBERS[..31]), Err(ContainerError::TooShort { len: 31 }));
     expect_eq!(rt; open_fault(b""), Some(ContainerError::TooShort { len: 0 }));
-}
-
-#[test]
-fn wrong_starts_are_errors(rt: HostRuntime) {
-    let found = [
-        header_fault(0, 0x88),
-        header_fault(7, 0x1b),
-        header_fault(8, 0),
-        header_fault(8, 2),
-        header_fault(9, 1),
-        header_fault(8, 1),
-    ];
-    expect_eq!(rt;
-        found,
-        [
-            Some(ContainerError::WrongMagic),
-            Some(ContainerError::WrongMagic),
-            Some(ContainerError::UnsupportedVersion(0)),
-            Some(ContainerError::UnsupportedVersion(2)),
-            Some(ContainerError::UnsupportedVersion(257)),
-            None,
-        ]
-    );
-}
-
-#[test]
-fn unknown_codes_are_errors(rt: HostRuntime) {
-    let found = [
-        header_fault(10, 0),
-        header_fault(10, 5),
-        header_fault(11, 0),
-        header_fault(11, 0x13),
-        header_fault(12, 6),
-        header_fault(12, 0xff),
-        header_fault(11, 0x33),
-        header_fault(12, 0x32),
-        header_fault(12, 0x39),
-        header_fault(13, 0),
-        header_fault(13, 16),
-    ];
-    expect_eq!(rt;
-        found,
-        [
-            Some(ContainerError::UnknownKind(0)),
-            Some(ContainerError::UnknownKind(5)),
-            Some(ContainerError::UnknownKeyType(0)),
-            Some(ContainerError::UnknownKeyType(19)),
-            Some(ContainerError::UnknownValueType(6)),
-            Some(ContainerError::UnknownValueType(255)),
-            Some(ContainerError::UnknownKeyType(51)),
-            Some(ContainerError::UnknownValueType(50)),
-            Some(ContainerError::UnknownValueType(57)),
-            Some(ContainerError::UnknownWidth(0)),
-            Some(ContainerError::UnknownWidth(16)),
-        ]
-    );
-}
-
-#[test]
-fn wrong_ends_are_errors(rt: HostRuntime) {
-    let found = [
-        header_fault(14, 2),
-        header_fault(15, 1),
-        header_fault(24, 7),
-        header_fault(27, 0x80),
-        header_fault(28, 1),
-        header_fault(31, 0x80),
-    ];
-    expect_eq!(rt;
-        found,
-        [
-            Some(ContainerError::UnknownFlags(2)),
-            Some(ContainerError::UnknownFlags(256)),
-            Some(ContainerError::UnexpectedChecksum(7)),
-            Some(ContainerError::UnexpectedChecksum(2_147_483_648)),
-            Some(ContainerError::NonzeroReserved(1)),
-            Some(ContainerError::NonzeroReserved(2_147_483_648)),
-        ]
-    );
-}
-
-#[test]
-fn wrong_lengths_are_errors(rt: HostRuntime) {
-    let found = [
-        open_fault(&NAMES[..40]),
-        open_fault(&NAMES[..32]),
-        names_fault(16, 8),
-        names_fault(23, 1),
-    ];
-    expect_eq!(rt;
-        found,
-        [
-            Some(ContainerError::WrongLength {
-                expected: 9,
-                found: 8
-            }),
-            Some(ContainerError::WrongLength {
-                expected: 9,
-                found: 0
-            }),
-            Some(ContainerError::WrongLength {
-                expected: 8,
-                found: 9
-            }),
-            Some(ContainerError::WrongLength {
-                expected: 72_057_594_037_927_945,
-                found: 9
-            }),
-        ]
-    );
-}
-
-// The last byte of `Wikipedia` is `a`; with `b` both sums are one more.
-#[test]
-fn wrong_checksums_are_errors(rt: HostRuntime) {
-    let found = [
-        names_fault(24, 0x99),
-        names_fault(40, b'b'),
-        names_fault(14, 0),
-    ];
-    expect_eq!(rt;
-        found,
-        [
-            Some(ContainerError::WrongChecksum {
-                expected: 0x11e6_0399,
-                found: 0x11e6_0398
-            }),
-            Some(ContainerError::WrongChecksum {
-                expected: 0x11e6_0398,
-                found: 0x11e7_0399
-            }),
-            Some(ContainerError::UnexpectedChecksum(0x11e6_0398)),
-        ]
-    );
-}
-
-#[test]
-fn wrong_contents_are_errors(rt: HostRuntime) {
+    expect_eq!(rt; header_fault(0, 0x88), Some(ContainerError::WrongMagic));
+    expect_eq!(rt; header_fault(7, 0x1b), Some(ContainerError::WrongMagic));
+    expect_eq!(rt; header_fault(8, 0), Some(ContainerError::UnsupportedVersion(0)));
+    expect_eq!(rt; header_fault(8, 2), Some(ContainerError::UnsupportedVersion(2)));
+    expect_eq!(rt; header_fault(9, 1), Some(ContainerError::UnsupportedVersion(257)));
+    expect_eq!(rt; header_fault(8, 1), None);
+    expect_eq!(rt; header_fault(10, 0), Some(ContainerError::UnknownKind(0)));
+    expect_eq!(rt; header_fault(10, 5), Some(ContainerError::UnknownKind(5)));
+    expect_eq!(rt; header_fault(11, 0), Some(ContainerError::UnknownKeyType(0)));
+    expect_eq!(rt; header_fault(11, 0x13), Some(ContainerError::UnknownKeyType(19)));
+    expect_eq!(rt; header_fault(12, 6), Some(ContainerError::UnknownValueType(6)));
+    expect_eq!(rt; header_fault(12, 0xff), Some(ContainerError::UnknownValueType(255)));
+    expect_eq!(rt; header_fault(11, 0x33), Some(ContainerError::UnknownKeyType(51)));
+    expect_eq!(rt; header_fault(12, 0x32), Some(ContainerError::UnknownValueType(50)));
+    expect_eq!(rt; header_fault(12, 0x39), Some(ContainerError::UnknownValueType(57)));
+    expect_eq!(rt; header_fault(13, 0), Some(ContainerError::UnknownWidth(0)));
+    expect_eq!(rt; header_fault(13, 16), Some(ContainerError::UnknownWidth(16)));
+    expect_eq!(rt; header_fault(14, 2), Some(ContainerError::UnknownFlags(2)));
+    expect_eq!(rt; header_fault(15, 1), Some(ContainerError::UnknownFlags(256)));
+    expect_eq!(rt; header_fault(24, 7), Some(ContainerError::UnexpectedChecksum(7)));
+    expect_eq!(rt; header_fault(27, 0x80), Some(ContainerError::UnexpectedChecksum(2_147_483_648)));
+    expect_eq!(rt; header_fault(28, 1), Some(ContainerError::NonzeroReserved(1)));
+    expect_eq!(rt; header_fault(31, 0x80), Some(ContainerError::NonzeroReserved(2_147_483_648)));
+    expect_eq!(rt; open_fault(&NAMES[..40]),
+        Some(ContainerError::WrongLength { expected: 9, found: 8 }));
+    expect_eq!(rt; open_fault(&NAMES[..32]),
+        Some(ContainerError::WrongLength { expected: 9, found: 0 }));
+    expect_eq!(rt; names_fault(16, 8), Some(ContainerError::WrongLength { expected: 8, found: 9 }));
+    expect_eq!(rt; names_fault(23, 1),
+        Some(ContainerError::WrongLength { expected: 72_057_594_037_927_945, found: 9 }));
+    // The last byte of `Wikipedia` is `a`; with `b` both sums are one more.
+    expect_eq!(rt; names_fault(24, 0x99),
+        Some(ContainerError::WrongChecksum { expected: 0x11e6_0399, found: 0x11e6_0398 }));
+    expect_eq!(rt; names_fault(40, b'b'),
+        Some(ContainerError::WrongChecksum { expected: 0x11e6_0398, found: 0x11e7_0399 }));
+    expect_eq!(rt; names_fault(14, 0), Some(ContainerError::UnexpectedChecksum(0x11e6_0398)));
     let mut kind = names();
     kind.kind = Kind::HashSet;
     let mut key = names();
@@ -192,35 +86,15 @@ fn wrong_contents_are_errors(rt: HostRuntime) {
     value.value = ItemType::Text;
     let mut width = names();
     width.width = Width::Narrow;
-    let found = [
-        open_as_fault(&NAMES, kind),
-        open_as_fault(&NAMES, key),
-        open_as_fault(&NAMES, value),
-        open_as_fault(&NAMES, width),
-        open_as_fault(&NAMES, names()),
-    ];
-    expect_eq!(rt;
-        found,
-        [
-            Some(ContainerError::WrongKind {
-                expected: Kind::HashSet,
-                found: Kind::IndexSet
-            }),
-            Some(ContainerError::WrongKeyType {
-                expected: ItemType::U32,
-                found: ItemType::Text
-            }),
-            Some(ContainerError::WrongValueType {
-                expected: ItemType::Text,
-                found: ItemType::Unit
-            }),
-            Some(ContainerError::WrongWidth {
-                expected: Width::Narrow,
-                found: Width::Wide
-            }),
-            None,
-        ]
-    );
+    expect_eq!(rt; open_as_fault(&NAMES, kind),
+        Some(ContainerError::WrongKind { expected: Kind::HashSet, found: Kind::IndexSet }));
+    expect_eq!(rt; open_as_fault(&NAMES, key),
+        Some(ContainerError::WrongKeyType { expected: ItemType::U32, found: ItemType::Text }));
+    expect_eq!(rt; open_as_fault(&NAMES, value),
+        Some(ContainerError::WrongValueType { expected: ItemType::Text, found: ItemType::Unit }));
+    expect_eq!(rt; open_as_fault(&NAMES, width),
+        Some(ContainerError::WrongWidth { expected: Width::Narrow, found: Width::Wide }));
+    expect_eq!(rt; open_as_fault(&NAMES, names()), None);
 }
 
 // Returns the first `len` bytes of the container of names, followed by bytes 0xff.
@@ -232,42 +106,20 @@ fn names_up_to(len: usize) -> [u8; 40]
     bytes
 }
 
-// Fails the test unless opening such bytes has the error, in each row: the number of bytes of the
-// container of names, at most 40, and the error.
-fn expect_first_faults(rt: &impl Abort, rows: &[(usize, ContainerError)]) {
-    for (len, error) in rows {
-        assert!(*rt; *len <= 40);
-        expect_eq!(*rt; (*len, open_fault(&names_up_to(*len))), (*len, Some(*error)));
-    }
-}
-
 // Of several faults the first in the order of the checks is returned.
 #[test]
 fn the_first_fault_is_returned(rt: HostRuntime) {
-    expect_first_faults(
-        &rt,
-        &[
-            (0, ContainerError::WrongMagic),
-            (8, ContainerError::UnsupportedVersion(65_535)),
-            (10, ContainerError::UnknownKind(255)),
-            (14, ContainerError::UnknownFlags(65_535)),
-            (28, ContainerError::NonzeroReserved(4_294_967_295)),
-        ],
-    );
+    expect_eq!(rt; open_fault(&names_up_to(0)), Some(ContainerError::WrongMagic));
+    expect_eq!(rt; open_fault(&names_up_to(8)), Some(ContainerError::UnsupportedVersion(65_535)));
+    expect_eq!(rt; open_fault(&names_up_to(10)), Some(ContainerError::UnknownKind(255)));
+    expect_eq!(rt; open_fault(&names_up_to(14)), Some(ContainerError::UnknownFlags(65_535)));
+    expect_eq!(rt; open_fault(&names_up_to(28)),
+        Some(ContainerError::NonzeroReserved(4_294_967_295)));
     let bytes = names_up_to(32);
     let mut contents = names();
     contents.width = Width::Narrow;
-    expect_eq!(rt;
-        [open_as_fault(&bytes, contents), open_as_fault(&bytes, names())],
-        [
-            Some(ContainerError::WrongWidth {
-                expected: Width::Narrow,
-                found: Width::Wide
-            }),
-            Some(ContainerError::WrongLength {
-                expected: 9,
-                found: 8
-            }),
-        ]
-    );
+    expect_eq!(rt; open_as_fault(&bytes, contents),
+        Some(ContainerError::WrongWidth { expected: Width::Narrow, found: Width::Wide }));
+    expect_eq!(rt; open_as_fault(&bytes, names()),
+        Some(ContainerError::WrongLength { expected: 9, found: 8 }));
 }

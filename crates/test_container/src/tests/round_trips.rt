@@ -40,11 +40,8 @@ fn sealed_containers_open(rt: HostRuntime) {
     let numbers = crate::tests::rows::numbers();
     let names = crate::tests::rows::names();
     let mut bytes = [7; 92];
-    let opened = [
-        opens_as(&mut bytes, numbers, true, numbers),
-        opens_as(&mut bytes, numbers, false, names),
-        opens_as(&mut bytes, names, false, names),
-        opens_as(&mut bytes, names, true, numbers),
-    ];
-    expect_eq!(rt; opened, [true, false, true, false]);
+    expect_eq!(rt; opens_as(&mut bytes, numbers, true, numbers), true);
+    expect_eq!(rt; opens_as(&mut bytes, numbers, false, names), false);
+    expect_eq!(rt; opens_as(&mut bytes, names, false, names), true);
+    expect_eq!(rt; opens_as(&mut bytes, names, true, numbers), false);
 }

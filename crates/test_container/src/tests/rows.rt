@@ -47,7 +47,7 @@ fn names_header() -> Header {
 }
 
 #[test]
-fn headers_are_written(rt: HostRuntime) {
+fn headers_are_written_and_read(rt: HostRuntime) {
     let header = Header::new(numbers(), &[0; 60], false);
     let long = Header {
         contents: numbers(),
@@ -57,14 +57,7 @@ fn headers_are_written(rt: HostRuntime) {
     let mut out = [0xff; 32];
     long.write(&mut out);
     assert_eq!(rt; header.to_bytes(), NUMBERS);
-    expect_eq!(rt;
-        &out[16..],
-        [1, 2, 3, 4, 5, 6, 7, 8, 9, 10, 11, 12, 0, 0, 0, 0].as_slice()
-    );
-}
-
-#[test]
-fn headers_are_read(rt: HostRuntime) {
+    expect_eq!(rt; &out[16..], [1, 2, 3, 4, 5, 6, 7, 8, 9, 10, 11, 12, 0, 0, 0, 0].as_slice());
     header_constants();
     let header = Header {
         contents: numbers(),
@@ -140,13 +133,10 @@ fn opens_as(bytes: &[u8], contents: Contents, archive: &[u8]) -> bool {
 fn containers_are_opened(rt: HostRuntime) {
     let mut empty = [0xff; 32];
     let header = fill_header(&mut empty, numbers(), true);
-    let opened = [
-        opens(&NAMES, names_header(), b"Wikipedia"),
-        opens_as(&NAMES, names(), b"Wikipedia"),
-        opens(&empty, header, b""),
-        opens_as(&empty, numbers(), b""),
-        opens_as(&empty, names(), b""),
-    ];
-    expect_eq!(rt; opened, [true, true, true, true, false]);
+    expect_eq!(rt; opens(&NAMES, names_header(), b"Wikipedia"), true);
+    expect_eq!(rt; opens_as(&NAMES, names(), b"Wikipedia"), true);
+    expect_eq!(rt; opens(&empty, header, b""), true);
+    expect_eq!(rt; opens_as(&empty, numbers(), b""), true);
+    expect_eq!(rt; opens_as(&empty, names(), b""), false);
     expect_eq!(rt; header.checksum, Some(1));
 }
