@@ -31,21 +31,10 @@ fn byte_strings_are_compared_by_their_bytes(rt: HostRuntime) {
     let same = b"ab\xff\0\xfe\xff\xff\xff\x01\0\0\0";
     let two = b"\xff\xff\0\0\xfc\xff\xff\xff\x02\0\0\0";
     let wide = b"\xff\0\0\0\0\0\0\0\xf8\xff\xff\xff\xff\xff\xff\xff\x01\0\0\0\0\0\0\0";
-    let compared = [
-        compared_at::<Narrow>(one, same, (4, 4), b"\xff"),
-        compared_at::<Narrow>(one, two, (4, 4), b"\xff"),
-        compared_at::<Narrow>(one, &[0; 8], (4, 0), b""),
-        compared_at::<Wide>(wide, wide, (8, 8), b"\xfe"),
-    ];
-    expect_eq!(rt;
-        compared,
-        [
-            Some([true, true, true]),
-            Some([false, true, false]),
-            Some([false, false, true]),
-            Some([true, false, false])
-        ]
-    );
+    expect_eq!(rt; compared_at::<Narrow>(one, same, (4, 4), b"\xff"), Some([true, true, true]));
+    expect_eq!(rt; compared_at::<Narrow>(one, two, (4, 4), b"\xff"), Some([false, true, false]));
+    expect_eq!(rt; compared_at::<Narrow>(one, &[0; 8], (4, 0), b""), Some([false, false, true]));
+    expect_eq!(rt; compared_at::<Wide>(wide, wide, (8, 8), b"\xfe"), Some([true, false, false]));
 }
 
 // Archives a vector. Returns `true` if the root at this position equals the vector in place,
@@ -87,23 +76,18 @@ fn counted_equals(alloc: Global, len: usize, pos: (u64, u64)) -> Option<[bool; 2
 #[test]
 fn vectors_are_read_back(rt: HostRuntime) {
     let alloc = rt.alloc();
-    let right = [
-        counted_equals(alloc, 0, (0, 0)),
-        counted_equals(alloc, 1, (4, 8)),
-        counted_equals(alloc, 5, (8, 8)),
-        counted_equals(alloc, 300, (300, 304)),
-    ];
-    expect_eq!(rt; right, [Some([true; 2]); 4]);
+    expect_eq!(rt; counted_equals(alloc, 0, (0, 0)), Some([true; 2]));
+    expect_eq!(rt; counted_equals(alloc, 1, (4, 8)), Some([true; 2]));
+    expect_eq!(rt; counted_equals(alloc, 5, (8, 8)), Some([true; 2]));
+    expect_eq!(rt; counted_equals(alloc, 300, (300, 304)), Some([true; 2]));
 }
 
 #[test]
 fn byte_strings_are_formatted_as_lists(rt: HostRuntime) {
     let alloc = rt.alloc();
-    let right = [
-        shows::<Bytes>(alloc, &[0; 8], "[]"),
-        shows::<Bytes>(alloc, b"\xff\0\0\0\xfc\xff\xff\xff\x02\0\0\0", "[255, 0]"),
-    ];
-    expect_eq!(rt; right, [true; 2]);
+    expect_eq!(rt; shows::<Bytes>(alloc, &[0; 8], "[]"), true);
+    expect_eq!(rt; shows::<Bytes>(alloc, b"\xff\0\0\0\xfc\xff\xff\xff\x02\0\0\0", "[255, 0]"),
+        true);
 }
 
 // The hash of the bytes 61 62 63, whose words are 3, 6261 and 63.
@@ -114,12 +98,9 @@ fn byte_strings_hash_by_their_length_and_bytes(rt: HostRuntime) {
     laws::byte_strings_hash_by_their_bytes();
     let empty = Vec::new(rt.alloc());
     let items: &[u8] = b"abc";
-    let hashes = [
-        hash_value::<&[u8], FxHasher64>(&items),
-        hash_value::<&[u8], FxHasher64Wide>(&items),
-    ];
-    let none = hash_value::<Vec<u8>, FxHasher64>(&empty);
-    expect_eq!(rt; (hashes, none), ([OF_ABC; 2], 0));
+    expect_eq!(rt; hash_value::<&[u8], FxHasher64>(&items), OF_ABC);
+    expect_eq!(rt; hash_value::<&[u8], FxHasher64Wide>(&items), OF_ABC);
+    expect_eq!(rt; hash_value::<Vec<u8>, FxHasher64>(&empty), 0);
 }
 
 // Returns the hash of an archived byte string, and whether a slice and a vector match it.
@@ -145,11 +126,8 @@ fn byte_strings_are_looked_up(rt: HostRuntime) {
     let alloc = rt.alloc();
     let narrow = b"abc\0\xfc\xff\xff\xff\x03\0\0\0";
     let wide = b"abc\0\0\0\0\0\xf8\xff\xff\xff\xff\xff\xff\xff\x03\0\0\0\0\0\0\0";
-    let found = [
-        looked_up::<Narrow>(alloc, narrow, 4, b"abc"),
-        looked_up::<Wide>(alloc, wide, 8, b"abd"),
-    ];
-    expect_eq!(rt; found, [Some((OF_ABC, [true; 2])), Some((OF_ABC, [false; 2]))]);
+    expect_eq!(rt; looked_up::<Narrow>(alloc, narrow, 4, b"abc"), Some((OF_ABC, [true; 2])));
+    expect_eq!(rt; looked_up::<Wide>(alloc, wide, 8, b"abd"), Some((OF_ABC, [false; 2])));
 }
 
 // Returns 7 for a value with the laws of equality, and a query for its archived form.
@@ -163,11 +141,8 @@ where
 
 #[test]
 fn slices_and_vectors_have_the_laws_of_keys(rt: HostRuntime) {
-    let laws = [
-        has_laws::<Narrow, Vec<u8>, &[u8]>(),
-        has_laws::<Wide, &[u8], &[u8]>(),
-        has_laws::<Narrow, &[u8], Vec<u8>>(),
-        has_laws::<Wide, Vec<u8>, Vec<u8>>(),
-    ];
-    expect_eq!(rt; laws, [7; 4]);
+    expect_eq!(rt; has_laws::<Narrow, Vec<u8>, &[u8]>(), 7);
+    expect_eq!(rt; has_laws::<Wide, &[u8], &[u8]>(), 7);
+    expect_eq!(rt; has_laws::<Narrow, &[u8], Vec<u8>>(), 7);
+    expect_eq!(rt; has_laws::<Wide, Vec<u8>, Vec<u8>>(), 7);
 }

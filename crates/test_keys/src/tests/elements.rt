@@ -76,19 +76,16 @@ fn represents<N: ScalarKey + Debug>(alloc: Global, value: N, other: N, text: &st
 #[test]
 fn scalars_represent_themselves(rt: HostRuntime) {
     let alloc = rt.alloc();
-    let right = [
-        represents(alloc, 7u8, 8, "7"),
-        represents(alloc, 7u16, 263, "7"),
-        represents(alloc, 7u32, 65543, "7"),
-        represents(alloc, 7u64, 4_294_967_303, "7"),
-        represents(alloc, -7i8, 7, "-7"),
-        represents(alloc, -7i16, 7, "-7"),
-        represents(alloc, -7i32, 7, "-7"),
-        represents(alloc, -7i64, 7, "-7"),
-        represents(alloc, true, false, "true"),
-        represents(alloc, 'x', 'y', "'x'"),
-    ];
-    expect_eq!(rt; right, [Some(true); 10]);
+    expect_eq!(rt; represents(alloc, 7u8, 8, "7"), Some(true));
+    expect_eq!(rt; represents(alloc, 7u16, 263, "7"), Some(true));
+    expect_eq!(rt; represents(alloc, 7u32, 65543, "7"), Some(true));
+    expect_eq!(rt; represents(alloc, 7u64, 4_294_967_303, "7"), Some(true));
+    expect_eq!(rt; represents(alloc, -7i8, 7, "-7"), Some(true));
+    expect_eq!(rt; represents(alloc, -7i16, 7, "-7"), Some(true));
+    expect_eq!(rt; represents(alloc, -7i32, 7, "-7"), Some(true));
+    expect_eq!(rt; represents(alloc, -7i64, 7, "-7"), Some(true));
+    expect_eq!(rt; represents(alloc, true, false, "true"), Some(true));
+    expect_eq!(rt; represents(alloc, 'x', 'y', "'x'"), Some(true));
 }
 
 // Returns `true` if a clone of the shown value of an archive is formatted as 7.

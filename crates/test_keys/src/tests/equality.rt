@@ -30,9 +30,6 @@ where
 #[test]
 fn keys_equal_themselves(rt: HostRuntime) {
     let alloc = rt.alloc();
-    let equal = [
-        equals_itself::<Narrow, (u32, bool)>(alloc, &(7, true)).ok(),
-        equals_itself::<Wide, char>(alloc, &'x').ok(),
-    ];
-    expect_eq!(rt; equal, [Some(true); 2]);
+    expect_eq!(rt; equals_itself::<Narrow, (u32, bool)>(alloc, &(7, true)).ok(), Some(true));
+    expect_eq!(rt; equals_itself::<Wide, char>(alloc, &'x').ok(), Some(true));
 }

@@ -12,24 +12,19 @@ const OF_MINUS_ONE: u64 = 0xae83_3e48_d8dd_f56b;
 #[test]
 fn a_number_is_one_word(rt: HostRuntime) {
     laws::numbers_hash_by_their_types();
-    let ones = [
-        hash_value::<u8, FxHasher64>(&1),
-        hash_value::<u16, FxHasher64>(&1),
-        hash_value::<u32, FxHasher64>(&1),
-        hash_value::<u64, FxHasher64>(&1),
-        hash_value::<i8, FxHasher64>(&1),
-        hash_value::<i16, FxHasher64>(&1),
-        hash_value::<i32, FxHasher64>(&1),
-        hash_value::<i64, FxHasher64>(&1),
-        hash_value::<bool, FxHasher64>(&true),
-        hash_value::<char, FxHasher64>(&'\u{1}'),
-    ];
-    let others = [
-        hash_value::<u8, FxHasher64>(&1) >> 57,
-        hash_value::<i64, FxHasher64>(&-1),
-        hash_value::<bool, FxHasher64>(&false),
-    ];
-    expect_eq!(rt; (ones, others), ([OF_ONE; 10], [0x28, OF_MINUS_ONE, 0]));
+    expect_eq!(rt; hash_value::<u8, FxHasher64>(&1), OF_ONE);
+    expect_eq!(rt; hash_value::<u16, FxHasher64>(&1), OF_ONE);
+    expect_eq!(rt; hash_value::<u32, FxHasher64>(&1), OF_ONE);
+    expect_eq!(rt; hash_value::<u64, FxHasher64>(&1), OF_ONE);
+    expect_eq!(rt; hash_value::<i8, FxHasher64>(&1), OF_ONE);
+    expect_eq!(rt; hash_value::<i16, FxHasher64>(&1), OF_ONE);
+    expect_eq!(rt; hash_value::<i32, FxHasher64>(&1), OF_ONE);
+    expect_eq!(rt; hash_value::<i64, FxHasher64>(&1), OF_ONE);
+    expect_eq!(rt; hash_value::<bool, FxHasher64>(&true), OF_ONE);
+    expect_eq!(rt; hash_value::<char, FxHasher64>(&'\u{1}'), OF_ONE);
+    expect_eq!(rt; hash_value::<u8, FxHasher64>(&1) >> 57, 0x28);
+    expect_eq!(rt; hash_value::<i64, FxHasher64>(&-1), OF_MINUS_ONE);
+    expect_eq!(rt; hash_value::<bool, FxHasher64>(&false), 0);
 }
 
 #[test]
@@ -39,12 +34,10 @@ fn text_ends_with_ff(rt: HostRuntime) {
     state.write(&[]);
     state.write_u8(0xff);
     let text = String::new(rt.alloc());
-    let hashes = [
-        state.finish(),
-        hash_value::<&str, FxHasher64>(&""),
-        hash_value::<String, FxHasher64>(&text),
-    ];
-    expect_eq!(rt; (hashes, OF_NO_TEXT >> 57), ([OF_NO_TEXT; 3], 0x15));
+    expect_eq!(rt; state.finish(), OF_NO_TEXT);
+    expect_eq!(rt; hash_value::<&str, FxHasher64>(&""), OF_NO_TEXT);
+    expect_eq!(rt; hash_value::<String, FxHasher64>(&text), OF_NO_TEXT);
+    expect_eq!(rt; OF_NO_TEXT >> 57, 0x15);
 }
 
 #[test]
@@ -66,34 +59,18 @@ fn a_pair_feeds_its_parts_in_order(rt: HostRuntime) {
     state.write_u32(2);
     let mut parts = FxHasher64::default();
     (1u8, 2u32).hash(&mut parts);
-    let hashes = [hash_value::<(u8, u32), FxHasher64>(&(1, 2)), parts.finish()];
-    expect_eq!(rt; hashes, [state.finish(); 2]);
+    expect_eq!(rt; hash_value::<(u8, u32), FxHasher64>(&(1, 2)), state.finish());
+    expect_eq!(rt; parts.finish(), state.finish());
 }
 
 #[test]
 fn sizes_feed_as_many_bits_as_the_hasher_takes(rt: HostRuntime) {
-    let low = [
-        hash_value::<usize, FxHasher64>(&1),
-        hash_value::<usize, FxHasher64>(&4_294_967_297),
-        hash_value::<isize, FxHasher64>(&-1),
-        hash_value::<isize, FxHasher64>(&4_294_967_295),
-    ];
-    let all = [
-        hash_value::<usize, FxHasher64Wide>(&1),
-        hash_value::<usize, FxHasher64Wide>(&4_294_967_297),
-        hash_value::<isize, FxHasher64Wide>(&-1),
-        hash_value::<isize, FxHasher64Wide>(&4_294_967_295),
-    ];
-    expect_eq!(rt;
-        (low, all),
-        (
-            [OF_ONE, OF_ONE, OF_MINUS_ONE, OF_MINUS_ONE],
-            [
-                OF_ONE,
-                0x789e_cc4c_2722_0a95,
-                OF_MINUS_ONE,
-                0xd5a5_48dd_d8dd_f56b
-            ]
-        )
-    );
+    expect_eq!(rt; hash_value::<usize, FxHasher64>(&1), OF_ONE);
+    expect_eq!(rt; hash_value::<usize, FxHasher64>(&4_294_967_297), OF_ONE);
+    expect_eq!(rt; hash_value::<isize, FxHasher64>(&-1), OF_MINUS_ONE);
+    expect_eq!(rt; hash_value::<isize, FxHasher64>(&4_294_967_295), OF_MINUS_ONE);
+    expect_eq!(rt; hash_value::<usize, FxHasher64Wide>(&1), OF_ONE);
+    expect_eq!(rt; hash_value::<usize, FxHasher64Wide>(&4_294_967_297), 0x789e_cc4c_2722_0a95);
+    expect_eq!(rt; hash_value::<isize, FxHasher64Wide>(&-1), OF_MINUS_ONE);
+    expect_eq!(rt; hash_value::<isize, FxHasher64Wide>(&4_294_967_295), 0xd5a5_48dd_d8dd_f56b);
 }

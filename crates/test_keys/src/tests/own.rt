@@ -152,18 +152,8 @@ fn read(alloc: Global, bytes: &[u8]) -> Result<(Option<u32>, bool), VerifyError>
 #[test]
 fn a_low_byte_is_a_key(rt: HostRuntime) {
     let (first, second, third) = ([1, 1, 0, 0], [1, 2, 0, 0], [0, 1, 0, 0]);
-    let same = compared(&first, &second, &third).ok();
-    let hash = hash_of(&second).ok();
-    let read = [
-        read(rt.alloc(), &second).ok(),
-        read(rt.alloc(), &third).ok(),
-    ];
-    expect_eq!(rt;
-        (same, hash, read),
-        (
-            Some([true, false, true, true, false]),
-            Some(hash_value::<EndsIn, FxHasher64>(&EndsIn(1))),
-            [Some((Some(0x0201), false)), Some((None, true))]
-        )
-    );
+    expect_eq!(rt; compared(&first, &second, &third).ok(), Some([true, false, true, true, false]));
+    expect_eq!(rt; hash_of(&second).ok(), Some(hash_value::<EndsIn, FxHasher64>(&EndsIn(1))));
+    expect_eq!(rt; read(rt.alloc(), &second).ok(), Some((Some(0x0201), false)));
+    expect_eq!(rt; read(rt.alloc(), &third).ok(), Some((None, true)));
 }

@@ -112,10 +112,7 @@ fn long_text() -> [u8; 308] {
 // Returns `true` if the text of 300 bytes is deserialized.
 fn reads_long_text(alloc: Global) -> bool {
     let bytes = long_text();
-    match str::from_utf8(&bytes[..300]) {
-        Ok(text) => reads_text(alloc, &bytes, text),
-        Err(_) => false,
-    }
+    matches!(str::from_utf8(&bytes[..300]), Ok(text) if reads_text(alloc, &bytes, text))
 }
 
 // Returns `true` if this pair of a text and a number is deserialized.
@@ -164,81 +161,49 @@ fn str_queries_match_texts(rt: HostRuntime) {
     laws::queries_rest_on_keys::<Text, &str>();
     laws::views_match_same_keys::<Text>();
     let (yes, no) = (Some(true), Some(false));
-    let compared = [
-        query_matches::<Text, &str>(&"hello", &HELLO),
-        query_matches::<Text, &str>(&"hello", &HELLO_AGAIN),
-        query_matches::<Text, &str>(&"hellx", &HELLO),
-        query_matches::<Text, &str>(&"wonderful", &WONDERFUL),
-        query_matches::<Text<Wide>, &str>(&"wonderful", &WIDE_WONDERFUL),
-    ];
-    expect_eq!(rt;
-        (compared, owned_hello(rt.alloc())),
-        ([yes, yes, no, yes, yes], Some([yes, no, yes, no]))
-    );
+    expect_eq!(rt; query_matches::<Text, &str>(&"hello", &HELLO), yes);
+    expect_eq!(rt; query_matches::<Text, &str>(&"hello", &HELLO_AGAIN), yes);
+    expect_eq!(rt; query_matches::<Text, &str>(&"hellx", &HELLO), no);
+    expect_eq!(rt; query_matches::<Text, &str>(&"wonderful", &WONDERFUL), yes);
+    expect_eq!(rt; query_matches::<Text<Wide>, &str>(&"wonderful", &WIDE_WONDERFUL), yes);
+    expect_eq!(rt; owned_hello(rt.alloc()), Some([yes, no, yes, no]));
 }
 
 #[test]
-fn keys_hash_as_their_queries(rt: HostRuntime) {
-    let hashes = [
-        hash_of::<Text>(&HELLO),
-        hash_of::<Text>(&WONDERFUL),
-        hash_of::<Entry<Text, u32>>(&HELLO_SEVEN),
-        hash_of::<()>(&[]),
-    ];
+fn queries_hash_and_match_as_keys(rt: HostRuntime) {
     let expected = [
         Some(hash_value::<&str, FxHasher64>(&"hello")),
         Some(hash_value::<&str, FxHasher64>(&"wonderful")),
         Some(hash_value::<(&str, u32), FxHasher64>(&("hello", 7))),
         Some(0),
     ];
-    expect_eq!(rt; hashes, expected);
+    expect_eq!(rt; [hash_of::<Text>(&HELLO), hash_of::<Text>(&WONDERFUL),
+        hash_of::<Entry<Text, u32>>(&HELLO_SEVEN), hash_of::<()>(&[])], expected);
+    expect_eq!(rt; query_matches::<Entry<Text, u32>, (&str, u32)>(&("hello", 7), &HELLO_SEVEN),
+        Some(true));
+    expect_eq!(rt; query_matches::<Entry<Text, u32>, (&str, u32)>(&("hello", 8), &HELLO_SEVEN),
+        Some(false));
+    expect_eq!(rt; query_matches::<Entry<Text, u32>, (&str, u32)>(&("hell", 7), &HELLO_SEVEN),
+        Some(false));
+    expect_eq!(rt; query_matches::<(), ()>(&(), &[]), Some(true));
 }
 
 #[test]
-fn pair_queries_match_entries(rt: HostRuntime) {
-    let compared = [
-        query_matches::<Entry<Text, u32>, (&str, u32)>(&("hello", 7), &HELLO_SEVEN),
-        query_matches::<Entry<Text, u32>, (&str, u32)>(&("hello", 8), &HELLO_SEVEN),
-        query_matches::<Entry<Text, u32>, (&str, u32)>(&("hell", 7), &HELLO_SEVEN),
-        query_matches::<(), ()>(&(), &[]),
-    ];
-    expect_eq!(rt; compared, [Some(true), Some(false), Some(false), Some(true)]);
-}
-
-#[test]
-fn archived_keys_match_keys_of_other_archives(rt: HostRuntime) {
+fn archived_keys_match_and_hash_as_queries(rt: HostRuntime) {
     let (yes, no) = (Some(true), Some(false));
-    let compared = [
-        key_matches::<Text>(&HELLO, &HELLO_AGAIN),
-        key_matches::<Text>(&HELLO, &WONDERFUL),
-        key_matches::<Entry<Text, u32>>(&HELLO_SEVEN, &HELLO_SEVEN),
-        key_matches::<Entry<Text, u32>>(&HELLO_SEVEN, &HELLO_EIGHT),
-        key_matches::<u16>(&[1, 2], &[1, 2]),
-    ];
-    expect_eq!(rt; compared, [yes, no, yes, no, yes]);
-}
-
-#[test]
-fn archived_keys_hash_and_match_as_queries(rt: HostRuntime) {
+    expect_eq!(rt; key_matches::<Text>(&HELLO, &HELLO_AGAIN), yes);
+    expect_eq!(rt; key_matches::<Text>(&HELLO, &WONDERFUL), no);
+    expect_eq!(rt; key_matches::<Entry<Text, u32>>(&HELLO_SEVEN, &HELLO_SEVEN), yes);
+    expect_eq!(rt; key_matches::<Entry<Text, u32>>(&HELLO_SEVEN, &HELLO_EIGHT), no);
+    expect_eq!(rt; key_matches::<u16>(&[1, 2], &[1, 2]), yes);
     laws::views_match_same_keys::<u16>();
     laws::key_views_are_cloned::<u16>();
-    let found = [
-        hashes_and_matches::<Text>(&HELLO, &HELLO_AGAIN),
-        hashes_and_matches::<Text>(&HELLO, &WONDERFUL),
-        hashes_and_matches::<u16>(&[1, 2], &[1, 2]),
-        hashes_and_matches::<u16>(&[1, 2], &[1, 3]),
-    ];
     let text = hash_value::<&str, FxHasher64>(&"hello");
+    expect_eq!(rt; hashes_and_matches::<Text>(&HELLO, &HELLO_AGAIN), Some((text, true, true)));
+    expect_eq!(rt; hashes_and_matches::<Text>(&HELLO, &WONDERFUL), Some((text, false, false)));
     let number = hash_value::<u16, FxHasher64>(&0x0201);
-    expect_eq!(rt;
-        found,
-        [
-            Some((text, true, true)),
-            Some((text, false, false)),
-            Some((number, true, true)),
-            Some((number, false, false))
-        ]
-    );
+    expect_eq!(rt; hashes_and_matches::<u16>(&[1, 2], &[1, 2]), Some((number, true, true)));
+    expect_eq!(rt; hashes_and_matches::<u16>(&[1, 2], &[1, 3]), Some((number, false, false)));
 }
 
 #[test]
@@ -246,49 +211,29 @@ fn values_are_compared_in_place(rt: HostRuntime) {
     laws::archived_values_are_compared::<u32, Wide, u8, u32>();
     laws::native_values_are_compared::<u32, Wide, u8, u32, u8, u32>();
     let (yes, no) = (Some(true), Some(false));
-    let same = [
-        are_same::<Text>(&HELLO, &HELLO_AGAIN),
-        are_same::<Text>(&HELLO, &WONDERFUL),
-        are_same::<Entry<Text, u32>>(&HELLO_SEVEN, &HELLO_EIGHT),
-        are_same::<()>(&[], &[]),
-    ];
-    let equal = [
-        equals::<&str, Text>(&WONDERFUL, &"wonderful"),
-        equals::<&str, Text>(&HELLO_AGAIN, &"hello"),
-        equals::<(&str, u32), Entry<Text, u32>>(&HELLO_SEVEN, &("hello", 7)),
-        equals::<(&str, u32), Entry<Text, u32>>(&HELLO_SEVEN, &("hello", 8)),
-        equals::<(), ()>(&[], &()),
-    ];
-    expect_eq!(rt;
-        (same, equal, owned_hello(rt.alloc())),
-        (
-            [yes, no, no, yes],
-            [yes, yes, yes, no, yes],
-            Some([yes, no, yes, no])
-        )
-    );
+    expect_eq!(rt; are_same::<Text>(&HELLO, &HELLO_AGAIN), yes);
+    expect_eq!(rt; are_same::<Text>(&HELLO, &WONDERFUL), no);
+    expect_eq!(rt; are_same::<Entry<Text, u32>>(&HELLO_SEVEN, &HELLO_EIGHT), no);
+    expect_eq!(rt; are_same::<()>(&[], &[]), yes);
+    expect_eq!(rt; equals::<&str, Text>(&WONDERFUL, &"wonderful"), yes);
+    expect_eq!(rt; equals::<&str, Text>(&HELLO_AGAIN, &"hello"), yes);
+    expect_eq!(rt; equals::<(&str, u32), Entry<Text, u32>>(&HELLO_SEVEN, &("hello", 7)), yes);
+    expect_eq!(rt; equals::<(&str, u32), Entry<Text, u32>>(&HELLO_SEVEN, &("hello", 8)), no);
+    expect_eq!(rt; equals::<(), ()>(&[], &()), yes);
+    expect_eq!(rt; owned_hello(rt.alloc()), Some([yes, no, yes, no]));
 }
 
 #[test]
-fn values_are_read_back(rt: HostRuntime) {
+fn values_are_read_back_and_printed(rt: HostRuntime) {
     laws::errors_of_deserializing::<u32, Wide, u8, u32, u8, u32>();
     let alloc = rt.alloc();
-    let text = reads_text(alloc, &WONDERFUL, "wonderful");
-    let pair = reads_pair(alloc, &HELLO_SEVEN, ("hello", 7)).ok();
-    let unit = reads_unit(alloc, &[]).ok();
-    expect_eq!(rt; (text, pair, unit), (true, Some(true), Some(true)));
+    expect_eq!(rt; reads_text(alloc, &WONDERFUL, "wonderful"), true);
+    expect_eq!(rt; reads_pair(alloc, &HELLO_SEVEN, ("hello", 7)).ok(), Some(true));
+    expect_eq!(rt; reads_unit(alloc, &[]).ok(), Some(true));
     assert!(rt; reads_long_text(alloc));
-}
-
-#[test]
-fn values_are_printed_in_place(rt: HostRuntime) {
-    let alloc = rt.alloc();
     let quote = [0x22, 0x0a, 0xff, 0xff, 0xff, 0xff, 0xff, 0xff];
-    let shown = [
-        shows::<Text>(alloc, &HELLO, "\"hello\""),
-        shows::<()>(alloc, &[], "()"),
-        shows::<Entry<Text, u32>>(alloc, &HELLO_SEVEN, "(\"hello\", 7)"),
-        shows::<Text>(alloc, &quote, "\"\\\"\\n\""),
-    ];
-    expect_eq!(rt; shown, [true; 4]);
+    expect_eq!(rt; shows::<Text>(alloc, &HELLO, "\"hello\""), true);
+    expect_eq!(rt; shows::<()>(alloc, &[], "()"), true);
+    expect_eq!(rt; shows::<Entry<Text, u32>>(alloc, &HELLO_SEVEN, "(\"hello\", 7)"), true);
+    expect_eq!(rt; shows::<Text>(alloc, &quote, "\"\\\"\\n\""), true);
 }

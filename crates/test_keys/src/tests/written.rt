@@ -32,13 +32,11 @@ fn text_finds_itself(alloc: Global) -> Option<bool> {
 #[test]
 fn keys_find_themselves(rt: HostRuntime) {
     let alloc = rt.alloc();
-    let found = [
-        finds_itself::<Narrow, u32>(alloc, &7).ok(),
-        finds_itself::<Wide, (char, (i8, bool))>(alloc, &('x', (-1, true))).ok(),
-        finds_itself::<Narrow, &str>(alloc, &"hello").ok(),
-        finds_itself::<Narrow, (&str, u8)>(alloc, &("wonderful", 7)).ok(),
-        text_finds_itself(alloc),
-        finds_itself::<Wide, ((), u64)>(alloc, &((), 7)).ok(),
-    ];
-    expect_eq!(rt; found, [Some(true); 6]);
+    expect_eq!(rt; finds_itself::<Narrow, u32>(alloc, &7).ok(), Some(true));
+    expect_eq!(rt; finds_itself::<Wide, (char, (i8, bool))>(alloc, &('x', (-1, true))).ok(),
+        Some(true));
+    expect_eq!(rt; finds_itself::<Narrow, &str>(alloc, &"hello").ok(), Some(true));
+    expect_eq!(rt; finds_itself::<Narrow, (&str, u8)>(alloc, &("wonderful", 7)).ok(), Some(true));
+    expect_eq!(rt; text_finds_itself(alloc), Some(true));
+    expect_eq!(rt; finds_itself::<Wide, ((), u64)>(alloc, &((), 7)).ok(), Some(true));
 }
