@@ -1,8 +1,5 @@
 //! User-defined types as values and as keys.
 
-mod as_keys;
-mod round_trips;
-
 use crate::color::Color;
 use crate::landmark::Landmark;
 use crate::pixel::Pixel;
@@ -17,7 +14,24 @@ use rkyv_base::{Element, Entry, Text, VerifyError, to_bytes};
 use rkyv_keys::{Deserialize, MatchesNative, Query, hash_value};
 use rkyv_scan::FxHasher64;
 use rkyv_user_types::{PairEntry, TupleEntry};
+use std::fmt::Debug;
+use std::process::Abort;
 use std::test::Fail;
+
+// Fails the test unless the two are equal, and prints both then.
+fn expect_equal<T: PartialEq + Debug + Drop>(rt: &impl Abort, found: T, expected: T) {
+    assert_eq!(*rt; found, expected);
+}
+
+// Is `assert_eq!` by one call, for which a check takes a quarter of the time.
+macro_rules! expect_eq {
+    ($rt:expr; $found:expr, $expected:expr $(,)?) => {
+        $crate::tests::expect_equal(&$rt, $found, $expected)
+    };
+}
+
+mod as_keys;
+mod round_trips;
 
 #[test]
 fn a_point_is_a_pair(rt: HostRuntime) -> Result<(), Fail> {
@@ -30,18 +44,15 @@ fn a_point_is_a_pair(rt: HostRuntime) -> Result<(), Fail> {
         hash_value::<PairEntry<Point>, FxHasher64>(&point),
         hash_value::<(i32, i32), FxHasher64>(&(-2, 3)),
     ];
-    let results = [
-        bytes.as_slice() == [0xfe, 0xff, 0xff, 0xff, 3, 0, 0, 0].as_slice(),
-        root.key().to_native() == -2,
-        back == point,
-        back != other,
-        point.same(root),
-        !other.same(root),
-        Entry::<i32, i32>::eq_native(root, &point),
-        !Entry::<i32, i32>::eq_native(root, &other),
-        hashes[0] == hashes[1],
-    ];
-    assert_eq!(rt; results, [true; 9]);
+    expect_eq!(rt; bytes.as_slice() == [0xfe, 0xff, 0xff, 0xff, 3, 0, 0, 0].as_slice(), true);
+    expect_eq!(rt; root.key().to_native() == -2, true);
+    expect_eq!(rt; back == point, true);
+    expect_eq!(rt; back != other, true);
+    expect_eq!(rt; point.same(root), true);
+    expect_eq!(rt; !other.same(root), true);
+    expect_eq!(rt; Entry::<i32, i32>::eq_native(root, &point), true);
+    expect_eq!(rt; !Entry::<i32, i32>::eq_native(root, &other), true);
+    expect_eq!(rt; hashes[0] == hashes[1], true);
     Ok(())
 }
 
@@ -53,36 +64,13 @@ fn entries_differ_by_each_part(rt: HostRuntime) {
         x: 300,
         y: 2,
     });
-    let equal = [
-        point == PairEntry(Point { x: -2, y: 3 }),
-        point == PairEntry(Point { x: -1, y: 3 }),
-        point == PairEntry(Point { x: -2, y: 4 }),
-        pixel
-            == TupleEntry(Pixel {
-                level: 7,
-                x: 300,
-                y: 2,
-            }),
-        pixel
-            == TupleEntry(Pixel {
-                level: 8,
-                x: 300,
-                y: 2,
-            }),
-        pixel
-            == TupleEntry(Pixel {
-                level: 7,
-                x: 301,
-                y: 2,
-            }),
-        pixel
-            == TupleEntry(Pixel {
-                level: 7,
-                x: 300,
-                y: 3,
-            }),
-    ];
-    assert_eq!(rt; equal, [true, false, false, true, false, false, false]);
+    expect_eq!(rt; point == PairEntry(Point { x: -2, y: 3 }), true);
+    expect_eq!(rt; point == PairEntry(Point { x: -1, y: 3 }), false);
+    expect_eq!(rt; point == PairEntry(Point { x: -2, y: 4 }), false);
+    expect_eq!(rt; pixel == TupleEntry(Pixel { level: 7, x: 300, y: 2 }), true);
+    expect_eq!(rt; pixel == TupleEntry(Pixel { level: 8, x: 300, y: 2 }), false);
+    expect_eq!(rt; pixel == TupleEntry(Pixel { level: 7, x: 301, y: 2 }), false);
+    expect_eq!(rt; pixel == TupleEntry(Pixel { level: 7, x: 300, y: 3 }), false);
 }
 
 #[test]
@@ -93,13 +81,11 @@ fn a_segment_is_a_pair_of_points(rt: HostRuntime) -> Result<(), Fail> {
     });
     let bytes = to_bytes(rt.alloc(), &segment)?;
     let root = access::<Entry<Entry<i32, i32>, Entry<i32, i32>>>(bytes.as_slice())?;
-    let results = [
-        bytes.as_slice() == [0xfe, 0xff, 0xff, 0xff, 3, 0, 0, 0, 1, 0, 0, 0, 0, 0, 0, 0].as_slice(),
-        root.key().value().to_native() == 3,
-        root.value().key().to_native() == 1,
-        segment.same(root),
-    ];
-    assert_eq!(rt; results, [true; 4]);
+    expect_eq!(rt; bytes.as_slice() == [0xfe, 0xff, 0xff, 0xff, 3, 0, 0, 0, 1, 0, 0, 0, 0, 0, 0,
+        0].as_slice(), true);
+    expect_eq!(rt; root.key().value().to_native() == 3, true);
+    expect_eq!(rt; root.value().key().to_native() == 1, true);
+    expect_eq!(rt; segment.same(root), true);
     Ok(())
 }
 
@@ -158,15 +144,12 @@ fn a_landmark_is_a_text_and_a_pair(rt: HostRuntime) -> Result<(), Fail> {
     let back: PairEntry<Landmark> = Entry::<Text, Entry<i32, i32>>::deserialize(rt.alloc(), root)?;
     let name = [b'i', b'n', b'n', 0xff, 0xff, 0xff, 0xff, 0xff];
     let coordinates = [0xfe, 0xff, 0xff, 0xff, 3, 0, 0, 0];
-    let results = [
-        bytes[..8] == name[..],
-        bytes[8..] == coordinates[..],
-        root.key().as_str() == "inn",
-        root.value().key().to_native() == -2,
-        root.value().value().to_native() == 3,
-        back == landmark,
-    ];
-    assert_eq!(rt; results, [true; 6]);
+    expect_eq!(rt; bytes[..8] == name[..], true);
+    expect_eq!(rt; bytes[8..] == coordinates[..], true);
+    expect_eq!(rt; root.key().as_str() == "inn", true);
+    expect_eq!(rt; root.value().key().to_native() == -2, true);
+    expect_eq!(rt; root.value().value().to_native() == 3, true);
+    expect_eq!(rt; back == landmark, true);
     Ok(())
 }
 
@@ -174,17 +157,12 @@ fn a_landmark_is_a_text_and_a_pair(rt: HostRuntime) -> Result<(), Fail> {
 fn a_color_is_a_scalar(rt: HostRuntime) -> Result<(), Fail> {
     let bytes = to_bytes(rt.alloc(), &(Color::Blue, 5u8))?;
     let root = access::<Entry<Color, u8>>(bytes.as_slice())?;
-    let results = [
-        bytes.as_slice() == [2, 5].as_slice(),
-        root.key().to_native() == Color::Blue,
-        Color::Blue.same(root.key()),
-        !Color::Red.same(root.key()),
-        matches!(
-            access::<Color>(&[3]),
-            Err(VerifyError::InvalidValue { pos: 0 })
-        ),
-    ];
-    assert_eq!(rt; results, [true; 5]);
+    expect_eq!(rt; bytes.as_slice() == [2, 5].as_slice(), true);
+    expect_eq!(rt; root.key().to_native() == Color::Blue, true);
+    expect_eq!(rt; Color::Blue.same(root.key()), true);
+    expect_eq!(rt; !Color::Red.same(root.key()), true);
+    expect_eq!(rt; matches!(access::<Color>(&[3]), Err(VerifyError::InvalidValue { pos: 0 })),
+        true);
     Ok(())
 }
 
@@ -193,14 +171,11 @@ fn a_spot_is_an_entry_by_hand(rt: HostRuntime) -> Result<(), Fail> {
     let spot = Spot { x: -2, y: 3 };
     let bytes = to_bytes(rt.alloc(), &spot)?;
     let root = access::<ArchivedSpot>(bytes.as_slice())?;
-    let results = [
-        bytes.as_slice() == [0xfe, 0xff, 0xff, 0xff, 3, 0, 0, 0].as_slice(),
-        spot_of(root) == spot,
-        spot.same(root),
-        !Spot { x: 3, y: -2 }.same(root),
-        ArchivedSpot::eq_native(root, &spot),
-        ArchivedSpot::size() == 8,
-    ];
-    assert_eq!(rt; results, [true; 6]);
+    expect_eq!(rt; bytes.as_slice() == [0xfe, 0xff, 0xff, 0xff, 3, 0, 0, 0].as_slice(), true);
+    expect_eq!(rt; spot_of(root) == spot, true);
+    expect_eq!(rt; spot.same(root), true);
+    expect_eq!(rt; !Spot { x: 3, y: -2 }.same(root), true);
+    expect_eq!(rt; ArchivedSpot::eq_native(root, &spot), true);
+    expect_eq!(rt; ArchivedSpot::size() == 8, true);
     Ok(())
 }

@@ -97,10 +97,7 @@ fn pixels_round_trip(alloc: Global) -> Result<bool, Fail> {
 fn user_defined_types_are_keys_of_std_maps(rt: HostRuntime) -> Result<(), Fail> {
     pairs_hash_for_std::<i32, i32, Point>();
     tuples_hash_for_std::<u8, (u16, u16), Pixel>();
-    let same = [
-        named_points_round_trip(rt.alloc())?,
-        pixels_round_trip(rt.alloc())?,
-    ];
-    assert_eq!(rt; same, [true; 2]);
+    expect_eq!(rt; named_points_round_trip(rt.alloc())?, true);
+    expect_eq!(rt; pixels_round_trip(rt.alloc())?, true);
     Ok(())
 }
