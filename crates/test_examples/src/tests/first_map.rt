@@ -15,14 +15,8 @@ fn looked_up(alloc: Global) -> Result<(Option<u64>, Option<u64>, bool), Fail> {
 }
 
 #[test]
-fn the_first_address_is_looked_up(rt: HostRuntime) -> Result<(), Fail> {
-    let found = looked_up(rt.alloc())?;
-    expect_eq!(rt; found, (Some(0x1139), None, true));
-    Ok(())
-}
-
-#[test]
-fn a_round_trip_finds_the_first_address(rt: HostRuntime) -> Result<(), Fail> {
+fn the_first_address_is_found(rt: HostRuntime) -> Result<(), Fail> {
+    expect_eq!(rt; looked_up(rt.alloc())?, (Some(0x1139), None, true));
     let symbols = [("main", 0x1139), ("top", u64::MAX), ("main", 1)];
     let main = round_trip(rt.alloc(), &symbols, "main")?;
     let puts = round_trip(rt.alloc(), &symbols, "puts")?;

@@ -18,12 +18,9 @@ fn container(alloc: Global) -> Result<Vec<u8>, Fail> {
 fn the_first_number_in_a_container_is_found(rt: HostRuntime) -> Result<(), Fail> {
     let file = container(rt.alloc())?;
     let bytes = file.as_slice();
-    let found = [
-        number_in(bytes, 7)?,
-        number_in(bytes, 9)?,
-        number_in(bytes, 0)?,
-    ];
-    expect_eq!(rt; found, [Some(70), Some(u64::MAX), None]);
+    expect_eq!(rt; number_in(bytes, 7)?, Some(70));
+    expect_eq!(rt; number_in(bytes, 9)?, Some(u64::MAX));
+    expect_eq!(rt; number_in(bytes, 0)?, None);
     Ok(())
 }
 
@@ -45,12 +42,11 @@ fn cut_off(file: &[u8]) -> Option<ContainerError> {
 #[test]
 fn a_file_that_is_cut_off_or_of_zeros_is_not_opened(rt: HostRuntime) -> Result<(), Fail> {
     let file = container(rt.alloc())?;
-    let error = cut_off(file.as_slice());
     let expected = ContainerError::WrongLength {
         expected: 120,
         found: 119,
     };
-    expect_eq!(rt; error, Some(expected));
+    expect_eq!(rt; cut_off(file.as_slice()), Some(expected));
     expect_eq!(rt; open_as(&[0; 160], NUMBERS).err(), Some(ContainerError::WrongMagic));
     expect_eq!(rt; number_of(&[0; 160], 7)?, None);
     Ok(())
@@ -63,10 +59,6 @@ fn a_container_of_other_contents_is_not_opened(rt: HostRuntime) -> Result<(), Fa
     narrow.width = Width::Narrow;
     let mut of_texts = NUMBERS;
     of_texts.key = ItemType::Text;
-    let errors = [
-        open_as(file.as_slice(), narrow).err(),
-        open_as(file.as_slice(), of_texts).err(),
-    ];
     let expected = [
         Some(ContainerError::WrongWidth {
             expected: Width::Narrow,
@@ -76,6 +68,10 @@ fn a_container_of_other_contents_is_not_opened(rt: HostRuntime) -> Result<(), Fa
             expected: ItemType::Text,
             found: ItemType::U32,
         }),
+    ];
+    let errors = [
+        open_as(file.as_slice(), narrow).err(),
+        open_as(file.as_slice(), of_texts).err(),
     ];
     expect_eq!(rt; errors, expected);
     Ok(())

@@ -20,29 +20,18 @@ fn prices(alloc: Global) -> Result<Vec<u8>, Fail> {
 }
 
 #[test]
-fn the_first_price_is_found(rt: HostRuntime) -> Result<(), Fail> {
+fn first_pairs_of_index_maps_are_found(rt: HostRuntime) -> Result<(), Fail> {
     let archive = prices(rt.alloc())?;
     let bytes = archive.as_slice();
-    let found = [
-        price_of(bytes, "tea")?,
-        price_of(bytes, "hot chocolate")?,
-        price_of(bytes, "milk")?,
-    ];
-    expect_eq!(rt; found, [Some(3), Some(6), None]);
-    Ok(())
-}
-
-#[test]
-fn the_first_index_of_a_name_is_found(rt: HostRuntime) -> Result<(), Fail> {
+    expect_eq!(rt; price_of(bytes, "tea")?, Some(3));
+    expect_eq!(rt; price_of(bytes, "hot chocolate")?, Some(6));
+    expect_eq!(rt; price_of(bytes, "milk")?, None);
     let archive = prices(rt.alloc())?;
     let bytes = archive.as_slice();
-    let found = [
-        index_of_name(bytes, "tea")?,
-        index_of_name(bytes, "hot chocolate")?,
-        index_of_name(bytes, "coffee")?,
-        index_of_name(bytes, "milk")?,
-    ];
-    expect_eq!(rt; found, [Some(1), Some(3), Some(0), None]);
+    expect_eq!(rt; index_of_name(bytes, "tea")?, Some(1));
+    expect_eq!(rt; index_of_name(bytes, "hot chocolate")?, Some(3));
+    expect_eq!(rt; index_of_name(bytes, "coffee")?, Some(0));
+    expect_eq!(rt; index_of_name(bytes, "milk")?, None);
     Ok(())
 }
 
@@ -52,11 +41,9 @@ fn the_first_index_of_a_name_is_found(rt: HostRuntime) -> Result<(), Fail> {
 fn parts_of_index_maps_are_out_of_range(rt: HostRuntime) -> Result<(), Fail> {
     let archive = prices(rt.alloc())?;
     let bytes = archive.as_slice();
-    let errors = [
-        out_of_range(price_of(without_first(bytes, 4), "tea")),
-        out_of_range(index_of_name(without_first(bytes, 4), "tea")),
-        out_of_range(index_of_name(&bytes[..bytes.len().min(15)], "tea")),
-    ];
-    expect_eq!(rt; errors, [Some((-4, 51)), Some((-4, 51)), Some((-1, 16))]);
+    expect_eq!(rt; out_of_range(price_of(without_first(bytes, 4), "tea")), Some((-4, 51)));
+    expect_eq!(rt; out_of_range(index_of_name(without_first(bytes, 4), "tea")), Some((-4, 51)));
+    expect_eq!(rt; out_of_range(index_of_name(&bytes[..bytes.len().min(15)], "tea")),
+        Some((-1, 16)));
     Ok(())
 }

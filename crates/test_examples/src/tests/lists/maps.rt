@@ -40,56 +40,29 @@ fn spots(alloc: Global) -> Result<Vec<u8>, Fail> {
 }
 
 #[test]
-fn the_first_number_is_found(rt: HostRuntime) -> Result<(), Fail> {
+fn first_entries_of_maps_are_found(rt: HostRuntime) -> Result<(), Fail> {
     let archive = numbers(rt.alloc())?;
     let bytes = archive.as_slice();
-    let found = [
-        number_of(bytes, 7)?,
-        number_of(bytes, 8)?,
-        number_of(bytes, 9)?,
-        number_of(bytes, 0)?,
-    ];
-    expect_eq!(rt; found, [Some(70), Some(0), Some(u64::MAX), None]);
-    Ok(())
-}
-
-#[test]
-fn written_numbers_are_read(rt: HostRuntime) -> Result<(), Fail> {
+    expect_eq!(rt; number_of(bytes, 7)?, Some(70));
+    expect_eq!(rt; number_of(bytes, 8)?, Some(0));
+    expect_eq!(rt; number_of(bytes, 9)?, Some(u64::MAX));
+    expect_eq!(rt; number_of(bytes, 0)?, None);
     let list: NumberPairs<'_> = MapPairs::new(&NUMBERS);
     let archive = write_numbers(rt.alloc(), &list)?;
     let bytes = archive.as_slice();
-    let found = [
-        number_of(bytes, 7)?,
-        number_of(bytes, 9)?,
-        number_of(bytes, 6)?,
-    ];
-    expect_eq!(rt; found, [Some(70), Some(u64::MAX), None]);
-    Ok(())
-}
-
-#[test]
-fn the_first_title_is_found(rt: HostRuntime) -> Result<(), Fail> {
+    expect_eq!(rt; number_of(bytes, 7)?, Some(70));
+    expect_eq!(rt; number_of(bytes, 9)?, Some(u64::MAX));
+    expect_eq!(rt; number_of(bytes, 6)?, None);
     let archive = titles(rt.alloc())?;
     let bytes = archive.as_slice();
-    let found = [
-        title_of(bytes, 7)?,
-        title_of(bytes, 8)?,
-        title_of(bytes, 0)?,
-    ];
-    assert_eq!(rt; found, [Some("iron"), Some("a long title"), None]);
-    Ok(())
-}
-
-#[test]
-fn the_first_spot_is_found(rt: HostRuntime) -> Result<(), Fail> {
+    expect_eq!(rt; title_of(bytes, 7)?, Some("iron"));
+    expect_eq!(rt; title_of(bytes, 8)?, Some("a long title"));
+    expect_eq!(rt; title_of(bytes, 0)?, None);
     let archive = spots(rt.alloc())?;
     let bytes = archive.as_slice();
-    let found = [
-        spot_of(bytes, "harbour bridge")?,
-        spot_of(bytes, "hill")?,
-        spot_of(bytes, "harbour")?,
-    ];
-    expect_eq!(rt; found, [Some((3, 4)), Some((0, u32::MAX)), None]);
+    expect_eq!(rt; spot_of(bytes, "harbour bridge")?, Some((3, 4)));
+    expect_eq!(rt; spot_of(bytes, "hill")?, Some((0, u32::MAX)));
+    expect_eq!(rt; spot_of(bytes, "harbour")?, None);
     Ok(())
 }
 
@@ -100,11 +73,10 @@ fn maps_without_their_first_bytes_are_out_of_range(rt: HostRuntime) -> Result<()
     let numbers = numbers(rt.alloc())?;
     let titles = titles(rt.alloc())?;
     let spots = spots(rt.alloc())?;
-    let errors = [
-        out_of_range(number_of(without_first(numbers.as_slice(), 8), 7)),
-        out_of_range(title_of(without_first(titles.as_slice(), 4), 7)),
-        out_of_range(spot_of(without_first(spots.as_slice(), 4), "hill")),
-    ];
-    expect_eq!(rt; errors, [Some((-8, 111)), Some((-4, 12)), Some((-4, 14))]);
+    expect_eq!(rt; out_of_range(number_of(without_first(numbers.as_slice(), 8), 7)),
+        Some((-8, 111)));
+    expect_eq!(rt; out_of_range(title_of(without_first(titles.as_slice(), 4), 7)), Some((-4, 12)));
+    expect_eq!(rt; out_of_range(spot_of(without_first(spots.as_slice(), 4), "hill")),
+        Some((-4, 14)));
     Ok(())
 }

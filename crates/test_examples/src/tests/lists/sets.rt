@@ -30,35 +30,19 @@ fn names(alloc: Global) -> Result<Vec<u8>, Fail> {
 }
 
 #[test]
-fn words_of_the_list_are_found(rt: HostRuntime) -> Result<(), Fail> {
+fn items_of_sets_are_found(rt: HostRuntime) -> Result<(), Fail> {
     let archive = words(rt.alloc())?;
     let bytes = archive.as_slice();
-    let found = [
-        has_word(bytes, "tea")?,
-        has_word(bytes, "cake")?,
-        has_word(bytes, "te")?,
-        has_word(bytes, "")?,
-    ];
-    expect_eq!(rt; found, [true, true, false, false]);
-    Ok(())
-}
-
-#[test]
-fn the_first_index_of_an_id_is_found(rt: HostRuntime) -> Result<(), Fail> {
+    expect_eq!(rt; has_word(bytes, "tea")?, true);
+    expect_eq!(rt; has_word(bytes, "cake")?, true);
+    expect_eq!(rt; has_word(bytes, "te")?, false);
+    expect_eq!(rt; has_word(bytes, "")?, false);
     let archive = ids(rt.alloc())?;
     let bytes = archive.as_slice();
-    let found = [
-        index_of_id(bytes, 3)?,
-        index_of_id(bytes, 40)?,
-        index_of_id(bytes, u64::MAX)?,
-        index_of_id(bytes, 0)?,
-    ];
-    expect_eq!(rt; found, [Some(1), Some(3), Some(0), None]);
-    Ok(())
-}
-
-#[test]
-fn the_name_at_an_index_is_found(rt: HostRuntime) -> Result<(), Fail> {
+    expect_eq!(rt; index_of_id(bytes, 3)?, Some(1));
+    expect_eq!(rt; index_of_id(bytes, 40)?, Some(3));
+    expect_eq!(rt; index_of_id(bytes, u64::MAX)?, Some(0));
+    expect_eq!(rt; index_of_id(bytes, 0)?, None);
     let archive = names(rt.alloc())?;
     let bytes = archive.as_slice();
     let found = [name_at(bytes, 0)?, name_at(bytes, 2)?, name_at(bytes, 3)?];
@@ -70,10 +54,8 @@ fn the_name_at_an_index_is_found(rt: HostRuntime) -> Result<(), Fail> {
 fn sets_without_their_first_bytes_are_out_of_range(rt: HostRuntime) -> Result<(), Fail> {
     let words = words(rt.alloc())?;
     let ids = ids(rt.alloc())?;
-    let errors = [
-        out_of_range(has_word(without_first(words.as_slice(), 4), "tea")),
-        out_of_range(index_of_id(without_first(ids.as_slice(), 4), 3)),
-    ];
-    expect_eq!(rt; errors, [Some((-4, 71)), Some((-4, 51))]);
+    expect_eq!(rt; out_of_range(has_word(without_first(words.as_slice(), 4), "tea")),
+        Some((-4, 71)));
+    expect_eq!(rt; out_of_range(index_of_id(without_first(ids.as_slice(), 4), 3)), Some((-4, 51)));
     Ok(())
 }

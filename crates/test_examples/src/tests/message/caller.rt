@@ -16,7 +16,6 @@ fn counted(alloc: Global, count: u32) -> Result<Option<u32>, Fail> {
 
 #[test]
 fn a_count_is_written_over(rt: HostRuntime) -> Result<(), Fail> {
-    let found = counted(rt.alloc(), 7)?;
-    expect_eq!(rt; found, Some(7));
+    expect_eq!(rt; counted(rt.alloc(), 7)?, Some(7));
     Ok(())
 }

@@ -44,8 +44,7 @@ fn permitted_prefixes(bytes: &mut [u8]) -> (usize, usize) {
 fn prefixes_have_permitted_results(rt: HostRuntime) -> Result<(), Fail> {
     let mut bytes = message(rt.alloc())?;
     let len = bytes.len();
-    let results = permitted_prefixes(bytes.as_mut_slice());
-    expect_eq!(rt; results, (len, 12));
+    expect_eq!(rt; permitted_prefixes(bytes.as_mut_slice()), (len, 12));
     Ok(())
 }
 
@@ -53,7 +52,6 @@ fn prefixes_have_permitted_results(rt: HostRuntime) -> Result<(), Fail> {
 fn changed_bytes_have_permitted_results(rt: HostRuntime) -> Result<(), Fail> {
     let mut bytes = message(rt.alloc())?;
     let len = bytes.len();
-    let permitted = permitted_flips(bytes.as_mut_slice(), is_permitted);
-    expect_eq!(rt; permitted, len);
+    expect_eq!(rt; permitted_flips(bytes.as_mut_slice(), is_permitted), len);
     Ok(())
 }

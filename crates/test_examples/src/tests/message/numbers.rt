@@ -28,8 +28,7 @@ fn numbers(bytes: &[u8]) -> Result<[Option<u32>; 5], Fail> {
 #[test]
 fn numbers_are_read(rt: HostRuntime) -> Result<(), Fail> {
     let bytes = message(rt.alloc())?;
-    let read = numbers(bytes.as_slice())?;
-    expect_eq!(rt; read, [Some(7), Some(8), Some(9), None, None]);
+    expect_eq!(rt; numbers(bytes.as_slice())?, [Some(7), Some(8), Some(9), None, None]);
     Ok(())
 }
 
@@ -46,13 +45,7 @@ fn written(alloc: Global) -> Result<([bool; 3], [Option<u32>; 5]), Fail> {
 
 #[test]
 fn a_number_is_written(rt: HostRuntime) -> Result<(), Fail> {
-    let results = written(rt.alloc())?;
-    expect_eq!(rt;
-        results,
-        (
-            [true, false, false],
-            [Some(7), Some(99), Some(9), None, None]
-        )
-    );
+    expect_eq!(rt; written(rt.alloc())?, ([true, false, false],
+        [Some(7), Some(99), Some(9), None, None]));
     Ok(())
 }

@@ -15,7 +15,6 @@ fn address_among(alloc: Global, lines: &str, name: &str) -> Result<Option<u64>, 
 #[test]
 fn the_first_of_a_name_is_found(rt: HostRuntime) -> Result<(), Fail> {
     let lines = "0000000000001139 T main\n0000000000000001 t main\n";
-    let found = address_among(rt.alloc(), lines, "main")?;
-    expect_eq!(rt; found, Some(0x1139));
+    expect_eq!(rt; address_among(rt.alloc(), lines, "main")?, Some(0x1139));
     Ok(())
 }

@@ -53,8 +53,7 @@ fn permitted_prefixes(bytes: &[u8]) -> (usize, usize) {
 #[test]
 fn prefixes_have_permitted_results(rt: HostRuntime) -> Result<(), Fail> {
     let bytes = table(rt.alloc())?;
-    let results = permitted_prefixes(bytes.as_slice());
-    expect_eq!(rt; results, (bytes.len(), 12));
+    expect_eq!(rt; permitted_prefixes(bytes.as_slice()), (bytes.len(), 12));
     Ok(())
 }
 
@@ -62,10 +61,7 @@ fn prefixes_have_permitted_results(rt: HostRuntime) -> Result<(), Fail> {
 fn changed_bytes_have_permitted_results(rt: HostRuntime) -> Result<(), Fail> {
     let mut bytes = table(rt.alloc())?;
     let len = bytes.len();
-    let permitted = permitted_flips(
-        bytes.as_mut_slice(),
-        |table: &mut [u8]| is_permitted(&*table),
-    );
-    expect_eq!(rt; permitted, len);
+    expect_eq!(rt; permitted_flips(bytes.as_mut_slice(), |table: &mut [u8]| is_permitted(&*table)),
+        len);
     Ok(())
 }

@@ -29,8 +29,7 @@ fn parsed(alloc: Global) -> Result<(usize, bool), Fail> {
 
 #[test]
 fn symbols_are_parsed(rt: HostRuntime) -> Result<(), Fail> {
-    let found = parsed(rt.alloc())?;
-    expect_eq!(rt; found, (4, true));
+    expect_eq!(rt; parsed(rt.alloc())?, (4, true));
     Ok(())
 }
 
@@ -50,10 +49,7 @@ fn addresses(alloc: Global) -> Result<[Option<u64>; 5], Fail> {
 
 #[test]
 fn names_are_found(rt: HostRuntime) -> Result<(), Fail> {
-    let found = addresses(rt.alloc())?;
-    expect_eq!(rt;
-        found,
-        [Some(0x1139), Some(0x4010), Some(u64::MAX), None, None]
-    );
+    expect_eq!(rt; addresses(rt.alloc())?, [Some(0x1139), Some(0x4010), Some(u64::MAX), None,
+        None]);
     Ok(())
 }
