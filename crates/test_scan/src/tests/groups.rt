@@ -94,7 +94,7 @@ fn each_kind_matches(eight: [u8; 8], byte: u8, marked: &Marked) -> [bool; 4] {
 }
 
 #[test]
-fn marks_a_byte(rt: HostRuntime) {
+fn bytes_are_marked(rt: HostRuntime) {
     laws::kinds_mark_as_defined();
     let controls = [0x28, 0x29, 0xff, 0xff, 0xff, 0xff, 0xff, 0xff];
     let marked = Marked {
@@ -105,10 +105,6 @@ fn marks_a_byte(rt: HostRuntime) {
         full: &[0, 1],
     };
     expect_eq!(rt; each_kind_matches(controls, 0x28, &marked), [true; 4]);
-}
-
-#[test]
-fn marks_above_a_mark(rt: HostRuntime) {
     let controls = [0x29, 0x28, 0x29, 0x28, 0x00, 0xff, 0xff, 0x29];
     let marked = Marked {
         byte: &[1, 3],
@@ -118,10 +114,6 @@ fn marks_above_a_mark(rt: HostRuntime) {
         full: &[0, 1, 2, 3, 4, 7],
     };
     expect_eq!(rt; each_kind_matches(controls, 0x28, &marked), [true; 4]);
-}
-
-#[test]
-fn marks_zero(rt: HostRuntime) {
     let controls = [0x00, 0x01, 0x02, 0xff, 0xff, 0xff, 0xff, 0xff];
     let marked = Marked {
         byte: &[0],
@@ -131,10 +123,6 @@ fn marks_zero(rt: HostRuntime) {
         full: &[0, 1, 2],
     };
     expect_eq!(rt; each_kind_matches(controls, 0x00, &marked), [true; 4]);
-}
-
-#[test]
-fn marks_any_high_bit_as_empty(rt: HostRuntime) {
     let controls = [
         0xff, 0x80, 0x7f, 0x00, 0x28, 0xfe, 0x01, 0x81, 0xff, 0xff, 0xff, 0xff, 0xff, 0xff, 0xff,
         0x00,
@@ -151,16 +139,13 @@ fn marks_any_high_bit_as_empty(rt: HostRuntime) {
     };
     // The second half, read from its own position on.
     let rest = [0, 1, 2, 3, 4, 5, 6];
-    let right = [
-        matches::<lanes::Group>(&controls, 0x28, &wide),
-        matches::<paired::Group>(&controls, 0x28, &wide),
-        matches::<generic::Group>(&controls, 0x28, &eight),
-        matches::<bytewise::Group>(&controls, 0x28, &eight),
-        marks(generic::Group::read(&controls, 8).match_empty(), &rest),
-        marks(bytewise::Group::read(&controls, 8).match_empty(), &rest),
-        marks(lanes::Group::read(&controls, 0).match_byte(0), &[3, 15]),
-    ];
-    expect_eq!(rt; right, [true; 7]);
+    expect_eq!(rt; matches::<lanes::Group>(&controls, 0x28, &wide), true);
+    expect_eq!(rt; matches::<paired::Group>(&controls, 0x28, &wide), true);
+    expect_eq!(rt; matches::<generic::Group>(&controls, 0x28, &eight), true);
+    expect_eq!(rt; matches::<bytewise::Group>(&controls, 0x28, &eight), true);
+    expect_eq!(rt; marks(generic::Group::read(&controls, 8).match_empty(), &rest), true);
+    expect_eq!(rt; marks(bytewise::Group::read(&controls, 8).match_empty(), &rest), true);
+    expect_eq!(rt; marks(lanes::Group::read(&controls, 0).match_byte(0), &[3, 15]), true);
 }
 
 // Compares the indices that the sixteen lanes mark as two words with those of each word.
@@ -207,39 +192,27 @@ fn halves_are_marked_apart(rt: HostRuntime) {
 #[test]
 fn empty_masks_have_no_index(rt: HostRuntime) {
     let (bytes, word, lane_bits) = laws::empty_masks();
-    let right = [marks(bytes, &[]), marks(word, &[]), marks(lane_bits, &[])];
-    expect_eq!(rt; right, [true; 3]);
+    expect_eq!(rt; [marks(bytes, &[]), marks(word, &[]), marks(lane_bits, &[])], [true; 3]);
 }
 
 #[test]
-fn root_names_are_the_word_kind(rt: HostRuntime) {
+fn the_root_group_is_the_word_kind(rt: HostRuntime) {
     let group: rkyv_scan::Group = generic::Group::read(&[0xff; 8], 0);
     let mask: rkyv_scan::Bitmask = group.match_full();
-    let empty = [marks(mask, &[]), marks(rkyv_scan::Bitmask::EMPTY, &[])];
-    let widths = [
-        rkyv_scan::Group::WIDTH,
-        bytewise::Group::WIDTH,
-        lanes::Group::WIDTH,
-        paired::Group::WIDTH,
-        MAX_GROUP_WIDTH,
-    ];
+    expect_eq!(rt; marks(mask, &[]), true);
+    expect_eq!(rt; marks(rkyv_scan::Bitmask::EMPTY, &[]), true);
+    expect_eq!(rt; rkyv_scan::Group::WIDTH, 8);
+    expect_eq!(rt; bytewise::Group::WIDTH, 8);
+    expect_eq!(rt; lanes::Group::WIDTH, 16);
+    expect_eq!(rt; paired::Group::WIDTH, 16);
+    expect_eq!(rt; MAX_GROUP_WIDTH, 16);
     let word: generic::Word = 5;
-    expect_eq!(rt;
-        (empty, widths, generic::NonZeroWord::new(word).is_some()),
-        ([true; 2], [8, 8, 16, 16, 16], true)
-    );
-}
-
-#[test]
-fn root_group_marks_as_the_word_kind(rt: HostRuntime) {
+    expect_eq!(rt; generic::NonZeroWord::new(word).is_some(), true);
     laws::widest_group();
     let controls = [0x28, 0xff, 0x29, 0x28, 0x29, 0x29, 0x00, 0x80, 0x28, 0x29];
-    let right = [
-        marks(laws::root_group_marks(&controls, 0, 0x28), &[0, 3, 4, 5]),
-        marks(laws::root_group_marks(&controls, 2, 0x28), &[1, 2, 3, 6, 7]),
-        marks(laws::root_group_marks(&controls, 2, 0x80), &[5]),
-    ];
-    expect_eq!(rt; right, [true; 3]);
+    expect_eq!(rt; marks(laws::root_group_marks(&controls, 0, 0x28), &[0, 3, 4, 5]), true);
+    expect_eq!(rt; marks(laws::root_group_marks(&controls, 2, 0x28), &[1, 2, 3, 6, 7]), true);
+    expect_eq!(rt; marks(laws::root_group_marks(&controls, 2, 0x80), &[5]), true);
 }
 
 // Returns `true` if the group's clone marks the indices for the byte,
@@ -262,13 +235,10 @@ fn clones_are_the_same(rt: HostRuntime) {
     let mut controls = [0xffu8; 16];
     controls[3] = 0x28;
     controls[6] = 0x28;
-    let right = [
-        clones_match::<bytewise::Group>(&controls, 0x28, &[3, 6]),
-        clones_match::<generic::Group>(&controls, 0x28, &[3, 6]),
-        clones_match::<lanes::Group>(&controls, 0x28, &[3, 6]),
-        clones_match::<paired::Group>(&controls, 0x28, &[3, 6]),
-    ];
-    expect_eq!(rt; right, [true; 4]);
+    expect_eq!(rt; clones_match::<bytewise::Group>(&controls, 0x28, &[3, 6]), true);
+    expect_eq!(rt; clones_match::<generic::Group>(&controls, 0x28, &[3, 6]), true);
+    expect_eq!(rt; clones_match::<lanes::Group>(&controls, 0x28, &[3, 6]), true);
+    expect_eq!(rt; clones_match::<paired::Group>(&controls, 0x28, &[3, 6]), true);
 }
 
 // Returns `true` if a mask whose lowest index was taken has a clone with the other ones, and keeps
@@ -314,13 +284,10 @@ fn a_clone_of_a_mask_has_the_indices_that_are_left(rt: HostRuntime) {
         empty: &[1, 2, 4, 5, 7, 8, 9, 10, 11, 12, 13, 14, 15],
         ..eight
     };
-    let right = [
-        rests_are_cloned::<bytewise::Group>(&controls, 0x28, &eight),
-        rests_are_cloned::<generic::Group>(&controls, 0x28, &eight),
-        rests_are_cloned::<lanes::Group>(&controls, 0x28, &sixteen),
-        rests_are_cloned::<paired::Group>(&controls, 0x28, &sixteen),
-    ];
-    expect_eq!(rt; right, [[true; 3]; 4]);
+    expect_eq!(rt; rests_are_cloned::<bytewise::Group>(&controls, 0x28, &eight), [true; 3]);
+    expect_eq!(rt; rests_are_cloned::<generic::Group>(&controls, 0x28, &eight), [true; 3]);
+    expect_eq!(rt; rests_are_cloned::<lanes::Group>(&controls, 0x28, &sixteen), [true; 3]);
+    expect_eq!(rt; rests_are_cloned::<paired::Group>(&controls, 0x28, &sixteen), [true; 3]);
 }
 
 #[test]

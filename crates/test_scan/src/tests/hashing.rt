@@ -126,18 +126,10 @@ fn words_are_fed(rt: HostRuntime) {
     laws::fx_hashers();
     laws::fixed_calls_agree();
     laws::fixed_calls_hash_alike();
-    expect_eq!(rt;
-        (fed_words::<FxHasher64>(), fed_words::<FxHasher64Wide>()),
-        (FED_WORDS, FED_WORDS)
-    );
-}
-
-#[test]
-fn signed_numbers_are_fed_as_their_bits(rt: HostRuntime) {
-    expect_eq!(rt;
-        (fed_signed::<FxHasher64>(), fed_signed::<FxHasher64Wide>()),
-        (fed_bits::<FxHasher64>(), fed_bits::<FxHasher64Wide>())
-    );
+    expect_eq!(rt; fed_words::<FxHasher64>(), FED_WORDS);
+    expect_eq!(rt; fed_words::<FxHasher64Wide>(), FED_WORDS);
+    expect_eq!(rt; fed_signed::<FxHasher64>(), fed_bits::<FxHasher64>());
+    expect_eq!(rt; fed_signed::<FxHasher64Wide>(), fed_bits::<FxHasher64Wide>());
 }
 
 // Returns the hash of these bytes, written in two pieces.
@@ -153,55 +145,25 @@ fn writes_join_at_whole_words(rt: HostRuntime) {
     laws::writes_join();
     laws::eight_bytes_are_one_word();
     let (first, others) = ([1, 2, 3, 4, 5, 6, 7, 8], [9, 10, 11, 12, 13, 14, 15]);
-    let joined = [
-        in_two_pieces::<FxHasher64>(&first, &others),
-        in_two_pieces::<FxHasher64Wide>(&first, &others),
-    ];
-    expect_eq!(rt; joined, [0x6e8b_5d1d_34f0_8a49; 2]);
+    expect_eq!(rt; in_two_pieces::<FxHasher64>(&first, &others), 0x6e8b_5d1d_34f0_8a49);
+    expect_eq!(rt; in_two_pieces::<FxHasher64Wide>(&first, &others), 0x6e8b_5d1d_34f0_8a49);
 }
 
 #[test]
-fn low_halves_are_fed(rt: HostRuntime) {
-    let fed = [
-        of_usize::<FxHasher64>(1),
-        of_usize::<FxHasher64>(4_294_967_297),
-        of_isize::<FxHasher64>(-1),
-        of_isize::<FxHasher64>(4_294_967_295),
-    ];
-    expect_eq!(rt; fed, [SEED, SEED, OF_MINUS_ONE, OF_MINUS_ONE]);
-}
-
-#[test]
-fn all_bits_are_fed(rt: HostRuntime) {
+fn halves_and_all_bits_are_fed(rt: HostRuntime) {
+    expect_eq!(rt; of_usize::<FxHasher64>(1), SEED);
+    expect_eq!(rt; of_usize::<FxHasher64>(4_294_967_297), SEED);
+    expect_eq!(rt; of_isize::<FxHasher64>(-1), OF_MINUS_ONE);
+    expect_eq!(rt; of_isize::<FxHasher64>(4_294_967_295), OF_MINUS_ONE);
     let large = of_usize::<FxHasher64Wide>(4_294_967_297);
-    let fed = [
-        of_usize::<FxHasher64Wide>(1),
-        large,
-        large >> 57,
-        of_isize::<FxHasher64Wide>(-1),
-        of_isize::<FxHasher64Wide>(4_294_967_295),
-    ];
-    expect_eq!(rt;
-        fed,
-        [
-            SEED,
-            0x789e_cc4c_2722_0a95,
-            0x3c,
-            OF_MINUS_ONE,
-            0xd5a5_48dd_d8dd_f56b
-        ]
-    );
-}
-
-#[test]
-fn a_number_is_hashed(rt: HostRuntime) {
+    expect_eq!(rt; of_usize::<FxHasher64Wide>(1), SEED);
+    expect_eq!(rt; large, 0x789e_cc4c_2722_0a95);
+    expect_eq!(rt; large >> 57, 0x3c);
+    expect_eq!(rt; of_isize::<FxHasher64Wide>(-1), OF_MINUS_ONE);
+    expect_eq!(rt; of_isize::<FxHasher64Wide>(4_294_967_295), 0xd5a5_48dd_d8dd_f56b);
     let mut hasher = FxHasher64::default();
     hasher.write_u8(1);
     assert_eq!(rt; hasher.finish(), 0x517c_c1b7_2722_0a95);
-}
-
-#[test]
-fn all_bits_of_a_usize_are_hashed(rt: HostRuntime) {
     let mut hasher = FxHasher64Wide::default();
     hasher.write_usize(4_294_967_297);
     assert_eq!(rt; hasher.finish(), 0x789e_cc4c_2722_0a95);
