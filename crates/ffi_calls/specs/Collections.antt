@@ -1,5 +1,5 @@
 -- Archived collections, by the codes of their contents.
-use Rattle.std.specs.Prelude.{◌≡◌, ℕ, ◌-◌, ◌==◌, Bool, true, false, IfSome, IsSomeAnd, List}
+use Rattle.std.specs.Prelude.{◌≡◌, ℕ, ◌-◌, ◌==◌, Bool, true, false, IsSomeAnd, List}
 use Rattle.std.specs.Prelude.{MatchOption, None, Option, Some, cond, length, pos as int}
 use Rattle.std.specs.Int.{Width}
 use Rattle.std.specs.Option.{option_map, option_zip}
@@ -13,6 +13,7 @@ use Rattle.ffi_calls.specs.TypesOf.{Types, key_type_of, value_type_of}
 use Rattle.ffi_calls.specs.declared.any_value.AnyValue.{AnyValue}
 use Rattle.ffi_calls.specs.declared.collection.Collection.{Collection}
 use Rattle.ffi_calls.specs.declared.collection.Decoding.{Decoding}
+use Rattle.ffi_calls.specs.declared.collection.Handle.{Handle}
 use Rattle.ffi_calls.specs.declared.collection.KeyType.{KeyType}
 use Rattle.ffi_calls.specs.declared.collection.KeyType.TheVariants as key
 use Rattle.ffi_calls.specs.declared.collection.Validation.{Validation}
@@ -144,7 +145,29 @@ ExplainsByCodes codes b result = MatchOption (collection_of codes)
     (result ≡ explained 7 (int 0) 0 0)
     (λ c. Explains (limit_of c.wide) (collection_spec c) b result)
 
--- the decoded header is that of the collection with the codes at the root of `b`
-abbrev pub IsHeaderByCodes : Codes → List ℕ → Decoded → Type 0
-IsHeaderByCodes codes b header =
-    IfSome (collection_of codes) (λ c. IsHeaderOf (collection_in c b) header)
+-- the type of keys with the number in a handle
+abbrev pub key_type_in : ℕ → KeyType
+key_type_in number = cond (number == 0) key.U8 (cond (number == 1) key.U16
+    (cond (number == 2) key.U32 (cond (number == 3) key.U64 (cond (number == 4) key.Char
+    key.Text))))
+
+-- the type of values with the number in a handle
+abbrev pub value_type_in : ℕ → ValueType
+value_type_in number = cond (number == 0) value.U8 (cond (number == 1) value.U16
+    (cond (number == 2) value.U32 (cond (number == 3) value.U64 (cond (number == 4) value.Bool
+    (cond (number == 5) value.Char (cond (number == 6) value.Text (cond (number == 7) value.Bytes
+    value.Unit)))))))
+
+-- the collection of a handle
+abbrev pub collection_at : Handle → Collection
+collection_at handle = record {
+  indexed = handle.indexed;
+  key = key_type_in handle.key;
+  value = value_type_in handle.value;
+  wide = handle.wide;
+}
+
+-- `b` is a valid archive of the handle's collection, whose decoded header the handle has
+pub record IsHandleOf (b : List ℕ) (handle : Handle) : Type 0 where
+  pub archive : IsValidArchive (limit_of handle.wide) (collection_spec (collection_at handle)) b
+  pub header : IsHeaderOf (collection_in (collection_at handle) b) handle.header

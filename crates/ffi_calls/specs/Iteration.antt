@@ -1,14 +1,14 @@
 -- Iteration over the items of any collection.
-use Rattle.std.specs.Prelude.{ℕ, Bool, true, false, IfSome, List}
+use Rattle.std.specs.Prelude.{ℕ, Bool, true, false, List}
 use Rattle.ffi_calls.specs.Archives.{IsHeaderOf}
-use Rattle.ffi_calls.specs.Collections.{IsArchiveOfTypes, collection_of, types_in}
+use Rattle.ffi_calls.specs.Collections.{IsArchiveOfTypes, collection_at, types_in}
 use Rattle.ffi_calls.specs.IndexArchives.{StoresItemsFrom}
 use Rattle.ffi_calls.specs.IndexLists.{StoresListed}
 use Rattle.ffi_calls.specs.Lists.{fx_pairs}
 use Rattle.ffi_calls.specs.TypesOf.{Types, types_of}
 use Rattle.ffi_calls.specs.Walking.{StoresNextItems}
 use Rattle.ffi_calls.specs.declared.any_value.AnyItem.{AnyItem}
-use Rattle.ffi_calls.specs.declared.containers.Codes.{Codes}
+use Rattle.ffi_calls.specs.declared.collection.Handle.{Handle}
 use Rattle.ffi_calls.specs.declared.iteration.Iteration.{Iteration}
 
 -- the condition of iteration: the archive is valid, and the header is its own
@@ -37,7 +37,7 @@ abbrev pub StoresItems : {P : Type 0} → Iteration → List AnyItem → Types P
 StoresItems op before t count after =
     StoresItemsIn t op.archive.now op.from before count after t.indexed
 
--- the result of iteration over the collection with the codes
-abbrev pub StoresItemsByCodes : Codes → List ℕ → ℕ → List AnyItem → ℕ → List AnyItem → Type 0
-StoresItemsByCodes codes b from before count after = IfSome (collection_of codes) (λ c.
-    StoresItemsIn (types_of c) b from before count after c.indexed)
+-- the result of iteration over the collection of the handle
+abbrev pub StoresItemsAt : Handle → List ℕ → ℕ → List AnyItem → ℕ → List AnyItem → Type 0
+StoresItemsAt handle b from before count after =
+    StoresItemsIn (types_of (collection_at handle)) b from before count after handle.indexed

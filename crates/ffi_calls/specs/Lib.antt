@@ -52,23 +52,24 @@ unfoldable pub use TypesOf.{StoredValueMembers, byte_string_values, key_members,
 unfoldable pub use TypesOf.{scalar_keys, scalar_values, text_keys, text_values, types_by, types_of}
 unfoldable pub use TypesOf.{unit_values, value_members, value_type_of}
 pub use TypesOf.{KeyTypes, Types, ValueTypes}
-unfoldable pub use Iteration.{StoresItems, StoresItemsByCodes, StoresItemsIn}
+unfoldable pub use Iteration.{StoresItems, StoresItemsAt, StoresItemsIn}
 pub use Iteration.{CanIterate, StoresFromIndex}
-unfoldable pub use Lookup.{FindsKey, FindsShown, IsLookedUp, LooksUp, LooksUpIn, LooksUpMany}
-unfoldable pub use Lookup.{ReturnsByCodes, ReturnsIn, SetLookupsFindListed, StoresLookupsByCodes}
-pub use Lookup.{CanLookUp, CanLookUpMany, FindsInIndex, FindsInMap, StoresLookups}
+unfoldable pub use Lookup.{FindsKey, FindsShown, IsLookedUp, LooksUp, LooksUpIn, ReturnsIn}
+unfoldable pub use Lookup.{SetLookupsFindListed}
+pub use Lookup.{CanLookUp, FindsInIndex, FindsInMap, StoresLookups}
 unfoldable pub use Collections.{CanDecode, CanValidate, DecodesTypes, ExplainsByCodes}
-unfoldable pub use Collections.{ExplainsTypes, IsArchiveOfTypes, IsHeaderByCodes, IsValidByCodes}
-unfoldable pub use Collections.{OpensByCodes, collection_by, collection_in, collection_of}
-unfoldable pub use Collections.{collection_spec, index_flag, key_type, key_type_spec, root_in}
-unfoldable pub use Collections.{root_spec, types_in, types_spec, value_type, value_type_spec}
-unfoldable pub use Collections.{wide_flag}
+unfoldable pub use Collections.{ExplainsTypes, IsArchiveOfTypes, IsValidByCodes, OpensByCodes}
+unfoldable pub use Collections.{collection_at, collection_by, collection_in, collection_of}
+unfoldable pub use Collections.{collection_spec, index_flag, key_type, key_type_in, key_type_spec}
+unfoldable pub use Collections.{root_in, root_spec, types_in, types_spec, value_type, value_type_in}
+unfoldable pub use Collections.{value_type_spec, wide_flag}
+pub use Collections.{IsHandleOf}
 unfoldable pub use Building.{ArchiveOfItemsFails, ArchiveOfPairsFails, ArePairsOf, BuildsByCodes}
 unfoldable pub use Building.{CanBuild, FirstUnfit, HasNoPair, HasPair, IsArchiveOfItems}
 unfoldable pub use Building.{IsArchiveOfPairs, IsPairOf, Outputs, PairsFail, SetArchivesRepresent}
 unfoldable pub use Building.{WritesArchive, WritesItems, taken_keys, taken_values, types_format}
 unfoldable pub use Building.{types_natives}
-unfoldable pub use Overwrite.{KeepsHeaderByCodes, RepresentsBy, SetsByCodes, SetsKeyOf, SetsShown}
+unfoldable pub use Overwrite.{KeepsCollection, RepresentsBy, SetsIn, SetsKeyOf, SetsShown}
 unfoldable pub use Overwrite.{value_found_by}
 pub use Overwrite.{KeepsRoot, SetsKey}
 unfoldable pub use Misplaced.{CountsIn, CountsMisplaced, CountsTypes, StoresMisplaced}

@@ -1,4 +1,4 @@
--- The misplaced keys of collections, by the codes of their contents.
+-- The misplaced keys of collections.
 use Rattle.std.specs.Prelude.{◌≡◌, ℕ, ◌<◌, ◌≤◌, ◌⊎◌, Bool, true, false, IfSome, List}
 use Rattle.std.specs.Prelude.{MatchOption, Option}
 use Rattle.std.specs.Int.{Width}
@@ -7,13 +7,13 @@ use Rattle.rkyv_keys.specs.{Comparison}
 use Rattle.rkyv_collections.specs.{MapAt, map_misplaced, map_strides}
 use Rattle.rkyv_index.specs.{Index, index_misplaced, keys_strides}
 use Rattle.ffi_calls.specs.Archives.{IsHeaderOf, word_of}
-use Rattle.ffi_calls.specs.Collections.{IsArchiveOfTypes, collection_in, collection_of, types_in}
+use Rattle.ffi_calls.specs.Collections.{IsArchiveOfTypes, collection_in, collection_at, types_in}
 use Rattle.ffi_calls.specs.Lists.{fx_hash_at}
 use Rattle.ffi_calls.specs.TypesOf.{Types, key_type_of}
 use Rattle.ffi_calls.specs.declared.any_value.AnyValue.{AnyValue}
 use Rattle.ffi_calls.specs.declared.collection.Collection.{Collection}
 use Rattle.ffi_calls.specs.declared.collection.KeyType.{KeyType}
-use Rattle.ffi_calls.specs.declared.containers.Codes.{Codes}
+use Rattle.ffi_calls.specs.declared.collection.Handle.{Handle}
 use Rattle.ffi_calls.specs.declared.misplaced.Counting.{Counting}
 
 -- the comparison of keys of the type in an archive of the word
@@ -84,8 +84,8 @@ StoresMisplaced misplaced strides limit before status after =
     ((strides ≤ limit) × (status ≡ 0) × (after ≡ misplaced))
     ⊎ ((limit < strides) × (status ≡ 15) × (after ≡ before))
 
--- the number of misplaced keys of the collection with the codes at the root of `b` is stored,
+-- the number of misplaced keys of the collection of the handle at the root of `b` is stored,
 -- unless the lookups of all its keys read more than `limit` strides
-abbrev pub CountsMisplaced : Codes → List ℕ → ℕ → ℕ → ℕ → ℕ → Type 0
-CountsMisplaced codes b limit before status after = IfSome (collection_of codes)
-    (λ c. StoresMisplaced (misplaced_of c b) (strides_of c b) limit before status after)
+abbrev pub CountsMisplaced : Handle → List ℕ → ℕ → ℕ → ℕ → ℕ → Type 0
+CountsMisplaced handle b limit before status after = let c = collection_at handle in
+    StoresMisplaced (misplaced_of c b) (strides_of c b) limit before status after

@@ -1,22 +1,21 @@
 -- Overwrites of values that are numbers, in hash maps and in index maps of any types.
-use Rattle.std.specs.Prelude.{◌≡◌, ℕ, ◌⊎◌, Bool, true, false, IfSome, List, Option}
+use Rattle.std.specs.Prelude.{◌≡◌, ℕ, ◌⊎◌, Bool, true, false, List, Option}
 use Rattle.std.specs.Int.{Width, w16, w32, w64, w8}
 use Rattle.rkyv_scan.specs.{HasherCall}
 use Rattle.rkyv_base.specs.{ElementSpec, Encoding, IsValidArchive, ScalarRepresents, unsigned}
 use Rattle.rkyv_keys.specs.{NativePairs}
 use Rattle.rkyv_collections.specs.{MapAt}
-use Rattle.rkyv_table.specs.declared.table.decoded.Decoded.{Decoded}
-use Rattle.ffi_calls.specs.Archives.{KeepsHeader, Overwrites, value_found, word_of}
-use Rattle.ffi_calls.specs.Collections.{IsHeaderByCodes, collection_of, root_in, root_spec}
+use Rattle.ffi_calls.specs.Archives.{KeepsHeader, Overwrites, limit_of, value_found, word_of}
+use Rattle.ffi_calls.specs.Collections.{key_type_spec, root_in, root_spec}
 use Rattle.ffi_calls.specs.Collections.{value_type_spec}
 use Rattle.ffi_calls.specs.IndexInPlace.{value_found_in}
 use Rattle.ffi_calls.specs.IndexLists.{IndexRepresentsPairs}
 use Rattle.ffi_calls.specs.Lists.{PairsRepresent, SetsFirstPair, fx_pairs}
 use Rattle.ffi_calls.specs.TypesOf.{KeyTypes, key_type_of}
 use Rattle.ffi_calls.specs.declared.any_value.AnyValue.{AnyValue}
+use Rattle.ffi_calls.specs.declared.collection.Collection.{Collection}
 use Rattle.ffi_calls.specs.declared.collection.ValueType.{ValueType}
 use Rattle.ffi_calls.specs.declared.collection.ValueType.TheVariants as value
-use Rattle.ffi_calls.specs.declared.containers.Codes.{Codes}
 
 -- the position of the value that a lookup finds in a hash map, or in an index map if the flag is
 -- `true`. `calls`: hasher calls of the key, `fits`: test of the key at a position
@@ -75,13 +74,12 @@ module _ {P : Type 0} (indexed : Bool) (w : Width) (k : KeyTypes P) (b : List �
       ⊎ ((native : k.Native) × k.is_value key × k.shows key native
       × SetsKeyOf of native number status c)
 
--- each decoded header of the collection with the codes in `b` is one of the collection in `c`
-abbrev pub KeepsHeaderByCodes : Codes → List ℕ → List ℕ → Type 0
-KeepsHeaderByCodes codes b c =
-    (header : Decoded) → IsHeaderByCodes codes b header → IsHeaderByCodes codes c header
+-- the archive `c` is of the collection `of`, as `b` is, and has the header of `b`
+abbrev pub KeepsCollection : Collection → List ℕ → List ℕ → Type 0
+KeepsCollection of b c = let w = word_of of.wide in KeepsRoot of.indexed (limit_of of.wide) w
+    (key_type_spec w of.key) (value_type_spec w of.value) b c
 
--- the result of an overwrite of the value of `key` in the collection with the codes
-abbrev pub SetsByCodes : Codes → List ℕ → AnyValue → ℕ → ℕ → List ℕ → Type 0
-SetsByCodes codes b key number status c = IfSome (collection_of codes) (λ of.
-    SetsShown of.indexed (word_of of.wide) (key_type_of (word_of of.wide) of.key) b of.value key
-    number status c)
+-- the result of an overwrite of the value of `key` in a collection
+abbrev pub SetsIn : Collection → List ℕ → AnyValue → ℕ → ℕ → List ℕ → Type 0
+SetsIn of b key number status c = let w = word_of of.wide in
+    SetsShown of.indexed w (key_type_of w of.key) b of.value key number status c

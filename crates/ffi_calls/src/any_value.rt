@@ -55,13 +55,13 @@ pub struct IndexedValue<'a> {
     pub value: AnyValue<'a>,
 }
 
-/// The result of one of several lookups: its status, and the value and the index that it finds.
+/// A lookup: its key at first, and then its status, and the value and the index that it finds.
 #[repr(C)]
 #[derive(Clone, Copy)]
 pub struct LookedUp<'a> {
     /// The status of the lookup.
     pub status: u32,
-    /// The value of the pair and its index, if the status is 0.
+    /// The value is the key at first. If the status is 0, it is that of the pair, beside its index.
     pub found: IndexedValue<'a>,
 }
 

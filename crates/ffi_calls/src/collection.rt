@@ -1,20 +1,19 @@
-//! Archives by the codes of their contents: their validation, and their decoded header.
+//! Archives by the codes of their contents: their validation, and their handles.
 //!
-//! `open_archive` and `explain_archive` validate an archive. `decode_header` and all calls of other
-//! modules that read an archive require a valid one. `IsValidByCodes` of given codes computes to
-//! the condition of the calls for their collection.
+//! `open_archive` and `explain_archive` validate an archive. `decode` returns the handle of a valid
+//! one, which the calls of other modules take.
 //!
 //! The codes are those in the header of a container. `docs/FORMAT.md` lists them. A container may
 //! have contents for which this library has no collection, as `bool` keys. Their codes are unknown
 //! here, as are codes that no contents have.
 
-ghost use Rattle.std.specs.Prelude.{◌≡◌};
+ghost use Rattle.std.specs.Prelude.{◌≡◌, Some};
 ghost use Rattle.rkyv_base.specs.{IsValidArchive};
 ghost use Rattle.ffi_calls.specs.{CanDecode, CanValidate, DecodesTypes, Explains, ExplainsByCodes};
-ghost use Rattle.ffi_calls.specs.{ExplainsTypes, IsHeaderByCodes, IsHeaderOf, IsValidByCodes};
-ghost use Rattle.ffi_calls.specs.{OpensByCodes, collection_in, collection_of, collection_spec};
-ghost use Rattle.ffi_calls.specs.{index_flag, key_type, limit_of, root_in, root_spec, value_type};
-ghost use Rattle.ffi_calls.specs.{wide_flag};
+ghost use Rattle.ffi_calls.specs.{ExplainsTypes, IsHandleOf, IsHeaderOf, IsValidByCodes};
+ghost use Rattle.ffi_calls.specs.{OpensByCodes, collection_at, collection_in, collection_of};
+ghost use Rattle.ffi_calls.specs.{collection_spec, index_flag, key_type, key_type_in, limit_of};
+ghost use Rattle.ffi_calls.specs.{root_in, root_spec, value_type, value_type_in, wide_flag};
 
 use crate::any_value::AnyValue;
 use crate::archives::{explain_root, header_of};
@@ -79,6 +78,22 @@ pub struct Collection {
     pub value: ValueType,
     /// Whether the archive is wide, in place of narrow.
     pub wide: bool,
+}
+
+/// A handle of a valid archive: its collection, and its decoded header.
+#[repr(C)]
+#[derive(Clone, Copy)]
+pub struct Handle {
+    /// Whether it is an index map or an index set, in place of a hash map or a hash set.
+    pub indexed: bool,
+    /// Whether the archive is wide, in place of narrow.
+    pub wide: bool,
+    /// The number of the type of the keys: its index in `KeyType`.
+    pub key: u8,
+    /// The number of the type of the values: its index in `ValueType`.
+    pub value: u8,
+    /// The decoded header.
+    pub header: Decoded,
 }
 
 /// Returns whether the kind with this code is an index map or an index set.
@@ -269,14 +284,107 @@ fn decode_collection(archive: &[u8], of: Collection) -> Decoded
     dispatch(of, Decoding { archive }, &mut [])
 }
 
-/// Returns the decoded header of the collection with the codes, for lookups and iteration.
+/// Returns the type of keys with this number in a handle.
+#[inline(always)]
+fn key_type_in(number: u8) -> KeyType
+    ensures { result ≡ key_type_in number }
+{
+    match number {
+        0 => KeyType::U8,
+        1 => KeyType::U16,
+        2 => KeyType::U32,
+        3 => KeyType::U64,
+        4 => KeyType::Char,
+        _ => KeyType::Text,
+    }
+}
+
+/// Returns the type of values with this number in a handle.
+#[inline(always)]
+fn value_type_in(number: u8) -> ValueType
+    ensures { result ≡ value_type_in number }
+{
+    match number {
+        0 => ValueType::U8,
+        1 => ValueType::U16,
+        2 => ValueType::U32,
+        3 => ValueType::U64,
+        4 => ValueType::Bool,
+        5 => ValueType::Char,
+        6 => ValueType::Text,
+        7 => ValueType::Bytes,
+        _ => ValueType::Unit,
+    }
+}
+
+/// Returns the number of a type of keys in a handle.
+fn number_of_key(key: KeyType) -> u8
+    ensures { key_type_in result ≡ key }
+{
+    match key {
+        KeyType::U8 => 0,
+        KeyType::U16 => 1,
+        KeyType::U32 => 2,
+        KeyType::U64 => 3,
+        KeyType::Char => 4,
+        KeyType::Text => 5,
+    }
+}
+
+/// Returns the number of a type of values in a handle.
+fn number_of_value(value: ValueType) -> u8
+    ensures { value_type_in result ≡ value }
+{
+    match value {
+        ValueType::U8 => 0,
+        ValueType::U16 => 1,
+        ValueType::U32 => 2,
+        ValueType::U64 => 3,
+        ValueType::Bool => 4,
+        ValueType::Char => 5,
+        ValueType::Text => 6,
+        ValueType::Bytes => 7,
+        ValueType::Unit => 8,
+    }
+}
+
+/// Returns the collection of a handle.
+#[inline(always)]
+pub(crate) fn collection_at(handle: &Handle) -> Collection
+    ensures { result ≡ collection_at handle.now }
+{
+    Collection {
+        indexed: handle.indexed,
+        key: key_type_in(handle.key),
+        value: value_type_in(handle.value),
+        wide: handle.wide,
+    }
+}
+
+/// Returns the handle of the valid archive of a collection.
+fn handle_of(archive: &[u8], of: Collection) -> Handle
+    requires { IsValidArchive (limit_of of.wide) (collection_spec of) archive.now }
+    ensures of { collection_at result ≡ of }
+    ensures handle { IsHandleOf archive.now result }
+{
+    Handle {
+        indexed: of.indexed,
+        wide: of.wide,
+        key: number_of_key(of.key),
+        value: number_of_value(of.value),
+        header: decode_collection(archive, of),
+    }
+}
+
+/// Returns the handle of the archive of the collection with the codes, for the calls that read it.
 ///
 /// # Requires
 ///
 /// - The archive is valid: `open_archive` returned `DONE` for these codes.
-pub fn decode_header(archive: &[u8], codes: Codes) -> Decoded
+pub fn decode(archive: &[u8], codes: Codes) -> Handle
     requires { IsValidByCodes codes archive.now }
-    ensures { IsHeaderByCodes codes archive.now result }
+    ensures of { collection_of codes ≡ Some (collection_at result) }
+    ensures handle { IsHandleOf archive.now result }
 {
-    decode_collection(archive, collection_of(codes).unwrap())
+    handle_of(archive, collection_of(codes).unwrap())
 }

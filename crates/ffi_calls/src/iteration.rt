@@ -1,12 +1,10 @@
 //! Iteration over the items of any collection.
 
-ghost use Rattle.ffi_calls.specs.{CanIterate, IsArchiveOfTypes, IsHeaderByCodes, IsHeaderOf};
-ghost use Rattle.ffi_calls.specs.{IsValidByCodes, StoresItems, StoresItemsByCodes, StoresItemsIn};
-ghost use Rattle.ffi_calls.specs.{types_in, types_of};
+ghost use Rattle.ffi_calls.specs.{CanIterate, IsArchiveOfTypes, IsHandleOf, IsHeaderOf};
+ghost use Rattle.ffi_calls.specs.{StoresItems, StoresItemsAt, StoresItemsIn, types_in, types_of};
 
 use crate::any_value::{AnyItem, AnyValue};
-use crate::collection::{Collection, collection_of};
-use crate::containers::Codes;
+use crate::collection::{Collection, Handle, collection_at};
 use crate::index::items_in;
 use crate::types::{KeyFrom, Operation, StoredKey, StoredValue, ValueFrom, dispatch};
 use crate::walk::next_items_in;
@@ -73,18 +71,15 @@ fn items_of<'a>(
 ///
 /// # Requires
 ///
-/// - The archive is valid: `open_archive` returned `DONE` for these codes.
-/// - `header` is its decoded header.
+/// - `handle` is a handle of the archive.
 pub fn next_items<'a>(
     archive: &'a [u8],
-    codes: Codes,
-    header: &'a Decoded,
+    handle: &'a Handle,
     from: u64,
     items: &mut [AnyItem<'a>],
 ) -> usize
-    requires archive { IsValidByCodes codes archive.now }
-    requires header { IsHeaderByCodes codes archive.now header.now }
-    ensures { StoresItemsByCodes codes archive.now from items.old result items.new }
+    requires { IsHandleOf archive.now handle.now }
+    ensures { StoresItemsAt handle.now archive.now from items.old result items.new }
 {
-    items_of(archive, collection_of(codes).unwrap(), header, from, items)
+    items_of(archive, collection_at(handle), &handle.header, from, items)
 }

@@ -1,14 +1,12 @@
 //! Lookups of keys in any collection, by the codes of its contents.
 
-ghost use Rattle.ffi_calls.specs.{CanLookUp, CanLookUpMany, IsArchiveOfTypes, IsHeaderByCodes};
-ghost use Rattle.ffi_calls.specs.{IsHeaderOf, IsLookedUp, IsValidByCodes, LooksUp, LooksUpIn};
-ghost use Rattle.ffi_calls.specs.{LooksUpMany, ReturnsByCodes, StoresLookups, StoresLookupsByCodes};
+ghost use Rattle.ffi_calls.specs.{CanLookUp, IsArchiveOfTypes, IsHandleOf, IsHeaderOf};
+ghost use Rattle.ffi_calls.specs.{IsLookedUp, LooksUp, LooksUpIn, StoresLookups, collection_at};
 ghost use Rattle.ffi_calls.specs.{index_width, key_members, types_by, types_in, types_of};
 ghost use Rattle.ffi_calls.specs.{value_members};
 
 use crate::any_value::{AnyValue, IndexedValue, LookedUp};
-use crate::collection::{Collection, collection_of};
-use crate::containers::Codes;
+use crate::collection::{Collection, Handle, collection_at};
 use crate::status::{DONE, NOT_FOUND};
 use crate::types::{KeyFrom, Operation, StoredKey, StoredValue, ValueFrom, dispatch};
 use crate::{index, map_lookup};
@@ -24,9 +22,8 @@ use rkyv_table::table::decoded::Decoded;
 #[inline]
 fn find_key<
     'a,
-    'b,
-    A: KeyFrom<AnyValue<'b>, K, W>,
-    B: ValueFrom<AnyValue<'b>, V, W>,
+    A: KeyFrom<AnyValue<'a>, K, W>,
+    B: ValueFrom<AnyValue<'a>, V, W>,
     K: StoredKey<A>,
     V: StoredValue<B>,
     W: IndexWidth,
@@ -34,7 +31,7 @@ fn find_key<
     archive: &'a [u8],
     indexed: bool,
     header: &Decoded,
-    key: AnyValue<'b>,
+    key: AnyValue<'a>,
 ) -> Result<Option<IndexedValue<'a>>, u32>
     requires archive { IsArchiveOfTypes (types_by indexed
         (index_width W.Width W.Index.spec W.Index.encoding)
@@ -60,237 +57,127 @@ fn find_key<
     }
 }
 
-/// A lookup of a key.
-#[derive(Clone, Copy)]
-pub(crate) struct Lookup<'a, 'b> {
-    archive: &'a [u8],
-    header: &'b Decoded,
-    key: AnyValue<'b>,
+/// Looks up the key in `lookup`, and stores its result in place.
+///
+/// The errors are those of `get`.
+#[inline]
+fn look_up<
+    'a,
+    A: KeyFrom<AnyValue<'a>, K, W>,
+    B: ValueFrom<AnyValue<'a>, V, W>,
+    K: StoredKey<A>,
+    V: StoredValue<B>,
+    W: IndexWidth,
+>(archive: &'a [u8], indexed: bool, header: &Decoded, lookup: &mut LookedUp<'a>)
+    requires archive { IsArchiveOfTypes (types_by indexed
+        (index_width W.Width W.Index.spec W.Index.encoding)
+        (key_members A.KeyFrom K.StoredKey) (value_members B.ValueFrom V.StoredValue))
+        archive.now }
+    requires header { IsHeaderOf (types_in (types_by indexed
+        (index_width W.Width W.Index.spec W.Index.encoding)
+        (key_members A.KeyFrom K.StoredKey) (value_members B.ValueFrom V.StoredValue))
+        archive.now) header.now }
+    ensures { IsLookedUp (types_by indexed
+        (index_width W.Width W.Index.spec W.Index.encoding)
+        (key_members A.KeyFrom K.StoredKey) (value_members B.ValueFrom V.StoredValue))
+        archive.now lookup.old lookup.new }
+{
+    match find_key::<A, B, K, V, W>(archive, indexed, header, lookup.found.value) {
+        Ok(Some(found)) => {
+            lookup.status = DONE;
+            lookup.found = found;
+        }
+        Ok(None) => lookup.status = NOT_FOUND,
+        Err(status) => lookup.status = status,
+    }
 }
 
-impl<'a, 'b> Operation<AnyValue<'b>, u8> for Lookup<'a, 'b> {
-    type Out = Result<Option<IndexedValue<'a>>, u32>;
+/// Looks up the keys in `lookups`, and stores their results in place.
+fn find_keys<
+    'a,
+    A: KeyFrom<AnyValue<'a>, K, W>,
+    B: ValueFrom<AnyValue<'a>, V, W>,
+    K: StoredKey<A>,
+    V: StoredValue<B>,
+    W: IndexWidth,
+>(archive: &'a [u8], indexed: bool, header: &Decoded, lookups: &mut [LookedUp<'a>])
+    requires archive { IsArchiveOfTypes (types_by indexed
+        (index_width W.Width W.Index.spec W.Index.encoding)
+        (key_members A.KeyFrom K.StoredKey) (value_members B.ValueFrom V.StoredValue))
+        archive.now }
+    requires header { IsHeaderOf (types_in (types_by indexed
+        (index_width W.Width W.Index.spec W.Index.encoding)
+        (key_members A.KeyFrom K.StoredKey) (value_members B.ValueFrom V.StoredValue))
+        archive.now) header.now }
+    ensures { StoresLookups (types_by indexed
+        (index_width W.Width W.Index.spec W.Index.encoding)
+        (key_members A.KeyFrom K.StoredKey) (value_members B.ValueFrom V.StoredValue))
+        archive.now lookups.old lookups.new }
+{
+    // Behind this copy no write of a result changes the header, so it is read once.
+    let copy = *header;
+    for count in 0..lookups.len() {
+        look_up::<A, B, K, V, W>(archive, indexed, &copy, &mut lookups[count]);
+    }
+}
+
+/// Lookups of keys.
+#[derive(Clone, Copy)]
+pub(crate) struct Lookups<'a> {
+    archive: &'a [u8],
+    header: &'a Decoded,
+}
+
+impl<'a> Operation<AnyValue<'a>, LookedUp<'a>> for Lookups<'a> {
+    type Out = ();
 
     ghost pre = { CanLookUp };
 
     ghost post = { LooksUp };
 
-    #[inline]
+    #[inline(always)]
     fn run<
-        A: KeyFrom<AnyValue<'b>, K, W>,
-        B: ValueFrom<AnyValue<'b>, V, W>,
+        A: KeyFrom<AnyValue<'a>, K, W>,
+        B: ValueFrom<AnyValue<'a>, V, W>,
         K: StoredKey<A>,
         V: StoredValue<B>,
         W: IndexWidth,
-    >(self, indexed: bool, _out: &mut [u8]) -> Result<Option<IndexedValue<'a>>, u32> {
-        find_key::<A, B, K, V, W>(self.archive, indexed, self.header, self.key)
+    >(self, indexed: bool, out: &mut [LookedUp<'a>]) {
+        find_keys::<A, B, K, V, W>(self.archive, indexed, self.header, out)
     }
 }
 
-/// Returns the value of a key and its index, or `None` if the lookup doesn't find the key.
-///
-/// The index is 0 in a hash map and in a hash set.
-///
-/// # Errors
-///
-/// - `VALUE_TOO_LARGE`: the keys are numbers or characters, and none has the number of `key`.
-/// - `NOT_TEXT`: the keys are texts, and the bytes of `key` aren't UTF-8.
-fn find_of<'a>(
-    archive: &'a [u8],
-    of: Collection,
-    header: &Decoded,
-    key: AnyValue<'_>,
-) -> Result<Option<IndexedValue<'a>>, u32>
+/// Looks up keys of a collection, and stores their results in place.
+#[inline(always)]
+fn find_of<'a>(archive: &'a [u8], of: Collection, header: &'a Decoded, lookups: &mut [LookedUp<'a>])
     requires archive { IsArchiveOfTypes (types_of of) archive.now }
     requires header { IsHeaderOf (types_in (types_of of) archive.now) header.now }
-    ensures { LooksUpIn (types_of of) archive.now key.entry result }
+    ensures { StoresLookups (types_of of) archive.now lookups.old lookups.new }
 {
-    let lookup = Lookup {
-        archive,
-        header,
-        key,
-    };
-    dispatch(of, lookup, &mut [])
+    dispatch(of, Lookups { archive, header }, lookups)
 }
 
-/// Looks up a key of a collection, and stores its value and its index in `found`.
+/// Looks up keys of a collection, each in `found.value`, and stores their results there.
 ///
-/// A set has the unit value. The index is that of the pair in an index map and in an index set. It
-/// is 0 in a hash map and in a hash set.
+/// A result is a status, and the value and the index of the pair. A set has the unit value. The
+/// index is 0 in a hash map and in a hash set.
 ///
 /// # Requires
 ///
-/// - The archive is valid: `open_archive` returned `DONE` for these codes.
-/// - `header` is its decoded header.
+/// - `handle` is a handle of the archive.
 ///
 /// # Errors
 ///
-/// - `VALUE_TOO_LARGE`: the keys are numbers or characters, and none has the number of `key`.
-/// - `NOT_TEXT`: the keys are texts, and the bytes of `key` aren't UTF-8.
+/// The status is `DONE`, or one of these. Then `found` is unchanged.
+///
+/// - `VALUE_TOO_LARGE`: the keys are numbers or characters, and none has the number of the key.
+/// - `NOT_TEXT`: the keys are texts, and the bytes of the key aren't UTF-8.
 /// - `NOT_FOUND`: the lookup doesn't find the key.
-///
-/// After an error `found` is unchanged.
-pub fn get<'a>(
-    archive: &'a [u8],
-    codes: Codes,
-    header: &Decoded,
-    key: AnyValue<'_>,
-    found: &mut IndexedValue<'a>,
-) -> u32
-    requires archive { IsValidByCodes codes archive.now }
-    requires header { IsHeaderByCodes codes archive.now header.now }
-    ensures { ReturnsByCodes codes archive.now key.entry found.old result found.new }
-{
-    match find_of(archive, collection_of(codes).unwrap(), header, key) {
-        Ok(Some(indexed)) => {
-            *found = indexed;
-            DONE
-        }
-        Ok(None) => NOT_FOUND,
-        Err(status) => status,
-    }
-}
-
-/// Returns the result of a lookup with its status. After an error it has what was there before.
 #[inline]
-fn looked_up<'a>(
-    found: Result<Option<IndexedValue<'a>>, u32>,
-    before: IndexedValue<'a>,
-) -> LookedUp<'a>
-    ensures { IsLookedUp found.entry before.entry result }
+pub fn get<'a>(archive: &'a [u8], handle: &'a Handle, lookups: &mut [LookedUp<'a>])
+    requires { IsHandleOf archive.now handle.now }
+    ensures { StoresLookups (types_of (collection_at handle.now)) archive.now lookups.old
+        lookups.new }
 {
-    match found {
-        Ok(Some(found)) => LookedUp {
-            status: DONE,
-            found,
-        },
-        Ok(None) => LookedUp {
-            status: NOT_FOUND,
-            found: before,
-        },
-        Err(status) => LookedUp {
-            status,
-            found: before,
-        },
-    }
-}
-
-/// Looks up keys in the archive `from`, and stores their results. Returns the number of these.
-///
-/// `flag` is `true` in an index map, and `false` in a hash map.
-fn find_keys<
-    'a,
-    'b,
-    A: KeyFrom<AnyValue<'b>, K, W>,
-    B: ValueFrom<AnyValue<'b>, V, W>,
-    K: StoredKey<A>,
-    V: StoredValue<B>,
-    W: IndexWidth,
->(
-    from: &'a [u8],
-    flag: bool,
-    header: &Decoded,
-    keys: &[AnyValue<'b>],
-    out: &mut [LookedUp<'a>],
-) -> usize
-    requires archive { IsArchiveOfTypes (types_by flag
-        (index_width W.Width W.Index.spec W.Index.encoding)
-        (key_members A.KeyFrom K.StoredKey) (value_members B.ValueFrom V.StoredValue))
-        from.now }
-    requires header { IsHeaderOf (types_in (types_by flag
-        (index_width W.Width W.Index.spec W.Index.encoding)
-        (key_members A.KeyFrom K.StoredKey) (value_members B.ValueFrom V.StoredValue))
-        from.now) header.now }
-    ensures { StoresLookups (types_by flag
-        (index_width W.Width W.Index.spec W.Index.encoding)
-        (key_members A.KeyFrom K.StoredKey) (value_members B.ValueFrom V.StoredValue))
-        from.now keys.now out.old result out.new }
-{
-    let number = keys.len().min(out.len());
-    for count in 0..number {
-        let found = find_key::<A, B, K, V, W>(from, flag, header, keys[count]);
-        out[count] = looked_up(found, out[count].found);
-    }
-    number
-}
-
-/// Lookups of several keys.
-#[derive(Clone, Copy)]
-pub(crate) struct Lookups<'a, 'b> {
-    archive: &'a [u8],
-    header: &'b Decoded,
-    keys: &'b [AnyValue<'b>],
-}
-
-impl<'a, 'b> Operation<AnyValue<'b>, LookedUp<'a>> for Lookups<'a, 'b> {
-    type Out = usize;
-
-    ghost pre = { CanLookUpMany };
-
-    ghost post = { LooksUpMany };
-
-    #[inline]
-    fn run<
-        A: KeyFrom<AnyValue<'b>, K, W>,
-        B: ValueFrom<AnyValue<'b>, V, W>,
-        K: StoredKey<A>,
-        V: StoredValue<B>,
-        W: IndexWidth,
-    >(self, indexed: bool, out: &mut [LookedUp<'a>]) -> usize {
-        find_keys::<A, B, K, V, W>(self.archive, indexed, self.header, self.keys, out)
-    }
-}
-
-/// Looks up keys of a collection, and stores their results. Returns the number of these.
-fn find_many_of<'a, 'b>(
-    archive: &'a [u8],
-    of: Collection,
-    header: &'b Decoded,
-    keys: &'b [AnyValue<'b>],
-    results: &mut [LookedUp<'a>],
-) -> usize
-    requires archive { IsArchiveOfTypes (types_of of) archive.now }
-    requires header { IsHeaderOf (types_in (types_of of) archive.now) header.now }
-    ensures { StoresLookups (types_of of) archive.now keys.now results.old result results.new }
-{
-    let lookups = Lookups {
-        archive,
-        header,
-        keys,
-    };
-    dispatch(of, lookups, results)
-}
-
-/// Looks up keys of a collection, and stores for each key its status, its value and its index.
-///
-/// The result of each key is that of `get`. Returns the number of results that are stored, which is
-/// the lesser of the numbers of `keys` and of `results`. The results behind them are unchanged.
-///
-/// # Requires
-///
-/// - The archive is valid: `open_archive` returned `DONE` for these codes.
-/// - `header` is its decoded header.
-///
-/// # Errors
-///
-/// The status of a result is `DONE`, or the error of `get` for the key. After an error, `found` of
-/// the result is unchanged.
-pub fn get_many<'a, 'b>(
-    archive: &'a [u8],
-    codes: Codes,
-    header: &'b Decoded,
-    keys: &'b [AnyValue<'b>],
-    results: &mut [LookedUp<'a>],
-) -> usize
-    requires archive { IsValidByCodes codes archive.now }
-    requires header { IsHeaderByCodes codes archive.now header.now }
-    ensures { StoresLookupsByCodes codes archive.now keys.now results.old result results.new }
-{
-    find_many_of(
-        archive,
-        collection_of(codes).unwrap(),
-        header,
-        keys,
-        results,
-    )
+    find_of(archive, collection_at(handle), &handle.header, lookups)
 }

@@ -1,4 +1,4 @@
-//! Counting the keys of a collection that a lookup of the key itself doesn't find, by its codes.
+//! Counting the keys of a collection that a lookup of the key itself doesn't find.
 //!
 //! If the number is 0, lookups are complete: each finds the one equal key, or there is none.
 //! All calls require a valid archive. Validation doesn't look up keys, so an untrusted archive may
@@ -7,15 +7,14 @@
 ghost use Rattle.std.specs.Prelude.{false, true};
 ghost use Rattle.rkyv_base.specs.{IsValidArchive};
 ghost use Rattle.ffi_calls.specs.{CanCount, CountsIn, CountsMisplaced, CountsTypes};
-ghost use Rattle.ffi_calls.specs.{IsHeaderByCodes, IsHeaderOf, IsIndexArchive, IsMapArchive};
-ghost use Rattle.ffi_calls.specs.{IsValidByCodes, collection_in, collection_spec, index_in};
+ghost use Rattle.ffi_calls.specs.{IsHandleOf, IsHeaderOf, IsIndexArchive, IsMapArchive};
+ghost use Rattle.ffi_calls.specs.{collection_in, collection_spec, index_in};
 ghost use Rattle.ffi_calls.specs.{key_type_calls, key_type_same, limit_of, map_in, root_in};
 ghost use Rattle.ffi_calls.specs.{root_spec, word_of};
 
 use crate::any_value::AnyValue;
 use crate::archives::map_of;
-use crate::collection::{Collection, collection_of};
-use crate::containers::Codes;
+use crate::collection::{Collection, Handle, collection_at};
 use crate::index::index_of;
 use crate::status::{DONE, LIMIT_REACHED};
 use crate::types::{KeyFrom, Operation, StoredKey, StoredValue, ValueFrom, dispatch};
@@ -119,31 +118,23 @@ fn misplaced_in_collection(
     dispatch(of, counting, &mut [])
 }
 
-/// Stores the number of misplaced keys of the collection with the codes in `count`.
+/// Stores the number of misplaced keys of a collection in `count`.
 ///
 /// A key is misplaced if a lookup of the key itself finds another key that is the same, or none.
 ///
 /// # Requires
 ///
-/// - The archive is valid: `open_archive` returned `DONE` for these codes.
-/// - `header` is its decoded header.
+/// - `handle` is a handle of the archive.
 ///
 /// # Errors
 ///
 /// - `LIMIT_REACHED`: the lookups of all keys read more than `limit` strides of sixteen control
 ///   bytes; `count` is unchanged then.
-pub fn misplaced_up_to(
-    archive: &[u8],
-    codes: Codes,
-    header: &Decoded,
-    limit: u64,
-    count: &mut u64,
-) -> u32
-    requires archive { IsValidByCodes codes archive.now }
-    requires header { IsHeaderByCodes codes archive.now header.now }
-    ensures { CountsMisplaced codes archive.now limit count.old result count.new }
+pub fn misplaced_up_to(archive: &[u8], handle: &Handle, limit: u64, count: &mut u64) -> u32
+    requires { IsHandleOf archive.now handle.now }
+    ensures { CountsMisplaced handle.now archive.now limit count.old result count.new }
 {
-    match misplaced_in_collection(archive, collection_of(codes).unwrap(), header, limit) {
+    match misplaced_in_collection(archive, collection_at(handle), &handle.header, limit) {
         Some(misplaced) => {
             *count = misplaced as u64;
             DONE

@@ -1,14 +1,13 @@
-//! Overwrites of numbers in any map, by the codes of its contents.
+//! Overwrites of numbers in any map.
 
 ghost use Rattle.rkyv_base.specs.{IsValidArchive};
-ghost use Rattle.ffi_calls.specs.{IsValidByCodes, KeepsHeaderByCodes, KeepsRoot, SetsByCodes};
-ghost use Rattle.ffi_calls.specs.{SetsKey, SetsKeyOf, SetsShown, collection_spec, key_members};
-ghost use Rattle.ffi_calls.specs.{key_type_of, key_type_spec, limit_of, root_spec};
-ghost use Rattle.ffi_calls.specs.{value_type_spec, word_of};
+ghost use Rattle.ffi_calls.specs.{IsHandleOf, KeepsCollection, KeepsRoot, SetsIn, SetsKey};
+ghost use Rattle.ffi_calls.specs.{SetsKeyOf, SetsShown, collection_at, collection_spec};
+ghost use Rattle.ffi_calls.specs.{key_members, key_type_of, key_type_spec, limit_of, root_spec};
+ghost use Rattle.ffi_calls.specs.{value_type_spec};
 
 use crate::any_value::AnyValue;
-use crate::collection::{Collection, KeyType, ValueType, collection_of};
-use crate::containers::Codes;
+use crate::collection::{Collection, Handle, KeyType, ValueType, collection_at};
 use crate::index_in_place::set_indexed_in;
 use crate::map_lookup::set_in;
 use crate::status::UNKNOWN_CODES;
@@ -125,10 +124,8 @@ fn set_in_width<W: IndexWidth>(
 /// The errors are those of `set_value`.
 fn set_of(archive: &mut [u8], of: Collection, key: AnyValue<'_>, value: u64) -> u32
     requires { IsValidArchive (limit_of of.wide) (collection_spec of) archive.old }
-    ensures keeps { let w = word_of of.wide in KeepsRoot of.indexed (limit_of of.wide) w
-        (key_type_spec w of.key) (value_type_spec w of.value) archive.old archive.new }
-    ensures sets { let w = word_of of.wide in SetsShown of.indexed w (key_type_of w of.key)
-        archive.old of.value key.entry value result archive.new }
+    ensures keeps { KeepsCollection of archive.old archive.new }
+    ensures sets { SetsIn of archive.old key.entry value result archive.new }
 {
     if of.wide {
         set_in_width::<Wide>(archive, of, key, value)
@@ -143,7 +140,7 @@ fn set_of(archive: &mut [u8], of: Collection, key: AnyValue<'_>, value: u64) -> 
 ///
 /// # Requires
 ///
-/// - The archive is valid: `open_archive` returned `DONE` for these codes.
+/// - `handle` is a handle of the archive.
 ///
 /// # Errors
 ///
@@ -154,11 +151,11 @@ fn set_of(archive: &mut [u8], of: Collection, key: AnyValue<'_>, value: u64) -> 
 /// - `NOT_FOUND`: the lookup doesn't find the key.
 ///
 /// After an error no byte is changed.
-pub fn set_value(archive: &mut [u8], codes: Codes, key: AnyValue<'_>, value: u64) -> u32
-    requires { IsValidByCodes codes archive.old }
-    ensures kept { IsValidByCodes codes archive.new }
-    ensures header { KeepsHeaderByCodes codes archive.old archive.new }
-    ensures sets { SetsByCodes codes archive.old key.entry value result archive.new }
+pub fn set_value(archive: &mut [u8], handle: &Handle, key: AnyValue<'_>, value: u64) -> u32
+    requires { IsHandleOf archive.old handle.now }
+    ensures keeps { KeepsCollection (collection_at handle.now) archive.old archive.new }
+    ensures sets { SetsIn (collection_at handle.now) archive.old key.entry value result
+        archive.new }
 {
-    set_of(archive, collection_of(codes).unwrap(), key, value)
+    set_of(archive, collection_at(handle), key, value)
 }

@@ -122,7 +122,7 @@ pub(crate) trait Operation<P, X> {
 }
 
 /// Calls an operation for the type of values.
-#[inline]
+#[inline(always)]
 fn by_value<
     'a,
     A: KeyFrom<AnyValue<'a>, K, W>,
@@ -152,7 +152,7 @@ fn by_value<
 }
 
 /// Calls an operation for the types of keys and values.
-#[inline]
+#[inline(always)]
 fn by_key<'a, W: IndexWidth, X, O: Operation<AnyValue<'a>, X>>(
     of: Collection,
     operation: O,
@@ -176,7 +176,7 @@ fn by_key<'a, W: IndexWidth, X, O: Operation<AnyValue<'a>, X>>(
 }
 
 /// Calls an operation for the types of a collection.
-#[inline]
+#[inline(always)]
 pub(crate) fn dispatch<'a, X, O: Operation<AnyValue<'a>, X>>(
     of: Collection,
     operation: O,
