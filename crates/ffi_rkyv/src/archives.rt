@@ -4,19 +4,18 @@
 //! The codes are those in the header of a container. The library has maps of fewer contents than a
 //! container may have: all other codes are unknown here.
 
-ghost use Rattle.std.specs.Prelude.{◌≡◌};
-ghost use Rattle.ffi_calls.specs.{BuildsByCodes, CountsMisplaced, ExplainsByCodes};
-ghost use Rattle.ffi_calls.specs.{IsHeaderByCodes};
-ghost use Rattle.ffi_calls.specs.{IsValidByCodes, OpensByCodes, StoresItemsByCodes, codes_of};
+ghost use Rattle.std.specs.Prelude.{◌≡◌, Some};
+ghost use Rattle.ffi_calls.specs.{BuildsByCodes, CountsMisplaced, ExplainsByCodes, IsHandleOf};
+ghost use Rattle.ffi_calls.specs.{IsValidByCodes, OpensByCodes, StoresItemsAt, codes_of};
+ghost use Rattle.ffi_calls.specs.{collection_at, collection_of};
 
 use ffi_calls::any_value::{AnyItem, AnyPair};
 use ffi_calls::building::{Built, build};
-use ffi_calls::collection::{decode_header, explain_archive, open_archive};
+use ffi_calls::collection::{Handle, decode, explain_archive, open_archive};
 use ffi_calls::containers::Codes;
 use ffi_calls::explanation::Explanation;
 use ffi_calls::iteration::next_items;
 use ffi_calls::misplaced::misplaced_up_to;
-use rkyv_table::table::decoded::Decoded;
 use std::alloc::Global;
 
 /// Validates the archive of the collection with the codes.
@@ -65,7 +64,7 @@ pub extern "C" fn hk_c_explain(
     *explanation = explain_archive(archive, codes);
 }
 
-/// Stores the decoded header of the collection with the codes, for lookups and iteration.
+/// Stores the handle of the archive of the collection with the codes, for the calls that read it.
 ///
 /// # Requires
 ///
@@ -77,10 +76,11 @@ pub extern "C" fn hk_c_decode(
     key: u8,
     value: u8,
     width: u8,
-    header: &mut Decoded,
+    handle: &mut Handle,
 )
     requires { IsValidByCodes (codes_of kind key value width) archive.now }
-    ensures { IsHeaderByCodes (codes_of kind key value width) archive.now header.new }
+    ensures of { collection_of (codes_of kind key value width) ≡ Some (collection_at handle.new) }
+    ensures handle { IsHandleOf archive.now handle.new }
 {
     let codes = Codes {
         kind,
@@ -88,17 +88,16 @@ pub extern "C" fn hk_c_decode(
         value,
         width,
     };
-    *header = decode_header(archive, codes);
+    *handle = decode(archive, codes);
 }
 
-/// Stores the number of misplaced keys of the collection with the codes in `count`.
+/// Stores the number of misplaced keys of a collection in `count`.
 ///
 /// A key is misplaced if a lookup of the key itself finds another key that is the same, or none.
 ///
 /// # Requires
 ///
-/// - The archive is valid: `hk_c_open` returned 0 for these codes.
-/// - `header` is its decoded header.
+/// - `handle` is a handle of the archive.
 ///
 /// # Errors
 ///
@@ -107,29 +106,17 @@ pub extern "C" fn hk_c_decode(
 #[unsafe(no_mangle)]
 pub extern "C" fn hk_c_misplaced_up_to(
     archive: &[u8],
-    kind: u8,
-    key: u8,
-    value: u8,
-    width: u8,
-    header: &Decoded,
+    handle: &Handle,
     limit: u64,
     count: &mut u64,
 ) -> u32
-    requires archive { IsValidByCodes (codes_of kind key value width) archive.now }
-    requires header { IsHeaderByCodes (codes_of kind key value width) archive.now header.now }
-    ensures { CountsMisplaced (codes_of kind key value width) archive.now limit count.old result
-        count.new }
+    requires { IsHandleOf archive.now handle.now }
+    ensures { CountsMisplaced handle.now archive.now limit count.old result count.new }
 {
-    let codes = Codes {
-        kind,
-        key,
-        value,
-        width,
-    };
-    misplaced_up_to(archive, codes, header, limit, count)
+    misplaced_up_to(archive, handle, limit, count)
 }
 
-/// Stores the next items of the collection with the codes in `items`, and returns their number.
+/// Stores the next items of a collection in `items`, and returns their number.
 ///
 /// In a hash map and a hash set they are those from the bucket `from` on, in bucket order. In an
 /// index map and an index set they are those from the index `from` on, in insertion order. If fewer
@@ -138,31 +125,18 @@ pub extern "C" fn hk_c_misplaced_up_to(
 ///
 /// # Requires
 ///
-/// - The archive is valid: `hk_c_open` returned 0 for these codes.
-/// - `header` is its decoded header.
+/// - `handle` is a handle of the archive.
 #[unsafe(no_mangle)]
 pub extern "C" fn hk_c_next<'a>(
     archive: &'a [u8],
-    kind: u8,
-    key: u8,
-    value: u8,
-    width: u8,
-    header: &'a Decoded,
+    handle: &'a Handle,
     from: u64,
     items: &mut [AnyItem<'a>],
 ) -> usize
-    requires archive { IsValidByCodes (codes_of kind key value width) archive.now }
-    requires header { IsHeaderByCodes (codes_of kind key value width) archive.now header.now }
-    ensures { StoresItemsByCodes (codes_of kind key value width) archive.now from items.old result
-        items.new }
+    requires { IsHandleOf archive.now handle.now }
+    ensures { StoresItemsAt handle.now archive.now from items.old result items.new }
 {
-    let codes = Codes {
-        kind,
-        key,
-        value,
-        width,
-    };
-    next_items(archive, codes, header, from, items)
+    next_items(archive, handle, from, items)
 }
 
 /// Writes the archive of the items as the collection with the codes, and stores its bytes in

@@ -5,4 +5,4 @@
 /// A program that refers to it does not link with a library of another interface. The number
 /// becomes the next one if a function, a struct or the meaning of a code changes.
 #[unsafe(no_mangle)]
-pub extern "C" fn hk_c_interface_4() {}
+pub extern "C" fn hk_c_interface_5() {}

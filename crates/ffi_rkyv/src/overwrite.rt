@@ -1,19 +1,18 @@
-//! The overwrite of a number in any map, by the codes of its contents.
+//! The overwrite of a number in any map.
 
-ghost use Rattle.ffi_calls.specs.{IsValidByCodes, KeepsHeaderByCodes, SetsByCodes, codes_of};
+ghost use Rattle.ffi_calls.specs.{IsHandleOf, KeepsCollection, SetsIn, collection_at};
 
 use ffi_calls::any_value::AnyValue;
-use ffi_calls::containers::Codes;
+use ffi_calls::collection::Handle;
 use ffi_calls::overwrite::set_value;
 
-/// Looks up a key of the hash map or of the index map with the codes, and overwrites its value in
-/// place.
+/// Looks up a key of a hash map or of an index map, and overwrites its value in place.
 ///
 /// The archive stays valid, and its header is unchanged.
 ///
 /// # Requires
 ///
-/// - The archive is valid: `hk_c_open` returned 0 for these codes.
+/// - `handle` is a handle of the archive.
 ///
 /// # Errors
 ///
@@ -27,24 +26,13 @@ use ffi_calls::overwrite::set_value;
 #[unsafe(no_mangle)]
 pub extern "C" fn hk_c_set(
     archive: &mut [u8],
-    kind: u8,
-    key: u8,
-    value: u8,
-    width: u8,
+    handle: &Handle,
     of: &AnyValue<'_>,
     number: u64,
 ) -> u32
-    requires { IsValidByCodes (codes_of kind key value width) archive.old }
-    ensures kept { IsValidByCodes (codes_of kind key value width) archive.new }
-    ensures header { KeepsHeaderByCodes (codes_of kind key value width) archive.old archive.new }
-    ensures sets { SetsByCodes (codes_of kind key value width) archive.old of.now number result
-        archive.new }
+    requires { IsHandleOf archive.old handle.now }
+    ensures keeps { KeepsCollection (collection_at handle.now) archive.old archive.new }
+    ensures sets { SetsIn (collection_at handle.now) archive.old of.now number result archive.new }
 {
-    let codes = Codes {
-        kind,
-        key,
-        value,
-        width,
-    };
-    set_value(archive, codes, *of, number)
+    set_value(archive, handle, *of, number)
 }
