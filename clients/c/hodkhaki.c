@@ -25,29 +25,24 @@ typedef struct opened {
 extern "C" {
 #endif
 
-/* The proved library. The kind, the types and the width are codes, as in `hk_types`. The functions that
- * decode, count, look up, write values and iterate require valid bytes: `hk_c_open` has returned 0 for
- * them and these codes. A decoded header is that of these bytes. Writing a value leaves the header
- * unchanged. The header of a container has 32 bytes. No pointer is null, not even that of no bytes in a
- * `hk_value`, and memory that a function writes overlaps no other argument. */
+/* The proved library. The kind, the types and the width are codes, as in `hk_types`. `hk_c_decode`
+ * requires valid bytes: `hk_c_open` has returned 0 for them and these codes. It fills the handle that
+ * the functions that count, look up, write values and iterate require. Writing a value leaves it valid.
+ * The header of a container has 32 bytes. No pointer is null, not even that of no bytes in a `hk_value`,
+ * and memory that a function writes overlaps no other argument. */
 uint32_t hk_c_open(const uint8_t *archive, size_t length, uint8_t kind, uint8_t key, uint8_t value,
                    uint8_t width);
 void hk_c_explain(const uint8_t *archive, size_t length, uint8_t kind, uint8_t key, uint8_t value,
                   uint8_t width, hk_error *error);
 void hk_c_decode(const uint8_t *archive, size_t length, uint8_t kind, uint8_t key, uint8_t value,
-                 uint8_t width, hk_table_header *header);
-uint32_t hk_c_get(const uint8_t *archive, size_t length, uint8_t kind, uint8_t key, uint8_t value,
-                  uint8_t width, const hk_table_header *header, const hk_value *of, hk_found *found);
-size_t hk_c_get_many(const uint8_t *archive, size_t length, uint8_t kind, uint8_t key, uint8_t value,
-                     uint8_t width, const hk_table_header *header, const hk_value *keys, size_t count,
-                     hk_looked_up *results, size_t room);
-uint32_t hk_c_set(uint8_t *archive, size_t length, uint8_t kind, uint8_t key, uint8_t value,
-                  uint8_t width, const hk_value *of, uint64_t number);
-size_t hk_c_next(const uint8_t *archive, size_t length, uint8_t kind, uint8_t key, uint8_t value,
-                 uint8_t width, const hk_table_header *header, uint64_t from, hk_item *items,
-                 size_t room);
-uint32_t hk_c_misplaced_up_to(const uint8_t *archive, size_t length, uint8_t kind, uint8_t key,
-                              uint8_t value, uint8_t width, const hk_table_header *header,
+                 uint8_t width, hk_decoded *handle);
+void hk_c_get(const uint8_t *archive, size_t length, const hk_decoded *handle, hk_looked_up *lookups,
+              size_t count);
+uint32_t hk_c_set(uint8_t *archive, size_t length, const hk_decoded *handle, const hk_value *of,
+                  uint64_t number);
+size_t hk_c_next(const uint8_t *archive, size_t length, const hk_decoded *handle, uint64_t from,
+                 hk_item *items, size_t room);
+uint32_t hk_c_misplaced_up_to(const uint8_t *archive, size_t length, const hk_decoded *handle,
                               uint64_t limit, uint64_t *count);
 uint32_t hk_c_build(uint8_t kind, uint8_t key, uint8_t value, uint8_t width, const hk_pair *items,
                     size_t count, built *built);
@@ -64,7 +59,7 @@ uint32_t hk_c_update_container(uint8_t *bytes, size_t length);
 
 /* A function without effect, whose name has the number of the library's interface: these files do not
  * link with a library of another interface. */
-void hk_c_interface_4(void);
+void hk_c_interface_5(void);
 
 #ifdef __cplusplus
 }
@@ -78,7 +73,7 @@ static const uint8_t nothing[1] = {0};
 
 /* A value and others with it that the library overwrites. */
 #define NO_VALUE {0, nothing, 0}
-static const hk_found none_found = {0, NO_VALUE};
+static const hk_value no_value = NO_VALUE;
 static const hk_item no_item = {0, NO_VALUE, NO_VALUE};
 
 /* The statuses of hodkhaki.h, with their names and messages. */
@@ -300,11 +295,11 @@ static bool is_container(const uint8_t *bytes, size_t length) {
 /* Opens the collection whose archive the bytes are. `writable` is their address, or null. */
 static hk_status open_archive(const uint8_t *archive, void *writable, size_t length, hk_types types,
                               hk_map *map) {
-    hk_map found = {archive, (uint8_t *)writable, length, types, {0, 0, 0, 1, UINT64_MAX}};
-    hk_c_interface_4();
+    hk_map found = {archive, (uint8_t *)writable, length, types, {false, false, 0, 0, {0, 0, 0, 1, UINT64_MAX}}};
+    hk_c_interface_5();
     const hk_status status = (hk_status)hk_c_open(archive, length, CODES(types));
     if (status == HK_OK) {
-        hk_c_decode(archive, length, CODES(types), &found.header);
+        hk_c_decode(archive, length, CODES(types), &found.decoded);
         *map = found;
     }
     return status;
@@ -312,7 +307,7 @@ static hk_status open_archive(const uint8_t *archive, void *writable, size_t len
 
 /* Checks the arguments of a call that opens a collection, and closes the handle. */
 static hk_status check_opening(const void *bytes, size_t length, hk_types types, hk_map *map) {
-    const hk_map closed = {NULL, NULL, 0, {0, 0, 0, 0}, {0, 0, 0, 0, 0}};
+    const hk_map closed = {NULL, NULL, 0, {0, 0, 0, 0}, {false, false, 0, 0, {0, 0, 0, 0, 0}}};
     if (map == NULL) {
         return HK_NULL;
     }
@@ -436,68 +431,66 @@ hk_status hk_container_types(const void *bytes, size_t length, hk_types *types) 
 hk_status hk_count(const hk_map *map, size_t *count) {
     const hk_status status = first(check_open(map), check_output(count));
     if (status == HK_OK) {
-        *count = map->header.length;
+        *count = map->decoded.header.length;
     }
     return status;
 }
 
-/* Looks up a key of a collection, unless the status is an error. */
-static hk_status look_up(hk_status status, const hk_map *map, hk_value key, hk_found *found) {
+/* Looks up a key of a collection, unless the status is an error. The result is in `looked`. */
+static hk_status look_up(hk_status status, const hk_map *map, hk_value key, hk_looked_up *looked) {
     if (status == HK_OK) {
         status = check_value(map->types.key, key);
     }
     if (status == HK_OK) {
-        const hk_value of = passed(map->types.key, key);
-        *found = none_found;
-        status = (hk_status)hk_c_get(map->bytes, map->length, CODES(map->types), &map->header, &of,
-                                     found);
+        looked->status = HK_OK;
+        looked->found.index = 0;
+        looked->found.value = passed(map->types.key, key);
+        hk_c_get(map->bytes, map->length, &map->decoded, looked, 1);
+        status = looked->status;
     }
     return status;
 }
 
 hk_status hk_get(const hk_map *map, hk_value key, hk_value *value) {
-    hk_found found;
-    const hk_status status = look_up(check_open(map), map, key, &found);
+    hk_looked_up looked;
+    const hk_status status = look_up(check_open(map), map, key, &looked);
     if (status == HK_OK && value != NULL) {
-        *value = found.value;
+        *value = looked.found.value;
     }
     return status;
 }
 
 hk_status hk_find(const hk_map *map, hk_value key, hk_found *found) {
-    hk_found pair;
-    const hk_status status = look_up(check_index(map), map, key, &pair);
+    hk_looked_up looked;
+    const hk_status status = look_up(check_index(map), map, key, &looked);
     if (status == HK_OK && found != NULL) {
-        *found = pair;
+        *found = looked.found;
     }
     return status;
-}
-
-/* The number of keys that one call of the library looks up. */
-#define AT_ONCE ((size_t)64)
-
-/* Looks up at most AT_ONCE keys of an open collection. A key that is not passed is no text. */
-static void look_up_some(const hk_map *map, const hk_value *keys, size_t count, hk_looked_up *results) {
-    static const hk_value no_text = {0, "\xff", 1};
-    const uint8_t type = map->types.key;
-    hk_value of[AT_ONCE] = {NO_VALUE};
-    for (size_t i = 0; i < count; i++) {
-        of[i] = check_value(type, keys[i]) == HK_OK ? passed(type, keys[i]) : no_text;
-        results[i].found = none_found;
-    }
-    hk_c_get_many(map->bytes, map->length, CODES(map->types), &map->header, of, count, results, count);
-    for (size_t i = 0; i < count; i++) {
-        results[i].status = first(check_value(type, keys[i]), results[i].status);
-    }
 }
 
 hk_status hk_get_many(const hk_map *map, const hk_value *keys, size_t count, hk_looked_up *results) {
+    static const hk_value no_text = {0, "\xff", 1};
     hk_status status = first(check_open(map), check_array(keys, count, sizeof *keys));
     status = first(status, check_array(results, count, sizeof *results));
-    for (size_t i = 0; status == HK_OK && i < count; i += AT_ONCE) {
-        look_up_some(map, keys + i, count - i < AT_ONCE ? count - i : AT_ONCE, results + i);
+    if (status != HK_OK || count == 0) {
+        return status;
     }
-    return status;
+    const uint8_t type = map->types.key;
+    /* The results are the keys first. A key that is not passed is no text. */
+    for (size_t i = 0; i < count; i++) {
+        const hk_value key = check_value(type, keys[i]) == HK_OK ? passed(type, keys[i]) : no_text;
+        const hk_looked_up looked = {HK_OK, {0, key}};
+        results[i] = looked;
+    }
+    hk_c_get(map->bytes, map->length, &map->decoded, results, count);
+    for (size_t i = 0; i < count; i++) {
+        results[i].status = first(check_value(type, keys[i]), results[i].status);
+        if (results[i].status != HK_OK) {
+            results[i].found.value = no_value;
+        }
+    }
+    return HK_OK;
 }
 
 hk_status hk_contains(const hk_map *map, hk_value key) {
@@ -519,8 +512,7 @@ hk_status hk_set(hk_map *map, hk_value key, hk_value value) {
         const hk_value of = passed(map->types.key, key);
         status = check_outside(of.bytes, of.length, map->writable, map->length);
         if (status == HK_OK) {
-            status = (hk_status)hk_c_set(map->writable, map->length, CODES(map->types), &of,
-                                         value.number);
+            status = (hk_status)hk_c_set(map->writable, map->length, &map->decoded, &of, value.number);
         }
     }
     return status;
@@ -528,7 +520,7 @@ hk_status hk_set(hk_map *map, hk_value key, hk_value value) {
 
 /* Stores the items of a collection from a bucket or an index on, and returns their number. */
 static size_t items_from(const hk_map *map, uint64_t from, hk_item *items, size_t room) {
-    return hk_c_next(map->bytes, map->length, CODES(map->types), &map->header, from, items, room);
+    return hk_c_next(map->bytes, map->length, &map->decoded, from, items, room);
 }
 
 /* Stores the item at a bucket, or at the next one that is full, or at an index. */
@@ -556,7 +548,7 @@ hk_status hk_items(const hk_map *map, uint64_t from, hk_item *items, size_t room
     hk_status status = first(check_open(map), check_output(count));
     status = first(status, check_array(items, room, sizeof *items));
     if (status == HK_OK) {
-        const size_t most = room < map->header.length ? room : map->header.length;
+        const size_t most = room < map->decoded.header.length ? room : map->decoded.header.length;
         for (size_t i = 0; i < most; i++) {
             items[i] = no_item;
         }
@@ -569,8 +561,8 @@ hk_status hk_misplaced_up_to(const hk_map *map, uint64_t limit, uint64_t *count)
     uint64_t misplaced = 0;
     hk_status status = first(check_open(map), check_output(count));
     if (status == HK_OK) {
-        status = (hk_status)hk_c_misplaced_up_to(map->bytes, map->length, CODES(map->types),
-                                                 &map->header, limit, &misplaced);
+        status = (hk_status)hk_c_misplaced_up_to(map->bytes, map->length, &map->decoded, limit,
+                                                 &misplaced);
     }
     if (status == HK_OK) {
         *count = misplaced;

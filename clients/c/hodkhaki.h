@@ -274,6 +274,15 @@ typedef struct hk_table_header {
     uint64_t inverse;
 } hk_table_header;
 
+/* What the library has decoded of a collection. Its members are private. */
+typedef struct hk_decoded {
+    bool indexed;
+    bool wide;
+    uint8_t key;
+    uint8_t value;
+    hk_table_header header;
+} hk_decoded;
+
 /* A handle of an open collection of any kind. It may be copied, and needs no closing. All zeros are a
  * handle of no open collection. A program may read `types`, and the other members are private. */
 typedef struct hk_map {
@@ -281,7 +290,7 @@ typedef struct hk_map {
     uint8_t *writable;
     size_t length;
     hk_types types;
-    hk_table_header header;
+    hk_decoded decoded;
 } hk_map;
 
 /* An error of opening, with its numbers. A number that the error does not have is 0.

@@ -494,7 +494,7 @@ static void sizes(void) {
     same("found", sizeof(hk_found), 32);
     same("looked up", sizeof(hk_looked_up), 40);
     same("table header", sizeof(hk_table_header), 40);
-    same("map", sizeof(hk_map), 72);
+    same("map", sizeof(hk_map), 80);
     same("error", sizeof(hk_error), 32);
 }
 
