@@ -2,7 +2,7 @@ use std::fmt;
 use std::iter::FusedIterator;
 use std::marker::PhantomData;
 
-use crate::raw::{RawItem, RawMap, RawTypes};
+use crate::raw::{RawItem, RawMap};
 use crate::types::Unit;
 use crate::{HashKind, IndexKind, Key, Kind, Value};
 #[cfg(doc)]
@@ -15,7 +15,6 @@ const BATCH: usize = 16;
 #[must_use = "iterators are lazy and do nothing unless consumed"]
 pub struct Iter<'a, K: Key + ?Sized, V: Value + ?Sized, C = HashKind> {
     raw: RawMap,
-    types: RawTypes,
     /// The items that were stored last. Those before `taken` were returned, and those from `stored`
     /// on have no meaning.
     items: [RawItem; BATCH],
@@ -41,12 +40,11 @@ impl<'a, K: Key + ?Sized, V: Value + ?Sized, C: Kind> Iter<'a, K, V, C> {
     /// The pairs of a map.
     ///
     /// # Safety
-    /// It is the handle of an open collection of this kind and of these types, with these codes, whose
-    /// bytes are borrowed for `'a`.
-    pub(crate) unsafe fn new(raw: RawMap, types: RawTypes) -> Self {
+    /// It is the handle of an open collection of this kind and of these types, whose bytes are
+    /// borrowed for `'a`.
+    pub(crate) unsafe fn new(raw: RawMap) -> Self {
         Iter {
             raw,
-            types,
             items: [RawItem::NONE; BATCH],
             taken: 0,
             stored: 0,
@@ -62,8 +60,8 @@ impl<'a, K: Key + ?Sized, V: Value + ?Sized, C: Kind> Iter<'a, K, V, C> {
     fn store(&mut self) {
         let room = BATCH.min(self.left);
         let items = &mut self.items[..room];
-        // SAFETY: the map is open, with these codes, and its bytes are borrowed for 'a.
-        self.stored = unsafe { self.raw.next(self.types, self.from, items) };
+        // SAFETY: the map is open, and its bytes are borrowed for 'a.
+        self.stored = unsafe { self.raw.next(self.from, items) };
         assert!(self.stored > 0, "an open map has {} more pairs", self.left);
         self.taken = 0;
         self.from = self.items[self.stored - 1].next;
@@ -152,8 +150,8 @@ impl<K: Key + ?Sized, V: Value + ?Sized> DoubleEndedIterator for Iter<'_, K, V, 
         let item = if self.left > 0 {
             self.left -= 1;
             let (mut last, index) = ([RawItem::NONE], self.from + self.left as u64);
-            // SAFETY: the map is open, with these codes, and its bytes are borrowed for 'a.
-            let stored = unsafe { self.raw.next(self.types, index, &mut last) };
+            // SAFETY: the map is open, and its bytes are borrowed for 'a.
+            let stored = unsafe { self.raw.next(index, &mut last) };
             assert!(stored == 1, "an open map has a pair at {index}");
             last[0]
         } else if self.taken < self.stored {

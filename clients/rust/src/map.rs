@@ -1,10 +1,11 @@
 use std::fmt;
 use std::marker::PhantomData;
+use std::slice;
 
 use crate::error::{found, within_limit};
 use crate::iter::{Iter, Keys, Values};
 use crate::open::{code, types, Opener, ARCHIVE, CONTAINER};
-use crate::raw::{self, RawFound, RawItem, RawLookedUp, RawMap, RawTypes, RawValue};
+use crate::raw::{self, RawFound, RawItem, RawLookedUp, RawMap, RawValue};
 #[cfg(doc)]
 use crate::{Builder, ErrorKind, IndexMap, MapBuf, Set};
 use crate::{Error, HashKind, Key, Kind, Value, Width};
@@ -179,12 +180,6 @@ impl<'a, K: Key + ?Sized, V: Value + ?Sized, C: Kind> Map<'a, K, V, C> {
         }
     }
 
-    /// The codes of the map. All but its width are constants.
-    #[inline]
-    fn types(&self) -> RawTypes {
-        types::<K, V, C>(self.raw.types().width)
-    }
-
     /// Returns the width of the archive.
     pub fn width(&self) -> Width {
         Width::of(self.raw.types().width)
@@ -204,19 +199,20 @@ impl<'a, K: Key + ?Sized, V: Value + ?Sized, C: Kind> Map<'a, K, V, C> {
     /// index has a meaning in an index map only.
     #[inline]
     pub(crate) fn find(&self, key: &K) -> Option<(usize, V::Ref<'a>)> {
-        let mut pair = RawFound::NONE;
+        let mut looked = RawLookedUp::of(K::raw(key));
         // SAFETY: the map is open, of this kind and of these types, and borrows its bytes. The bytes of
         // the key are borrowed.
-        let status = unsafe { self.raw.get(self.types(), &K::raw(key), &mut pair) };
+        unsafe { self.raw.get(slice::from_mut(&mut looked)) };
+        let RawFound { index, value } = looked.found;
         // SAFETY: the value is one of the map, whose bytes are borrowed for 'a.
-        found(status).then(|| (pair.index, unsafe { V::of(pair.value) }))
+        found(looked.status).then(|| (index, unsafe { V::of(value) }))
     }
 
     /// Returns the first pair from a bucket or an index on, or `None` if there is none.
     pub(crate) fn pair_from(&self, from: u64) -> Option<(K::Ref<'a>, V::Ref<'a>)> {
         let mut items = [RawItem::NONE];
         // SAFETY: the map is open, of this kind and of these types, and borrows its bytes.
-        let count = unsafe { self.raw.next(self.types(), from, &mut items) };
+        let count = unsafe { self.raw.next(from, &mut items) };
         let [RawItem { key, value, .. }] = items;
         // SAFETY: an item that is stored is one of the map, whose bytes are borrowed for 'a.
         (count == 1).then(|| unsafe { (K::of(key), V::of(value)) })
@@ -250,15 +246,15 @@ impl<'a, K: Key + ?Sized, V: Value + ?Sized, C: Kind> Map<'a, K, V, C> {
     {
         let mut keys = keys.into_iter();
         let mut values = Vec::with_capacity(keys.size_hint().0);
-        let mut chunk = [RawValue::NONE; AT_ONCE];
+        let mut chunk = [RawLookedUp::of(RawValue::NONE); AT_ONCE];
         loop {
             let mut count = 0;
-            for (raw, key) in chunk.iter_mut().zip(keys.by_ref()) {
-                *raw = K::raw(key);
+            for (lookup, key) in chunk.iter_mut().zip(keys.by_ref()) {
+                *lookup = RawLookedUp::of(K::raw(key));
                 count += 1;
             }
             // SAFETY: the bytes of the keys are borrowed for 'k.
-            unsafe { self.append_found(&chunk[..count], &mut values) };
+            unsafe { self.append_found(&mut chunk[..count], &mut values) };
             if count < AT_ONCE {
                 return values;
             }
@@ -269,15 +265,17 @@ impl<'a, K: Key + ?Sized, V: Value + ?Sized, C: Kind> Map<'a, K, V, C> {
     ///
     /// # Safety
     /// The keys are of the type `K`, and their bytes are borrowed.
-    unsafe fn append_found(&self, keys: &[RawValue], values: &mut Vec<Option<V::Ref<'a>>>) {
-        let mut results = [RawLookedUp::NONE; AT_ONCE];
-        let results = &mut results[..keys.len()];
+    unsafe fn append_found(
+        &self,
+        lookups: &mut [RawLookedUp],
+        values: &mut Vec<Option<V::Ref<'a>>>,
+    ) {
         // SAFETY: the map is open, of this kind and of these types, and borrows its bytes. The caller
         // ensures that the bytes of the keys are borrowed.
-        unsafe { self.raw.get_many(self.types(), keys, results) };
-        values.extend(results.iter().map(|result| {
+        unsafe { self.raw.get(lookups) };
+        values.extend(lookups.iter().map(|lookup| {
             // SAFETY: the value is one of the map, whose bytes are borrowed for 'a.
-            found(result.status).then(|| unsafe { V::of(result.found.value) })
+            found(lookup.status).then(|| unsafe { V::of(lookup.found.value) })
         }));
     }
 
@@ -346,7 +344,7 @@ impl<'a, K: Key + ?Sized, V: Value + ?Sized, C: Kind> Map<'a, K, V, C> {
     /// insertion order.
     pub fn iter(&self) -> Iter<'a, K, V, C> {
         // SAFETY: the map is open, of this kind and of these types, and its bytes are borrowed for 'a.
-        unsafe { Iter::new(self.raw, self.types()) }
+        unsafe { Iter::new(self.raw) }
     }
 
     /// Returns an iterator over the keys, in the order of [`iter`](Map::iter).

@@ -26,6 +26,17 @@ pub struct RawTableHeader {
     inverse: u64,
 }
 
+/// What the library has decoded of a collection: the `hk_decoded` of the header.
+#[repr(C)]
+#[derive(Clone, Copy)]
+pub struct RawDecoded {
+    indexed: bool,
+    wide: bool,
+    key: u8,
+    value: u8,
+    header: RawTableHeader,
+}
+
 /// A handle: the `hk_map` of the header.
 #[repr(C)]
 #[derive(Clone, Copy)]
@@ -34,7 +45,7 @@ pub struct RawMap {
     writable: *mut u8,
     length: usize,
     types: RawTypes,
-    header: RawTableHeader,
+    decoded: RawDecoded,
 }
 
 impl RawMap {
@@ -49,19 +60,25 @@ impl RawMap {
             value: 0,
             width: 0,
         },
-        header: RawTableHeader {
-            controls_position: 0,
-            length: 0,
-            capacity: 0,
-            divisor: 0,
-            inverse: 0,
+        decoded: RawDecoded {
+            indexed: false,
+            wide: false,
+            key: 0,
+            value: 0,
+            header: RawTableHeader {
+                controls_position: 0,
+                length: 0,
+                capacity: 0,
+                divisor: 0,
+                inverse: 0,
+            },
         },
     };
 
     /// Returns the number of pairs of an open collection.
     #[inline]
     pub fn len(&self) -> usize {
-        self.header.length
+        self.decoded.header.length
     }
 
     /// Returns the codes of an open collection.
@@ -80,80 +97,31 @@ impl RawMap {
         (container, HEADER_LEN + self.length)
     }
 
-    /// Looks up a key, stores the index and the value of its pair, and returns the status. The index
-    /// has no meaning in a hash map or a set.
+    /// Looks up the keys, each the value of its lookup, and stores their results there. An index has no
+    /// meaning in a hash map or a set.
     ///
     /// # Safety
-    /// The collection is open, with these types, and its bytes are borrowed. The bytes of the key are
+    /// The collection is open, and its bytes are borrowed. The keys are of its type, and their bytes are
     /// borrowed.
     #[inline]
-    pub unsafe fn get(&self, types: RawTypes, key: &RawValue, found: &mut RawFound) -> u32 {
-        // SAFETY: the caller ensures that the collection is open, with these types. So the bytes are a
-        // valid archive of these codes, and the header is the decoded one. No bytes of the key or of
-        // `found` are null.
-        unsafe {
-            hk_c_get(
-                self.bytes,
-                self.length,
-                types.kind,
-                types.key,
-                types.value,
-                types.width,
-                &self.header,
-                key,
-                found,
-            )
-        }
-    }
-
-    /// Looks up keys, as `get` does, and stores their results, which are as many.
-    ///
-    /// # Safety
-    /// The collection is open, with these types, and its bytes are borrowed. The bytes of the keys are
-    /// borrowed.
-    pub unsafe fn get_many(&self, types: RawTypes, keys: &[RawValue], results: &mut [RawLookedUp]) {
-        // SAFETY: the caller ensures that the collection is open, with these types. So the bytes are a
-        // valid archive of these codes, and the header is the decoded one. The keys and the results each
-        // have the pointer and the length of one slice, and no bytes of them are null.
-        unsafe {
-            hk_c_get_many(
-                self.bytes,
-                self.length,
-                types.kind,
-                types.key,
-                types.value,
-                types.width,
-                &self.header,
-                keys.as_ptr(),
-                keys.len(),
-                results.as_mut_ptr(),
-                results.len(),
-            )
-        };
+    pub unsafe fn get(&self, lookups: &mut [RawLookedUp]) {
+        let (first, count) = (lookups.as_mut_ptr(), lookups.len());
+        // SAFETY: the caller ensures that the collection is open. So the bytes are a valid archive, and
+        // the handle is theirs. The lookups have the pointer and the length of one slice, and no bytes
+        // of them are null.
+        unsafe { hk_c_get(self.bytes, self.length, &self.decoded, first, count) };
     }
 
     /// Stores the next items from a bucket or an index on, and returns their number.
     ///
     /// # Safety
-    /// The collection is open, with these types, and its bytes are borrowed.
-    pub unsafe fn next(&self, types: RawTypes, from: u64, items: &mut [RawItem]) -> usize {
-        // SAFETY: the caller ensures that the collection is open, with these types. So the bytes are a
-        // valid archive of these codes, and the header is the decoded one. The items have the pointer
-        // and the length of one slice, and no bytes of them are null.
-        unsafe {
-            hk_c_next(
-                self.bytes,
-                self.length,
-                types.kind,
-                types.key,
-                types.value,
-                types.width,
-                &self.header,
-                from,
-                items.as_mut_ptr(),
-                items.len(),
-            )
-        }
+    /// The collection is open, and its bytes are borrowed.
+    pub unsafe fn next(&self, from: u64, items: &mut [RawItem]) -> usize {
+        let (first, room) = (items.as_mut_ptr(), items.len());
+        // SAFETY: the caller ensures that the collection is open. So the bytes are a valid archive, and
+        // the handle is theirs. The items have the pointer and the length of one slice, and no bytes of
+        // them are null.
+        unsafe { hk_c_next(self.bytes, self.length, &self.decoded, from, first, room) }
     }
 
     /// Returns the handle without its pointers.
@@ -161,7 +129,7 @@ impl RawMap {
         Decoded {
             length: self.length,
             types: self.types,
-            header: self.header,
+            decoded: self.decoded,
         }
     }
 }
@@ -172,7 +140,7 @@ pub struct Decoded {
     /// The number of bytes of the archive.
     pub length: usize,
     pub types: RawTypes,
-    header: RawTableHeader,
+    decoded: RawDecoded,
 }
 
 impl Decoded {
@@ -184,7 +152,7 @@ impl Decoded {
             writable: ptr::null_mut(),
             length: self.length,
             types: self.types,
-            header: self.header,
+            decoded: self.decoded,
         }
     }
 
@@ -292,15 +260,7 @@ pub struct RawFound {
     pub value: RawValue,
 }
 
-impl RawFound {
-    /// An index and a value that a call overwrites.
-    pub const NONE: RawFound = RawFound {
-        index: 0,
-        value: RawValue::NONE,
-    };
-}
-
-/// The result of one of several lookups: the `hk_looked_up` of the header.
+/// A lookup, whose value is the key until it has a result: the `hk_looked_up` of the header.
 #[repr(C)]
 #[derive(Clone, Copy)]
 pub struct RawLookedUp {
@@ -309,11 +269,17 @@ pub struct RawLookedUp {
 }
 
 impl RawLookedUp {
-    /// A result that a call overwrites.
-    pub const NONE: RawLookedUp = RawLookedUp {
-        status: NOT_FOUND,
-        found: RawFound::NONE,
-    };
+    /// The lookup of a key.
+    #[inline]
+    pub const fn of(key: RawValue) -> RawLookedUp {
+        RawLookedUp {
+            status: OK,
+            found: RawFound {
+                index: 0,
+                value: key,
+            },
+        }
+    }
 }
 
 /// An error of opening, with its numbers: the `hk_error` of the header.
@@ -328,7 +294,7 @@ pub struct RawError {
 
 // The sizes of the structs of the header, which `../c/test.c` tests too.
 const _: () = {
-    assert!(size_of::<RawTableHeader>() == 40 && size_of::<RawMap>() == 72);
+    assert!(size_of::<RawTableHeader>() == 40 && size_of::<RawMap>() == 80);
     assert!(size_of::<RawTypes>() == 4 && size_of::<RawError>() == 32);
     assert!(size_of::<RawValue>() == 24 && size_of::<RawItem>() == 56);
     assert!(size_of::<RawPair>() == 48 && size_of::<RawFound>() == 32);
@@ -350,35 +316,14 @@ unsafe extern "C" {
     fn hk_c_get(
         archive: *const u8,
         length: usize,
-        kind: u8,
-        key: u8,
-        value: u8,
-        width: u8,
-        header: &RawTableHeader,
-        of: &RawValue,
-        found: &mut RawFound,
-    ) -> u32;
-    fn hk_c_get_many(
-        archive: *const u8,
-        length: usize,
-        kind: u8,
-        key: u8,
-        value: u8,
-        width: u8,
-        header: &RawTableHeader,
-        keys: *const RawValue,
+        handle: &RawDecoded,
+        lookups: *mut RawLookedUp,
         count: usize,
-        results: *mut RawLookedUp,
-        room: usize,
-    ) -> usize;
+    );
     fn hk_c_next(
         archive: *const u8,
         length: usize,
-        kind: u8,
-        key: u8,
-        value: u8,
-        width: u8,
-        header: &RawTableHeader,
+        handle: &RawDecoded,
         from: u64,
         items: *mut RawItem,
         room: usize,
