@@ -8,28 +8,42 @@ fn expect_equal<T: PartialEq + Debug + Drop>(rt: &impl Abort, found: T, expected
     assert_eq!(*rt; found, expected);
 }
 
-// Is `assert_eq!` by one call, for which a check takes a quarter of the time.
-macro_rules! expect_eq {
-    ($rt:expr; $found:expr, $expected:expr $(,)?) => {
-        $crate::tests::expect_equal(&$rt, $found, $expected)
+// The key or the value that a row of a table has: a number, a text in brackets, a unit, or both
+// members.
+macro_rules! part {
+    (()) => {
+        (0, b"")
+    };
+    ([$text:expr]) => {
+        (0, $text)
+    };
+    (($number:expr, $text:expr)) => {
+        ($number, $text)
+    };
+    ($number:expr) => {
+        ($number, b"")
     };
 }
 
-mod archives;
+// Calls a function for the bytes of each case and each of its contents.
+macro_rules! each_case {
+    ($rt:ident, $check:ident $(, $more:expr)*) => {
+        for number in 0..$crate::tests::cases::TABLES {
+            for case in $crate::tests::cases::table(number) {
+                let bytes = $crate::tests::cases::Bytes::new(case.pieces);
+                for contents in case.contents {
+                    $check(&$rt, case, *contents, &bytes $(, $more)*);
+                }
+            }
+        }
+    };
+}
+
 mod building;
+mod calls;
+mod cases;
 mod containers;
-mod index_archives;
-mod index_opening;
-mod index_text_archives;
-mod iteration;
 mod lookups;
-mod misplaced;
-mod opened;
 mod opening;
 mod overwrites;
-mod set_archives;
-mod support;
-mod text_archives;
 mod texts;
-mod type_archives;
-mod types;

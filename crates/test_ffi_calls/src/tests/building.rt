@@ -1,173 +1,149 @@
 //! Tests of archives of lists of items, as each collection.
 
-mod errors;
-mod index_maps;
-mod maps;
-mod permitted;
-mod sets;
-
-use crate::tests::index_archives;
-use crate::tests::opened::{Contents, codes};
-use crate::tests::support::{Part, any, expect_outcome, expect_permitted, outcome_of, with_bytes};
+use crate::tests::calls::{
+    Contents, F32, INDEX_MAP, INDEX_SET, MAP, OTHER, Pair, SET, TEXT, U32, U64, UNIT, any, write,
+};
+use crate::tests::cases::{Bytes, Case, GREAT, LARGE, MAX};
+use crate::tests::expect_equal;
+use crate::tests::lookups::with_unread;
 use ffi_calls::any_value::AnyPair;
-use ffi_calls::building::{Built, build};
+use ffi_calls::laws;
+use rkyv_base::Narrow;
 use std::alloc::Global;
 use std::process::Abort;
 
-// The result of a write without an error, as `outcome_of` returns it.
-const DONE: (u32, bool) = (0, true);
-
-// The results of a number that is too large, and of bytes that aren't UTF-8.
-const TOO_LARGE: (u32, bool) = (3, true);
-
-const NOT_TEXT: (u32, bool) = (4, true);
-
-// The least number that has more than 32 bits.
-const LARGE: u64 = 0x1_0000_0000;
-
-// No part of a unit is read.
-const ANY: Part<'_> = (9, &[0x80]);
-
-// Returns the item with this key and this value.
-fn item<'a>((key, value): (Part<'a>, Part<'a>)) -> AnyPair<'a> {
-    AnyPair {
-        key: any(key),
-        value: any(value),
+// Returns the item of a pair. The members that are not read may have other values.
+fn item_of(pairs: &[Pair<'static>], index: usize, unread: Option<Contents>) -> AnyPair<'static> {
+    let (_, key, value) = pairs.get(index).copied().unwrap_or((0, OTHER, OTHER));
+    match unread {
+        Some((_, of, to, _)) => AnyPair {
+            key: any(with_unread(of, key)),
+            value: any(with_unread(to, value)),
+        },
+        None => AnyPair {
+            key: any(key),
+            value: any(value),
+        },
     }
 }
 
-// Returns the status of a write of the items, and whether `built` has `bytes` if it is 0.
-// After an error the flag is whether `built` is unchanged.
-fn write<'a>(
+// Returns the result of a write of at most three pairs.
+fn written(
     alloc: Global,
     contents: Contents,
-    items: &'a [AnyPair<'a>],
+    pairs: &[Pair<'static>],
+    unread: Option<Contents>,
     bytes: &[u8],
 ) -> (u32, bool) {
-    let mut before = [1, 2];
-    let mut built = Built { bytes: &mut before };
-    let status = build(alloc, codes(contents), items, &mut built);
-    outcome_of(status, built, bytes)
+    let one = item_of(pairs, 0, unread);
+    let two = item_of(pairs, 1, unread);
+    let three = item_of(pairs, 2, unread);
+    match pairs.len() {
+        0 => write(alloc, contents, &[], bytes),
+        1 => write(alloc, contents, &[one], bytes),
+        2 => write(alloc, contents, &[one, two], bytes),
+        _ => write(alloc, contents, &[one, two, three], bytes),
+    }
 }
 
-// Writes no item.
-fn write_none(alloc: Global, contents: Contents, bytes: &[u8]) -> (u32, bool) {
-    write(alloc, contents, &[], bytes)
+// Fails the test unless the archive of the pairs is that of the case.
+fn expect_archive(rt: &impl Abort, case: &Case, contents: Contents, bytes: &Bytes, alloc: Global) {
+    let found = written(alloc, contents, case.pairs, None, bytes.as_slice());
+    expect_equal(rt, (contents, found), (contents, (0, true)));
 }
 
-// Writes one item.
-fn write_one(
-    alloc: Global,
+// Fails the test unless the archive of the pairs is that of the case, or an allocation fails.
+fn expect_permitted(
+    rt: &impl Abort,
+    case: &Case,
     contents: Contents,
-    key: Part<'_>,
-    value: Part<'_>,
-    bytes: &[u8],
-) -> (u32, bool) {
-    write(alloc, contents, &[item((key, value))], bytes)
-}
-
-// Writes two items.
-fn write_two<'a>(
+    bytes: &Bytes,
     alloc: Global,
-    contents: Contents,
-    first: (Part<'a>, Part<'a>),
-    second: (Part<'a>, Part<'a>),
-    bytes: &[u8],
-) -> (u32, bool) {
-    write(alloc, contents, &[item(first), item(second)], bytes)
+) {
+    let unread = Some(contents);
+    let (status, is_expected) = written(alloc, contents, case.pairs, unread, bytes.as_slice());
+    assert!(*rt; is_expected && (status == 0 || status == 12));
 }
 
-// Writes three items, of which the first and the last have the same key.
-fn write_three<'a>(
-    alloc: Global,
-    contents: Contents,
-    keys: [Part<'a>; 2],
-    values: [Part<'a>; 3],
-    bytes: &[u8],
-) -> (u32, bool) {
-    let items = [
-        item((keys[0], values[0])),
-        item((keys[1], values[1])),
-        item((keys[0], values[2])),
-    ];
-    write(alloc, contents, &items, bytes)
+#[test]
+fn each_archive_succeeds(rt: HostRuntime) {
+    laws::archives_represent_their_lists::<u32, u32, Narrow>();
+    laws::set_archives_represent_their_lists::<u32, Narrow>();
+    laws::indexes_represent_their_lists::<u32, u32, u32, u32, Narrow>();
+    let alloc = rt.alloc();
+    each_case!(rt, expect_archive, alloc);
 }
 
-// A write of one item: the contents, the key, the value, the archive, and the result.
-type One<'a> = (Contents, Part<'a>, Part<'a>, &'a [u8], (u32, bool));
+#[test]
+fn archives_have_their_bytes_or_no_memory(rt: HostRuntime) {
+    let alloc = rt.alloc();
+    each_case!(rt, expect_permitted, alloc);
+}
 
-// Fails the test unless each write of one item has its result.
-fn expect_ones(rt: &impl Abort, alloc: Global, rows: &[One<'_>]) {
-    for (contents, key, value, bytes, expected) in rows {
-        expect_outcome(
-            rt,
-            write_one(alloc, *contents, *key, *value, bytes),
-            *expected,
-        );
+// A write of items that fails: the contents, the pairs and the status.
+type Row = (Contents, &'static [Pair<'static>], u32);
+
+macro_rules! rows {
+    ($($kind:tt $k:ident $v:ident $width:literal: $($of:tt => $to:tt),+ = $error:literal;)*) => {
+        &[$((($kind, $k, $v, $width), &[$((0, part!($of), part!($to))),+], $error)),*]
+    };
+}
+
+const FAILING: &[Row] = rows! {
+    MAP U32 U32 4: LARGE => 1 = 3;
+    MAP U64 U32 8: 1 => LARGE = 3;
+    MAP U32 TEXT 4: 1 => [b"\x80"] = 4;
+    MAP U64 TEXT 8: GREAT => [b"\x80"] = 4;
+    MAP TEXT TEXT 4: [b"\x80"] => [b"x"] = 4;
+    MAP TEXT TEXT 8: [b"x"] => [b"a\xff"] = 4;
+    SET U32 UNIT 8: LARGE => (9, b"\x80") = 3;
+    SET TEXT UNIT 4: [b"\x80"] => (9, b"\x80") = 4;
+    INDEX_MAP U32 U32 4: 1 => LARGE = 3;
+    INDEX_MAP U32 U32 8: 1 => LARGE = 3;
+    INDEX_MAP U64 U32 4: GREAT => LARGE = 3;
+    INDEX_MAP U64 U32 8: 1 => MAX = 3;
+    INDEX_MAP TEXT U32 4: [b"main"] => LARGE = 3;
+    INDEX_MAP TEXT U64 4: [b"\x80"] => LARGE = 4;
+    INDEX_MAP U32 TEXT 4: 1 => [b"\x80"] = 4;
+    INDEX_MAP U64 TEXT 8: GREAT => [b"\x80"] = 4;
+    INDEX_MAP TEXT TEXT 4: [b"\x80"] => [b"x"] = 4;
+    INDEX_MAP TEXT TEXT 8: [b"x"] => [b"a\xff"] = 4;
+    INDEX_SET U32 UNIT 4: LARGE => (9, b"\x80") = 3;
+    INDEX_SET TEXT UNIT 8: [b"\x80"] => (9, b"\x80") = 4;
+    // The key before the value.
+    MAP TEXT U32 4: [b"\x80"] => LARGE = 4;
+    MAP U32 TEXT 4: LARGE => [b"\x80"] = 3;
+    // The first item that has no place.
+    MAP U32 U32 4: 1 => LARGE, 1 => 2 = 3;
+    MAP U32 U32 4: 1 => 2, 1 => MAX = 3;
+    MAP U32 U32 8: 1 => 0xffff_ffff, 1 => LARGE = 3;
+    MAP U64 U32 4: 1 => 2, GREAT => LARGE = 3;
+    MAP TEXT U32 4: [b"main"] => LARGE, [b"\x80"] => 1 = 3;
+    MAP TEXT U32 4: [b"\x80"] => 1, [b"main"] => LARGE = 4;
+    MAP TEXT U32 8: [b"\x80"] => LARGE, [b"main"] => 1 = 4;
+    MAP TEXT U32 8: [b"main"] => 1, [b"main"] => LARGE = 3;
+    MAP TEXT U64 4: [b"main"] => MAX, [b"\x80"] => 1 = 4;
+    MAP TEXT U64 8: [b"\x80"] => LARGE, [b"\x80"] => LARGE = 4;
+    MAP U32 TEXT 8: 1 => [b"x"], 1 => [b"\xc3"] = 4;
+    MAP U64 TEXT 4: 1 => [b"x"], GREAT => [b"\xc3"] = 4;
+    SET TEXT UNIT 4: [b"x"] => (9, b"\x80"), [b"\x80"] => (9, b"\x80") = 4;
+    INDEX_MAP TEXT TEXT 4: [b"x"] => [b"x"], [b"\x80"] => [b"x"] = 4;
+    INDEX_MAP U32 TEXT 8: 1 => [b"x"], 5 => [b""], 1 => [b"\xc3"] = 4;
+    INDEX_MAP U64 TEXT 4: 1 => [b"x"], GREAT => [b"\xc3"], 1 => [b"x"] = 4;
+    // Codes without a collection.
+    0 U32 U32 4: 1 => 2 = 7;
+    5 U32 U32 4: 1 => 2 = 7;
+    MAP F32 U32 4: 1 => 2 = 7;
+    MAP U32 UNIT 4: 1 => 2 = 7;
+    SET U32 U32 4: 1 => 2 = 7;
+    MAP U32 U32 2: 1 => 2 = 7;
+    MAP U32 U32 2: LARGE => 2 = 7;
+};
+
+#[test]
+fn the_status_of_the_first_error_succeeds(rt: HostRuntime) {
+    for (contents, pairs, status) in FAILING {
+        let found = written(rt.alloc(), *contents, pairs, None, &[]);
+        expect_equal(&rt, (*contents, found), (*contents, (*status, true)));
     }
-}
-
-// Fails the test unless each write of one item has its archive, or an allocation fails.
-fn expect_ones_permitted(rt: &impl Abort, alloc: Global, rows: &[One<'_>]) {
-    for (contents, key, value, bytes, _) in rows {
-        expect_permitted(rt, write_one(alloc, *contents, *key, *value, bytes));
-    }
-}
-
-// A write of two items of one key each: the contents, both keys, both values, and the result.
-type Two<'a> = (
-    Contents,
-    Part<'a>,
-    Part<'a>,
-    Part<'a>,
-    Part<'a>,
-    (u32, bool),
-);
-
-// Fails the test unless each write of two items has its result, which is an error.
-fn expect_twos(rt: &impl Abort, alloc: Global, rows: &[Two<'_>]) {
-    for (contents, key, other_key, value, other_value, expected) in rows {
-        expect_outcome(
-            rt,
-            write_two(
-                alloc,
-                *contents,
-                (*key, *value),
-                (*other_key, *other_value),
-                &[],
-            ),
-            *expected,
-        );
-    }
-}
-
-// Fails the test unless each write of no item has its archive.
-fn expect_nones(rt: &impl Abort, alloc: Global, rows: &[(Contents, &[u8])]) {
-    for (contents, bytes) in rows {
-        expect_outcome(rt, write_none(alloc, *contents, bytes), DONE);
-    }
-}
-
-// Returns the index set of 1, with 64 bits. Its parts are those of the index map of 1 to 2.
-fn long_item() -> [u8; 64] {
-    with_bytes(*index_archives::ONE_NUMBER, 40, &[1, 0, 0, 0, 0, 0, 0, 0])
-}
-
-// Returns the wide index set of 1, with 32 or 64 bits. Its parts are those of the wide index map.
-fn wide_item() -> [u8; 88] {
-    with_bytes(
-        *index_archives::ONE_WIDE_NUMBER,
-        48,
-        &[1, 0, 0, 0, 0, 0, 0, 0],
-    )
-}
-
-// Returns the index set of the empty text. Its parts are those of the index map of 1 to 2.
-fn text_item() -> [u8; 64] {
-    let items = with_bytes(
-        *index_archives::ONE_NUMBER,
-        40,
-        &[0xff, 0xff, 0xff, 0xff, 0xff, 0xff, 0xff, 0xff],
-    );
-    with_bytes(items, 8, &[0xff, 0x15, 0xff, 0x15])
 }

@@ -2,13 +2,11 @@
 //!
 //! These calls don't validate an archive, so the three bytes are none.
 
+use crate::tests::calls::{Contents, INDEX_MAP, MAP, Numbers, SET, codes, numbers_of};
 use crate::tests::expect_equal;
-use crate::tests::opened::{Contents, INDEX_MAP, MAP, SET, codes};
-use crate::tests::support::{Numbers, numbers_of, with_byte};
 use ffi_calls::containers::{
     Opened, container_width, explain_container, open_container, update_container, write_header,
 };
-use std::process::Abort;
 
 // The container of the bytes 1, 2, 3 as a narrow map of texts to numbers of 64 bits.
 //
@@ -37,76 +35,52 @@ fn container((kind, key, value, width): Contents) -> [u8; 35] {
     bytes
 }
 
-// Returns the header of a container with three bytes.
-fn header_in(container: &[u8; 35]) -> &[u8] {
-    &container[..32]
+// Returns the container with another byte at `pos`.
+fn with_byte(pos: usize, byte: u8) -> [u8; 35] {
+    let mut bytes = *TEXTS;
+    if let Some(old) = bytes.get_mut(pos) {
+        *old = byte;
+    }
+    bytes
 }
 
-// Returns a container without its last byte.
-fn cut(container: &[u8; 35]) -> &[u8] {
-    &container[..34]
-}
-
-// Returns a header without its last byte.
-fn cut_header(container: &[u8; 35]) -> &[u8] {
-    &container[..31]
-}
-
-// Returns the status of opening a container, and the length of the archive that is found.
-fn opened(bytes: &[u8], contents: Contents) -> (u32, usize) {
+// Returns the status of opening a container, the length of the archive that is found, and the
+// numbers of the first error.
+fn opened(bytes: &[u8], contents: Contents) -> (u32, usize, Numbers) {
+    let codes = codes(contents);
     let mut opened = Opened { archive: &[] };
-    let status = open_container(bytes, codes(contents), &mut opened);
+    let status = open_container(bytes, codes, &mut opened);
     let Opened { archive } = opened;
-    (status, archive.len())
+    let numbers = numbers_of(explain_container(bytes, codes));
+    (status, archive.len(), numbers)
 }
 
-// Returns the numbers of the first error of a container that is opened as these contents.
-fn explained(bytes: &[u8], contents: Contents) -> Numbers {
-    numbers_of(explain_container(bytes, codes(contents)))
+// Returns the result of opening that has these numbers.
+fn result_of(numbers: Numbers) -> (u32, usize, Numbers) {
+    (numbers.0, if numbers.0 == 0 { 3 } else { 0 }, numbers)
 }
 
-// Fails the test unless opening each container as other contents has this status, and finds an
-// archive of this length. A row is the contents, the others, and the result.
-fn expect_opened(rt: &impl Abort, rows: &[(Contents, Contents, (u32, usize))]) {
-    for (contents, others, expected) in rows {
-        expect_equal(rt, opened(&container(*contents), *others), *expected);
-    }
+// Returns the result of opening the first bytes of the container with these contents.
+fn opened_to(len: usize, contents: Contents) -> (u32, usize, Numbers) {
+    let bytes = container(contents);
+    opened(bytes.get(..len).unwrap_or(&[]), contents)
 }
 
-// Fails the test unless the first error of opening each container as other contents has these
-/// numbers. A row is the contents, the others, and the numbers.
-fn expect_explained(rt: &impl Abort, rows: &[(Contents, Contents, Numbers)]) {
-    for (contents, others, expected) in rows {
-        expect_equal(rt, explained(&container(*contents), *others), *expected);
-    }
-}
-
-// Returns the status of writing a header, and whether the header is then `expected`.
-fn writes(contents: Contents, checked: bool, expected: &[u8]) -> (u32, bool) {
+// Returns the status of writing a header, and whether it is that of the container. One without a
+// checksum has no flag.
+fn writes(contents: Contents, checked: bool) -> (u32, bool) {
     let mut header = [9; 32];
     let status = write_header(&[1, 2, 3], codes(contents), checked, &mut header);
-    (status, header.as_slice() == expected)
-}
-
-// Returns the status of writing a header without a checksum, and whether it then has the codes and
-// flags `expected`.
-fn writes_codes(contents: Contents, expected: &[u8]) -> (u32, bool) {
-    let mut header = [9; 32];
-    let status = write_header(&[1, 2, 3], codes(contents), false, &mut header);
-    (status, &header[10..16] == expected)
-}
-
-// Returns the status of opening the container with another byte at `pos`.
-fn status_with(pos: usize, byte: u8) -> u32 {
-    let bytes = with_byte(*TEXTS, pos, byte);
-    opened(&bytes, OF_TEXTS).0
-}
-
-// Returns the status of updating the container with another byte at `pos`, and the byte at 24.
-fn updated_with(pos: usize, byte: u8) -> (u32, u8) {
-    let mut bytes = with_byte(*TEXTS, pos, byte);
-    let status = update_container(&mut bytes);
-    (status, bytes[24])
+    let mut expected = container(contents);
+    if !checked {
+        expected[14] = 0;
+        expected[24] = 0;
+        expected[26] = 0;
+    }
+    (
+        status,
+        header.as_slice() == expected.get(..32).unwrap_or(&[]),
+    )
 }
 
 // Returns the status of reading a width, and whether it is wide, or `before` after an error.
@@ -116,279 +90,143 @@ fn width_of(bytes: &[u8], before: bool) -> (u32, bool) {
     (status, wide)
 }
 
-// Fails the test unless the header of each of these contents, with a checksum, is that of their
-// container.
-fn expect_headers(rt: &impl Abort, rows: &[Contents]) {
-    for contents in rows {
-        let bytes = container(*contents);
-        expect_equal(rt, writes(*contents, true, header_in(&bytes)), (0, true));
-    }
-}
-
-// Fails the test unless the header of each of these contents, without a checksum, has these codes
-// and flags.
-fn expect_codes(rt: &impl Abort, rows: &[(Contents, &[u8])]) {
-    for (contents, expected) in rows {
-        expect_equal(rt, writes_codes(*contents, expected), (0, true));
-    }
-}
-
-// Fails the test unless opening the container with another byte at a position has this status. A
-// row is the position, the byte and the status.
-fn expect_statuses(rt: &impl Abort, rows: &[(usize, u8, u32)]) {
-    for (pos, byte, status) in rows {
-        expect_equal(rt, status_with(*pos, *byte), *status);
-    }
-}
-
-// Fails the test unless updating the container with another byte at a position has this status,
-// and this is the byte at 24 afterwards. A row is the position, the byte and the result.
-fn expect_updated(rt: &impl Abort, rows: &[(usize, u8, (u32, u8))]) {
-    for (pos, byte, expected) in rows {
-        expect_equal(rt, updated_with(*pos, *byte), *expected);
-    }
-}
-
-// Fails the test unless the container of three bytes with another byte at a position has this
-// explanation.
-fn expect_container_with(rt: &impl Abort, rows: &[(usize, u8, Numbers)]) {
-    for (pos, byte, expected) in rows {
-        let bytes = with_byte(*TEXTS, *pos, *byte);
-        expect_equal(rt, explained(&bytes, OF_TEXTS), *expected);
-    }
-}
-
 #[test]
 fn containers_open_as_their_own_form(rt: HostRuntime) {
-    expect_opened(
-        &rt,
-        &[
-            (OF_TEXTS, (MAP, 4, 0x18, 4), (0, 3)),
-            (OF_TEXTS, (MAP, 0x14, 0x18, 4), (43, 0)),
-            (OF_TEXTS, (MAP, 4, 0x14, 4), (44, 0)),
-            (OF_TEXTS, (MAP, 4, 0x18, 8), (45, 0)),
-            (OF_TEXTS, (MAP, 0x14, 0x14, 8), (43, 0)),
-            (OF_TEXTS, (MAP, 0x18, 0x18, 4), (43, 0)),
-        ],
-    );
+    let rows: [(Contents, Contents, Numbers); 32] = [
+        (OF_TEXTS, OF_TEXTS, (0, 0, 0, 0)),
+        (OF_TEXTS, (MAP, 0x14, 0x18, 4), (43, 0, 0x14, 4)),
+        (OF_TEXTS, (MAP, 4, 0x14, 4), (44, 0, 0x14, 0x18)),
+        (OF_TEXTS, (MAP, 4, 0x18, 8), (45, 0, 8, 4)),
+        (OF_TEXTS, (MAP, 0x14, 0x14, 8), (43, 0, 0x14, 4)),
+        (OF_TEXTS, (MAP, 0x18, 0x18, 4), (43, 0, 0x18, 4)),
+        (OF_TEXTS, (MAP, 4, 4, 4), (44, 0, 4, 0x18)),
+        (OF_TEXTS, OF_INDEX, (42, 0, 3, 1)),
+        (OF_TEXTS, (SET, 4, 1, 4), (42, 0, 2, 1)),
+        (OF_INDEX, OF_INDEX, (0, 0, 0, 0)),
+        (OF_INDEX, (INDEX_MAP, 0x14, 0x18, 4), (43, 0, 0x14, 4)),
+        (OF_INDEX, (INDEX_MAP, 4, 0x14, 4), (44, 0, 0x14, 0x18)),
+        (OF_INDEX, (INDEX_MAP, 4, 0x18, 8), (45, 0, 8, 4)),
+        (OF_INDEX, OF_TEXTS, (42, 0, 1, 3)),
+        ((MAP, 0x18, 0x14, 8), (MAP, 0x18, 0x14, 8), (0, 0, 0, 0)),
+        (
+            (MAP, 0x18, 0x14, 8),
+            (MAP, 0x14, 0x14, 8),
+            (43, 0, 0x14, 0x18),
+        ),
+        (
+            (MAP, 0x18, 0x14, 8),
+            (MAP, 0x18, 0x18, 8),
+            (44, 0, 0x18, 0x14),
+        ),
+        ((MAP, 0x18, 0x14, 8), (MAP, 0x18, 0x14, 4), (45, 0, 4, 8)),
+        ((MAP, 4, 4, 4), (MAP, 4, 4, 4), (0, 0, 0, 0)),
+        ((MAP, 4, 4, 4), (MAP, 0x14, 4, 4), (43, 0, 0x14, 4)),
+        ((MAP, 4, 4, 4), (MAP, 4, 4, 8), (45, 0, 8, 4)),
+        ((MAP, 4, 4, 4), OF_TEXTS, (44, 0, 0x18, 4)),
+        ((MAP, 0x14, 4, 8), (MAP, 0x14, 4, 8), (0, 0, 0, 0)),
+        ((MAP, 0x14, 4, 8), (MAP, 4, 4, 8), (43, 0, 4, 0x14)),
+        ((SET, 0x14, 1, 4), (SET, 0x14, 1, 4), (0, 0, 0, 0)),
+        ((SET, 0x14, 1, 4), (SET, 4, 1, 4), (43, 0, 4, 0x14)),
+        ((SET, 4, 1, 8), (SET, 4, 1, 8), (0, 0, 0, 0)),
+        ((SET, 4, 1, 8), (SET, 4, 1, 4), (45, 0, 4, 8)),
+        ((SET, 4, 1, 8), OF_TEXTS, (42, 0, 1, 2)),
+        (OF_TEXTS, (0, 4, 0x18, 4), (7, 0, 0, 0)),
+        (OF_TEXTS, (MAP, 6, 0x18, 4), (7, 0, 0, 0)),
+        (OF_TEXTS, (MAP, 4, 0x18, 32), (7, 0, 0, 0)),
+    ];
+    for (contents, others, numbers) in rows {
+        expect_equal(
+            &rt,
+            opened(&container(contents), others),
+            result_of(numbers),
+        );
+    }
+    let unknown = result_of((7, 0, 0, 0));
+    for codes in [(5, 4, 0x18, 4), (MAP, 4, 0, 4), (MAP, 4, 0x18, 0)] {
+        expect_equal(&rt, opened(TEXTS, codes), unknown);
+    }
 }
 
+// The sums of Adler-32 of 1, 2 and 4 are 8 and 14, and those of 2, 2 and 3 are 8 and 16.
 #[test]
-fn containers_of_long_numbers_open_as_their_own_form(rt: HostRuntime) {
-    expect_opened(
-        &rt,
-        &[
-            ((MAP, 0x18, 0x14, 8), (MAP, 0x18, 0x14, 8), (0, 3)),
-            ((MAP, 0x18, 0x14, 8), (MAP, 0x14, 0x14, 8), (43, 0)),
-            ((MAP, 0x18, 0x14, 8), (MAP, 0x18, 0x18, 8), (44, 0)),
-            ((MAP, 0x18, 0x14, 8), (MAP, 0x18, 0x14, 4), (45, 0)),
-        ],
-    );
-}
-
-#[test]
-fn containers_of_index_maps_open_as_their_own_form(rt: HostRuntime) {
-    expect_opened(
-        &rt,
-        &[
-            (OF_INDEX, (INDEX_MAP, 4, 0x18, 4), (0, 3)),
-            (OF_INDEX, (INDEX_MAP, 0x14, 0x18, 4), (43, 0)),
-            (OF_INDEX, (INDEX_MAP, 4, 0x14, 4), (44, 0)),
-            (OF_INDEX, (INDEX_MAP, 4, 0x18, 8), (45, 0)),
-            (OF_TEXTS, (INDEX_MAP, 4, 0x18, 4), (42, 0)),
-            (OF_INDEX, (MAP, 4, 0x18, 4), (42, 0)),
-        ],
-    );
-    expect_eq!(rt; opened(cut(&container(OF_INDEX)), OF_INDEX), (46, 0));
-}
-
-#[test]
-fn containers_to_texts_open_as_their_own_form(rt: HostRuntime) {
-    expect_opened(
-        &rt,
-        &[
-            ((MAP, 4, 4, 4), (MAP, 4, 4, 4), (0, 3)),
-            ((MAP, 0x14, 4, 8), (MAP, 0x14, 4, 8), (0, 3)),
-            ((MAP, 4, 4, 4), (MAP, 0x14, 4, 4), (43, 0)),
-            ((MAP, 4, 4, 4), (MAP, 4, 4, 8), (45, 0)),
-            ((MAP, 0x14, 4, 8), (MAP, 4, 4, 8), (43, 0)),
-            (OF_TEXTS, (MAP, 4, 4, 4), (44, 0)),
-            ((MAP, 4, 4, 4), (MAP, 4, 0x18, 4), (44, 0)),
-        ],
-    );
-}
-
-#[test]
-fn containers_of_sets_open_as_their_own_form(rt: HostRuntime) {
-    expect_opened(
-        &rt,
-        &[
-            ((SET, 0x14, 1, 4), (SET, 0x14, 1, 4), (0, 3)),
-            ((SET, 4, 1, 8), (SET, 4, 1, 8), (0, 3)),
-            ((SET, 0x14, 1, 4), (SET, 4, 1, 4), (43, 0)),
-            ((SET, 4, 1, 8), (SET, 4, 1, 4), (45, 0)),
-            (OF_TEXTS, (SET, 4, 1, 4), (42, 0)),
-            ((SET, 4, 1, 8), (MAP, 4, 0x18, 4), (42, 0)),
-        ],
-    );
-}
-
-#[test]
-fn errors_have_their_numbers(rt: HostRuntime) {
-    expect_explained(
-        &rt,
-        &[
-            (OF_INDEX, (INDEX_MAP, 4, 0x18, 4), (0, 0, 0, 0)),
-            (OF_TEXTS, (INDEX_MAP, 4, 0x18, 4), (42, 0, 3, 1)),
-            (OF_INDEX, (INDEX_MAP, 0x14, 0x18, 4), (43, 0, 0x14, 4)),
-            (OF_TEXTS, (SET, 4, 1, 4), (42, 0, 2, 1)),
-        ],
-    );
-    let index = container(OF_INDEX);
-    expect_eq!(rt; explained(cut_header(&index), OF_INDEX), (32, 0, 31, 0));
-}
-
-#[test]
-fn errors_of_containers_to_texts_have_their_numbers(rt: HostRuntime) {
-    expect_explained(
-        &rt,
-        &[
-            ((MAP, 4, 4, 4), (MAP, 4, 4, 4), (0, 0, 0, 0)),
-            ((MAP, 4, 4, 4), (MAP, 0x14, 4, 4), (43, 0, 0x14, 4)),
-            (OF_TEXTS, (MAP, 4, 4, 4), (44, 0, 4, 0x18)),
-            ((MAP, 4, 4, 4), (MAP, 4, 4, 8), (45, 0, 8, 4)),
-        ],
-    );
-    expect_eq!(rt; explained(&TEXTS[..31], (MAP, 4, 4, 4)), (32, 0, 31, 0));
+fn damaged_containers_have_their_errors(rt: HostRuntime) {
+    let rows: [(usize, u8, Numbers); 22] = [
+        (0, 0x89, (0, 0, 0, 0)),
+        (0, 0, (33, 0, 0, 0)),
+        (1, b'r', (33, 0, 0, 0)),
+        (8, 2, (34, 0, 2, 0)),
+        (10, 5, (35, 0, 5, 0)),
+        (10, 9, (35, 0, 9, 0)),
+        (11, 6, (36, 0, 6, 0)),
+        (12, 0, (37, 0, 0, 0)),
+        (13, 5, (38, 0, 5, 0)),
+        (14, 2, (39, 0, 2, 0)),
+        (14, 3, (39, 0, 3, 0)),
+        (14, 0, (40, 0, 13 << 16 | 7, 0)),
+        (28, 1, (41, 0, 1, 0)),
+        (10, 2, (42, 0, 1, 2)),
+        (11, 0x14, (43, 0, 4, 0x14)),
+        (12, 0x14, (44, 0, 0x18, 0x14)),
+        (13, 8, (45, 0, 4, 8)),
+        (16, 2, (46, 0, 2, 3)),
+        (34, 2, (47, 0, 13 << 16 | 7, 12 << 16 | 6)),
+        (34, 4, (47, 0, 13 << 16 | 7, 14 << 16 | 8)),
+        (32, 2, (47, 0, 13 << 16 | 7, 16 << 16 | 8)),
+        (24, 8, (47, 0, 13 << 16 | 8, 13 << 16 | 7)),
+    ];
+    for (pos, byte, numbers) in rows {
+        expect_equal(
+            &rt,
+            opened(&with_byte(pos, byte), OF_TEXTS),
+            result_of(numbers),
+        );
+    }
+    for contents in [OF_TEXTS, OF_INDEX, (MAP, 4, 4, 4)] {
+        expect_equal(&rt, opened_to(31, contents), result_of((32, 0, 31, 0)));
+        expect_equal(&rt, opened_to(34, contents), result_of((46, 0, 3, 2)));
+    }
 }
 
 #[test]
 fn headers_are_those_of_the_format(rt: HostRuntime) {
-    expect_eq!(rt; writes(OF_TEXTS, true, &TEXTS[..32]), (0, true));
-    expect_headers(&rt, &[OF_INDEX, (MAP, 4, 4, 4), (SET, 4, 1, 8)]);
-}
-
-#[test]
-fn headers_without_a_checksum_are_those_of_the_format(rt: HostRuntime) {
-    expect_codes(
-        &rt,
-        &[
-            ((MAP, 0x14, 0x14, 8), &[1, 0x14, 0x14, 8, 0, 0]),
-            ((INDEX_MAP, 0x14, 0x14, 8), &[3, 0x14, 0x14, 8, 0, 0]),
-            ((MAP, 0x14, 4, 8), &[1, 0x14, 4, 8, 0, 0]),
-        ],
-    );
+    for contents in [OF_TEXTS, OF_INDEX, (MAP, 4, 4, 4), (SET, 4, 1, 8)] {
+        expect_equal(&rt, writes(contents, true), (0, true));
+    }
+    for contents in [
+        (MAP, 0x14, 0x14, 8),
+        (INDEX_MAP, 0x14, 0x14, 8),
+        (MAP, 0x14, 4, 8),
+    ] {
+        expect_equal(&rt, writes(contents, false), (0, true));
+    }
     let mut header = [9; 32];
-    expect_eq!(rt;
-        write_header(&[1, 2, 3], codes((MAP, 0x14, 0x14, 8)), false, &mut header),
-        0
-    );
-    expect_eq!(rt;
-        &header[16..],
-        [3, 0, 0, 0, 0, 0, 0, 0, 0, 0, 0, 0, 0, 0, 0, 0].as_slice()
-    );
-}
-
-#[test]
-fn codes_of_no_contents_have_a_status(rt: HostRuntime) {
-    expect_opened(
-        &rt,
-        &[
-            (OF_TEXTS, (0, 4, 0x18, 4), (7, 0)),
-            (OF_TEXTS, (5, 4, 0x18, 4), (7, 0)),
-            (OF_TEXTS, (MAP, 6, 0x18, 4), (7, 0)),
-            (OF_TEXTS, (MAP, 4, 0, 4), (7, 0)),
-            (OF_TEXTS, (MAP, 4, 0x18, 32), (7, 0)),
-        ],
-    );
-    expect_explained(&rt, &[(OF_TEXTS, (MAP, 4, 0x18, 0), (7, 0, 0, 0))]);
-    expect_eq!(rt; writes((MAP, 4, 0x18, 64), true, &[9; 32]), (7, true));
-}
-
-#[test]
-fn wrong_headers_have_statuses(rt: HostRuntime) {
-    expect_eq!(rt; opened(&TEXTS[..31], OF_TEXTS), (32, 0));
-    expect_statuses(
-        &rt,
-        &[
-            (0, 0, 33),
-            (8, 2, 34),
-            (10, 5, 35),
-            (11, 6, 36),
-            (12, 0, 37),
-            (13, 5, 38),
-            (14, 2, 39),
-            (14, 0, 40),
-            (28, 1, 41),
-        ],
-    );
-}
-
-#[test]
-fn wrong_contents_have_statuses(rt: HostRuntime) {
-    expect_statuses(
-        &rt,
-        &[
-            (10, 2, 42),
-            (11, 0x14, 43),
-            (12, 0x14, 44),
-            (13, 8, 45),
-            (16, 2, 46),
-            (34, 2, 47),
-        ],
-    );
+    let status = write_header(&[1, 2, 3], codes((MAP, 4, 0x18, 64)), true, &mut header);
+    expect_equal(&rt, (status, header == [9; 32]), (7, true));
 }
 
 #[test]
 fn widths_are_read(rt: HostRuntime) {
-    expect_eq!(rt; width_of(TEXTS, true), (0, false));
-    let mut wide = *TEXTS;
-    wide[13] = 8;
-    expect_eq!(rt; width_of(&wide, false), (0, true));
-    expect_eq!(rt; width_of(&TEXTS[..31], true), (32, true));
-    expect_eq!(rt; width_of(&container(OF_INDEX), true), (0, false));
+    expect_equal(&rt, width_of(TEXTS, true), (0, false));
+    expect_equal(&rt, width_of(&with_byte(13, 8), false), (0, true));
+    expect_equal(&rt, width_of(&TEXTS[..31], true), (32, true));
+    expect_equal(&rt, width_of(&container(OF_INDEX), true), (0, false));
 }
 
 #[test]
 fn updates_correct_the_checksum(rt: HostRuntime) {
-    expect_updated(
-        &rt,
-        &[
-            (34, 4, (0, 8)),
-            (24, 0, (0, 7)),
-            (16, 2, (46, 7)),
-            (0, 0, (33, 7)),
-        ],
-    );
+    let rows = [
+        (34, 4, (0, 8)),
+        (24, 0, (0, 7)),
+        (16, 2, (46, 7)),
+        (0, 0, (33, 7)),
+    ];
+    for (pos, byte, expected) in rows {
+        let mut bytes = with_byte(pos, byte);
+        let status = update_container(&mut bytes);
+        expect_equal(&rt, (status, bytes[24]), expected);
+    }
     let mut index = container(OF_INDEX);
     index[34] = 4;
-    expect_eq!(rt; update_container(&mut index), 0);
-    expect_eq!(rt; (index[10], index[24]), (3, 8));
-}
-
-// The sums of Adler-32 of 1, 2 and 4 are 8 and 14.
-#[test]
-fn containers_have_their_numbers(rt: HostRuntime) {
-    expect_container_with(
-        &rt,
-        &[
-            (0, 0x89, (0, 0, 0, 0)),
-            (1, b'r', (33, 0, 0, 0)),
-            (8, 2, (34, 0, 2, 0)),
-            (10, 9, (35, 0, 9, 0)),
-            (14, 3, (39, 0, 3, 0)),
-            (10, 2, (42, 0, 1, 2)),
-            (34, 4, (47, 0, 13 << 16 | 7, 14 << 16 | 8)),
-        ],
-    );
-    expect_explained(
-        &rt,
-        &[
-            (OF_TEXTS, (MAP, 0x14, 0x18, 4), (43, 0, 0x14, 4)),
-            (OF_TEXTS, (MAP, 4, 0x14, 4), (44, 0, 0x14, 0x18)),
-            (OF_TEXTS, (MAP, 4, 0x18, 8), (45, 0, 8, 4)),
-        ],
-    );
-    expect_eq!(rt; explained(&TEXTS[..31], OF_TEXTS), (32, 0, 31, 0));
-    expect_eq!(rt; explained(&TEXTS[..34], OF_TEXTS), (46, 0, 3, 2));
+    expect_equal(&rt, update_container(&mut index), 0);
+    expect_equal(&rt, (index[10], index[24]), (3, 8));
 }

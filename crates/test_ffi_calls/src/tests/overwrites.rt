@@ -1,86 +1,48 @@
-//! Tests of overwrites in place, in hash maps and in index maps.
+//! Tests of overwrites in place, on each case.
 
-mod errors;
-mod index_maps;
-mod maps;
-
+use crate::tests::calls::{Contents, INDEX_MAP, set, set_and_get};
+use crate::tests::cases::{Bytes, Case};
 use crate::tests::expect_equal;
-use crate::tests::opened::{Contents, codes, header_in};
-use crate::tests::support::{OTHER, Part, any, with_bytes};
-use ffi_calls::any_value::IndexedValue;
-use ffi_calls::lookup::get;
-use ffi_calls::overwrite::set_value;
+use crate::tests::lookups::first_of;
 use std::process::Abort;
 
-// Returns the status of an overwrite, if the archive is valid before and after it.
-fn overwrite(archive: &mut [u8], contents: Contents, key: Part<'_>, value: u64) -> Option<u32> {
-    let codes = codes(contents);
-    header_in(&*archive, codes)?;
-    let status = set_value(archive, codes, any(key), value);
-    header_in(&*archive, codes).is_some().then_some(status)
+// Fails the test unless each overwrite changes only the bytes of its row, and a lookup by the
+// handle from before finds the new value.
+fn expect_sets(rt: &impl Abort, case: &Case, contents: Contents, bytes: &Bytes) {
+    for (key, value, pos, others) in case.sets {
+        let expected = bytes.with(*pos, others);
+        let mut found = *bytes;
+        let status = set(found.as_mut_slice(), contents, *key, *value);
+        expect_equal(rt, (contents, key.0, status), (contents, key.0, Some(0)));
+        assert!(*rt; found.as_slice() == expected.as_slice());
+        let mut again = *bytes;
+        let (first, _) = first_of(case.pairs, *key).unwrap_or((9, *key));
+        let index = if contents.0 == INDEX_MAP { first } else { 0 };
+        let found = set_and_get(again.as_mut_slice(), contents, *key, *value);
+        expect_equal(rt, found, Some((0, 0, index, *value)));
+    }
 }
 
-// Returns the statuses of an overwrite and of a lookup by the header from before, and the index and
-// the value that are found. The index is 8 and the value `OTHER` at first.
-fn overwrite_and_get(
-    archive: &mut [u8],
-    contents: Contents,
-    key: Part<'_>,
-    value: u64,
-) -> Option<(u32, u32, usize, u64)> {
-    let codes = codes(contents);
-    let header = header_in(&*archive, codes)?;
-    let status = set_value(archive, codes, any(key), value);
-    let mut found = IndexedValue {
-        index: 8,
-        value: any(OTHER),
-    };
-    let again = get(&*archive, codes, &header, any(key), &mut found);
-    Some((status, again, found.index, found.value.number))
-}
-
-// An overwrite: the contents, the key, the value and the status.
-type Row<'a> = (Contents, Part<'a>, u64, u32);
-
-// Fails the test unless each of these overwrites of one archive has its status, which is that of an
-// error, and no byte is changed.
-fn expect_errors<const N: usize>(rt: &impl Abort, archive: &[u8; N], rows: &[Row<'_>]) {
-    let mut found = *archive;
-    for (contents, key, value, status) in rows {
+// Fails the test unless each overwrite has the status of its row, and changes no byte.
+fn expect_errors(rt: &impl Abort, case: &Case, contents: Contents, bytes: &Bytes) {
+    for (key, value, status) in case.fails {
+        let mut found = *bytes;
+        let error = set(found.as_mut_slice(), contents, *key, *value);
         expect_equal(
             rt,
-            overwrite(&mut found, *contents, *key, *value),
-            Some(*status),
+            (contents, key.0, error),
+            (contents, key.0, Some(*status)),
         );
+        assert!(*rt; found.as_slice() == bytes.as_slice());
     }
-    assert!(*rt; found == *archive);
 }
 
-// Fails the test unless an overwrite succeeds, and changes only the bytes from a position on, to
-// these.
-fn expect_changed<const N: usize>(
-    rt: &impl Abort,
-    archive: &[u8; N],
-    contents: Contents,
-    key: Part<'_>,
-    value: u64,
-    (pos, bytes): (usize, &[u8]),
-) {
-    let mut found = *archive;
-    expect_equal(rt, overwrite(&mut found, contents, key, value), Some(0));
-    assert!(*rt; found == with_bytes(*archive, pos, bytes));
+#[test]
+fn overwrites_change_the_first_value_alone(rt: HostRuntime) {
+    each_case!(rt, expect_sets);
 }
 
-// Fails the test unless an overwrite, and a lookup by the header from before, have this result.
-fn expect_overwrite_and_get<const N: usize>(
-    rt: &impl Abort,
-    archive: &[u8; N],
-    contents: Contents,
-    key: Part<'_>,
-    value: u64,
-    expected: (u32, u32, usize, u64),
-) {
-    let mut bytes = *archive;
-    let found = overwrite_and_get(&mut bytes, contents, key, value);
-    expect_equal(rt, found, Some(expected));
+#[test]
+fn overwrites_have_their_errors(rt: HostRuntime) {
+    each_case!(rt, expect_errors);
 }
