@@ -135,9 +135,11 @@ impl fmt::Display for Error {
 
 impl std::error::Error for Error {}
 
-/// Declares `ErrorKind`. The text of an error is the documentation of its kind.
+/// Declares `ErrorKind`. The text of an error is the documentation of its kind. Each has its status.
 macro_rules! error_kinds {
-    ($(#[$of_enum:meta])* pub enum ErrorKind { $($(#[doc = $text:literal])+ $name:ident,)* }) => {
+    ($(#[$of_enum:meta])* pub enum ErrorKind {
+        $($(#[doc = $text:literal])+ $name:ident = $status:pat,)*
+    }) => {
         $(#[$of_enum])*
         pub enum ErrorKind {
             $($(#[doc = $text])+ $name,)*
@@ -147,6 +149,14 @@ macro_rules! error_kinds {
         }
 
         impl ErrorKind {
+            /// The kind of the error with a status.
+            fn of(status: u32) -> Self {
+                match status {
+                    $($status => ErrorKind::$name,)*
+                    other => ErrorKind::Status(other),
+                }
+            }
+
             /// The documentation of the kind.
             fn text(self) -> &'static str {
                 match self {
@@ -169,67 +179,67 @@ error_kinds! {
     pub enum ErrorKind {
         /// The map or a part of it is outside the bytes that it may use, or the archive exceeds the limit
         /// of its width.
-        OutOfRange,
+        OutOfRange = 16,
         /// The map or a part of it is not at a multiple of its alignment.
-        Unaligned,
+        Unaligned = 17,
         /// The number of pairs is not less than the number of buckets, and they are not both 0.
-        InvalidLength,
+        InvalidLength = 18,
         /// The number of full buckets differs from the number of pairs.
-        WrongNumberOfElements,
+        WrongNumberOfElements = 19,
         /// A mirrored control byte differs from the one that it mirrors, or one after them is not empty.
-        UnwrappedControlByte,
+        UnwrappedControlByte = 20,
         /// An index in the table of an index map is not less than the number of pairs.
-        PlaceOutOfRange,
+        PlaceOutOfRange = 21,
         /// A string is not UTF-8, or its length is malformed, or a `bool` or a `char` is not valid.
-        InvalidValue,
+        InvalidValue = 22,
         /// The bytes are a container, but the call opens an archive without one.
-        IsContainer,
+        IsContainer = 48,
 
         /// An allocation failed.
-        NoMemory,
+        NoMemory = 12,
         /// The map needs more buckets than the width can count.
-        CapacityTooLarge,
+        CapacityTooLarge = 24,
         /// The archive would be longer than the width allows.
-        PositionTooLarge,
+        PositionTooLarge = 25,
         /// A distance between two parts of the archive does not fit the width.
-        DistanceTooLarge,
+        DistanceTooLarge = 26,
         /// A string is too long for the width.
-        TextTooLong,
+        TextTooLong = 27,
 
         /// A container has fewer bytes than its header of 32 bytes.
-        ContainerTooShort,
+        ContainerTooShort = 32,
         /// The first eight bytes are not those of a container.
-        WrongMagic,
+        WrongMagic = 33,
         /// The version of a container is not 1.
-        UnsupportedVersion,
+        UnsupportedVersion = 34,
         /// No kind of collection has the code in the header of a container.
-        UnknownCollection,
+        UnknownCollection = 35,
         /// No type of keys has the code in the header of a container.
-        UnknownKeyType,
+        UnknownKeyType = 36,
         /// No type of values has the code in the header of a container.
-        UnknownValueType,
+        UnknownValueType = 37,
         /// No width has the code in the header of a container.
-        UnknownWidth,
+        UnknownWidth = 38,
         /// A flag without a meaning is set in the header of a container.
-        UnknownFlags,
+        UnknownFlags = 39,
         /// The header of a container has a checksum, but no flag for one.
-        UnexpectedChecksum,
+        UnexpectedChecksum = 40,
         /// The last four bytes of the header of a container are not 0.
-        NonzeroReserved,
+        NonzeroReserved = 41,
         /// A container has another kind of collection.
-        WrongCollection,
+        WrongCollection = 42,
         /// The keys in a container are of another type.
-        WrongKeyType,
+        WrongKeyType = 43,
         /// The values in a container are of another type.
-        WrongValueType,
+        WrongValueType = 44,
         /// The archive in a container has another width.
-        WrongWidth,
+        WrongWidth = 45,
         /// The number of bytes after the header of a container is not the length in the header.
-        WrongLength,
+        WrongLength = 46,
         /// The checksum in the header of a container is not that of the archive.
-        WrongChecksum,
+        WrongChecksum = 47,
         /// No map or set of this crate has the collection and the types in the header of a container.
-        UnsupportedKind,
+        UnsupportedKind = raw::UNKNOWN_KIND,
     }
 }
 
@@ -241,45 +251,6 @@ impl fmt::Display for ErrorKind {
         match self {
             ErrorKind::Status(status) => write!(f, " ({status})"),
             _ => Ok(()),
-        }
-    }
-}
-
-impl ErrorKind {
-    /// The kind of the error with a status.
-    fn of(status: u32) -> Self {
-        match status {
-            raw::UNKNOWN_KIND => ErrorKind::UnsupportedKind,
-            12 => ErrorKind::NoMemory,
-            16 => ErrorKind::OutOfRange,
-            17 => ErrorKind::Unaligned,
-            18 => ErrorKind::InvalidLength,
-            19 => ErrorKind::WrongNumberOfElements,
-            20 => ErrorKind::UnwrappedControlByte,
-            21 => ErrorKind::PlaceOutOfRange,
-            22 => ErrorKind::InvalidValue,
-            24 => ErrorKind::CapacityTooLarge,
-            25 => ErrorKind::PositionTooLarge,
-            26 => ErrorKind::DistanceTooLarge,
-            27 => ErrorKind::TextTooLong,
-            32 => ErrorKind::ContainerTooShort,
-            33 => ErrorKind::WrongMagic,
-            34 => ErrorKind::UnsupportedVersion,
-            35 => ErrorKind::UnknownCollection,
-            36 => ErrorKind::UnknownKeyType,
-            37 => ErrorKind::UnknownValueType,
-            38 => ErrorKind::UnknownWidth,
-            39 => ErrorKind::UnknownFlags,
-            40 => ErrorKind::UnexpectedChecksum,
-            41 => ErrorKind::NonzeroReserved,
-            42 => ErrorKind::WrongCollection,
-            43 => ErrorKind::WrongKeyType,
-            44 => ErrorKind::WrongValueType,
-            45 => ErrorKind::WrongWidth,
-            46 => ErrorKind::WrongLength,
-            47 => ErrorKind::WrongChecksum,
-            48 => ErrorKind::IsContainer,
-            other => ErrorKind::Status(other),
         }
     }
 }
