@@ -2,9 +2,9 @@
 
 mod common;
 
-use common::{kind_of, CHECKSUMS, WIDTHS};
+use common::{kind_of, Built, CHECKSUMS, WIDTHS};
 use hodkhaki::{
-    update_container, Builder, Checksum, Error, ErrorKind, IndexMap, IndexMapMut, Key, Map, MapBuf,
+    update_container, Builder, Checksum, Error, ErrorKind, HashKind, IndexKind, Key, Map, MapBuf,
     MapMut, Number, Width,
 };
 use std::io::{self, Write};
@@ -76,15 +76,23 @@ fn containers(count: u32) -> Vec<(usize, Width, Checksum, Vec<u8>)> {
 
 #[test]
 fn containers_open_as_their_own_types_alone() {
+    let (key, value) = (
+        Some(ErrorKind::WrongKeyType),
+        Some(ErrorKind::WrongValueType),
+    );
+    let wanted = [
+        [None, value, key, key],
+        [value, None, key, key],
+        [key, key, None, value],
+        [key, key, value, None],
+    ];
     for count in [0, 1, 20] {
         for (number, _, _, bytes) in containers(count) {
-            let wanted = [0, 1, 2, 3].map(|other| {
-                if other / 2 != number / 2 {
-                    return Some(ErrorKind::WrongKeyType);
-                }
-                (other % 2 != number % 2).then_some(ErrorKind::WrongValueType)
-            });
-            assert_eq!(errors(&bytes), wanted, "type {number}, {count} pairs");
+            assert_eq!(
+                errors(&bytes),
+                wanted[number],
+                "type {number}, {count} pairs"
+            );
         }
     }
 }
@@ -288,114 +296,68 @@ fn damaged_archives_fail_as_without_a_container() {
     }
 }
 
-#[test]
-fn updates_write_the_checksum() {
-    for width in WIDTHS {
-        let mut bytes = numbers::<u64>(9, width).to_container(Checksum::Adler32);
-        let mut map = MapMut::<u32, u64>::open(&mut bytes).unwrap();
+/// Writes to maps of a kind in containers, which are then those of other values with another checksum.
+fn test_writing<C: Built>() {
+    for (width, checksum) in WIDTHS.into_iter().flat_map(|w| CHECKSUMS.map(|c| (w, c))) {
+        let container = |fifth| {
+            let value = |key| if key == 5 { fifth } else { u64::from(key) };
+            let builder: Builder<u32, u64> = (1..10).map(|key| (key, value(key))).collect();
+            C::map(&builder, width, Some(checksum)).into_bytes()
+        };
+        let (unwritten, written) = (container(5), container(500));
+        // Dropping a map writes the checksum, if a value was written.
+        let mut bytes = unwritten.clone();
+        let mut map = MapMut::<u32, u64, C>::open(&mut bytes).unwrap();
+        assert!(!map.set(&10, 1));
+        map.update_container();
+        drop(map);
+        assert_eq!(bytes, unwritten);
+        let mut map = MapMut::<u32, u64, C>::open(&mut bytes).unwrap();
+        assert!(map.set(&5, 500) && !map.set(&10, 1));
+        drop(map);
+        assert_eq!(bytes, written);
+        // So do an update of a map that stays open, and the end of the writing.
+        let mut bytes = unwritten.clone();
+        let mut map = MapMut::<u32, u64, C>::open_with_width(&mut bytes, width).unwrap();
+        assert!(map.set(&5, 500));
+        map.update_container();
+        std::mem::forget(map);
+        assert_eq!(bytes, written);
+        let mut map = MapMut::<u32, u64, C>::open(&mut bytes).unwrap();
+        assert!(map.set(&5, 5));
+        assert_eq!(Map::from(map).at(&5), 5);
+        assert_eq!(bytes, unwritten);
+        // A map that isn't dropped leaves it to `update_container`.
+        let mut map = MapMut::<u32, u64, C>::open(&mut bytes).unwrap();
         assert!(map.set(&5, 500));
         std::mem::forget(map);
-        let error = error_as::<u32, u64>(&bytes);
-        assert_eq!(error, Some(ErrorKind::WrongChecksum));
+        let wrong = (checksum == Checksum::Adler32).then_some(ErrorKind::WrongChecksum);
+        assert_eq!(kind_of(Map::<u32, u64, C>::open(&bytes)), wrong);
         assert_eq!(update_container(&mut bytes), Ok(()));
-        let sum = adler32(&bytes[32..]).to_le_bytes();
-        assert_eq!(bytes[24..28], sum);
-        assert_eq!(Map::<u32, u64>::open(&bytes).unwrap().at(&5), 500);
-
-        // Without a checksum nothing is changed.
-        let mut bytes = numbers::<u64>(9, width).to_container(Checksum::None);
-        let kept = bytes.clone();
-        assert_eq!(update_container(&mut bytes), Ok(()));
-        assert_eq!(bytes, kept);
+        assert_eq!(bytes, written);
+        let sum = if wrong.is_some() {
+            adler32(&bytes[32..])
+        } else {
+            0
+        };
+        assert_eq!(bytes[24..28], sum.to_le_bytes());
+        let other = WIDTHS.into_iter().find(|other| *other != width).unwrap();
+        let error = kind_of(MapMut::<u32, u64, C>::open_with_width(&mut bytes, other));
+        assert_eq!(error, Some(ErrorKind::WrongWidth));
+        // A map of the archive writes no header.
+        let mut map = MapMut::<u32, u64, C>::open_archive(&mut bytes[32..], width).unwrap();
+        assert!(map.set(&5, 6));
+        map.update_container();
+        drop(map);
+        assert_eq!(bytes[..32], written[..32]);
+        assert_eq!(kind_of(Map::<u32, u64, C>::open(&bytes)), wrong);
     }
 }
 
 #[test]
-fn dropping_a_written_map_writes_the_checksum() {
-    for width in WIDTHS {
-        for checksum in CHECKSUMS {
-            let archive = numbers::<u64>(9, width);
-            let unwritten = archive.to_container(checksum);
-            let mut bytes = unwritten.clone();
-            let mut map = MapMut::<u32, u64>::open(&mut bytes).unwrap();
-            assert!(!map.set(&10, 1));
-            map.update_container();
-            drop(map);
-            assert_eq!(bytes, unwritten);
-
-            let mut written = Builder::<u32, u64>::new();
-            written.extend((1..10).map(|key| (key, u64::from(key) + u64::from(key == 5) * 495)));
-            let written = written.build_archive(width).unwrap().to_container(checksum);
-            let mut map = MapMut::<u32, u64>::open(&mut bytes).unwrap();
-            assert!(map.set(&5, 500) && !map.set(&10, 1));
-            drop(map);
-            assert_eq!(bytes, written);
-
-            // The same by an update of a map that stays open, and by ending the writing.
-            let mut bytes = unwritten.clone();
-            let mut map = MapMut::<u32, u64>::open_with_width(&mut bytes, width).unwrap();
-            assert!(map.set(&5, 500));
-            map.update_container();
-            std::mem::forget(map);
-            assert_eq!(bytes, written);
-            let mut map = MapMut::<u32, u64>::open(&mut bytes).unwrap();
-            assert!(map.set(&5, 5));
-            let map = Map::from(map);
-            assert_eq!(map.at(&5), 5);
-            assert_eq!(bytes, unwritten);
-        }
-    }
-}
-
-/// The same of index maps.
-#[test]
-fn dropping_a_written_index_map_writes_the_checksum() -> Result<(), Error> {
-    let builder = Builder::<str, u32>::from([("tea", 3), ("cake", 4)]);
-    let mut container = builder
-        .build_index_with(Width::Wide, Checksum::Adler32)?
-        .into_bytes();
-    assert!(IndexMapMut::<str, u32>::open(&mut container)?.set("tea", 7));
-    assert_eq!(IndexMap::<str, u32>::open(&container)?.at("tea"), 7);
-
-    // A map that isn't dropped leaves the checksum to `update_container`.
-    let mut map = IndexMapMut::<str, u32>::open(&mut container)?;
-    assert!(map.set("tea", 8));
-    std::mem::forget(map);
-    let error = kind_of(IndexMap::<str, u32>::open(&container));
-    assert_eq!(error, Some(ErrorKind::WrongChecksum));
-    update_container(&mut container)?;
-    let mut map = IndexMapMut::<str, u32>::open(&mut container)?;
-    assert!(map.set("cake", 9));
-    map.update_container();
-    std::mem::forget(map);
-    let mut map = IndexMapMut::<str, u32>::open(&mut container)?;
-    assert_eq!((map.at("tea"), map.at("cake")), (8, 9));
-    assert!(map.set("cake", 10));
-    assert_eq!(IndexMap::from(map).at("cake"), 10);
-    assert!(IndexMap::<str, u32>::open(&container).is_ok());
-
-    let kept = container[..32].to_vec();
-    let mut map = IndexMapMut::<str, u32>::open_archive(&mut container[32..], Width::Wide)?;
-    assert!(map.set("tea", 1));
-    drop(map);
-    assert_eq!(container[..32], kept);
-    update_container(&mut container)?;
-    let narrow = IndexMapMut::<str, u32>::open_with_width(&mut container, Width::Narrow);
-    assert_eq!(kind_of(narrow), Some(ErrorKind::WrongWidth));
-    Ok(())
-}
-
-#[test]
-fn maps_of_archives_write_no_header() {
-    let mut bytes = numbers::<u64>(9, Width::Narrow).to_container(Checksum::Adler32);
-    let header = bytes[..32].to_vec();
-    let mut map = MapMut::<u32, u64>::open_archive(&mut bytes[32..], Width::Narrow).unwrap();
-    assert!(map.set(&5, 500));
-    map.update_container();
-    drop(map);
-    assert_eq!(bytes[..32], header);
-    let error = error_as::<u32, u64>(&bytes);
-    assert_eq!(error, Some(ErrorKind::WrongChecksum));
+fn writing_updates_the_checksum() {
+    test_writing::<HashKind>();
+    test_writing::<IndexKind>();
 }
 
 #[test]
@@ -409,24 +371,24 @@ fn updates_fail_for_no_container() {
         assert_eq!(bytes, kept);
         error
     };
-    assert_eq!(rejected(Vec::clear), Some(ErrorKind::ContainerTooShort));
-    assert_eq!(rejected(|bytes| bytes[0] = 0), Some(ErrorKind::WrongMagic));
-    assert_eq!(
+    let errors = [
+        rejected(Vec::clear),
+        rejected(|bytes| bytes[0] = 0),
         rejected(|bytes| bytes[8] = 2),
-        Some(ErrorKind::UnsupportedVersion)
-    );
-    assert_eq!(
         rejected(|bytes| bytes[31] = 1),
-        Some(ErrorKind::NonzeroReserved)
-    );
-    assert_eq!(
         rejected(|bytes| bytes.push(0)),
-        Some(ErrorKind::WrongLength)
-    );
-    assert_eq!(
         rejected(|bytes| bytes.truncate(40)),
-        Some(ErrorKind::WrongLength)
-    );
+    ];
+    use ErrorKind::*;
+    let wanted = [
+        ContainerTooShort,
+        WrongMagic,
+        UnsupportedVersion,
+        NonzeroReserved,
+        WrongLength,
+        WrongLength,
+    ];
+    assert_eq!(errors, wanted.map(Some));
 }
 
 #[test]

@@ -36,63 +36,67 @@ where
     bytes(builder)
 }
 
+/// Fails the test unless each builder builds the same bytes.
+macro_rules! all_build {
+    ($wanted:expr; $($builder:expr;)*) => {
+        $(assert_eq!(bytes($builder), $wanted);)*
+    };
+}
+
 #[test]
 fn maps_of_std_are_converted_without_type_annotations() {
     let map: HashMap<String, u64> = texts().into_iter().collect();
     let wanted = pushed::<str, u64>(map.iter().map(|(key, value)| (key.as_str(), *value)));
-    assert_eq!(bytes(Builder::from(&map)), wanted);
-    assert_eq!(bytes(Builder::from(map.clone())).len(), wanted.len());
-    assert_eq!(bytes(map.iter().collect::<Builder<_, _>>()), wanted);
-    assert_eq!(bytes(map.iter().collect::<Builder<str, u64>>()), wanted);
     let annotated: Builder<str, u64> = (&map).into();
-    assert_eq!(bytes(annotated), wanted);
+    all_build! { wanted;
+        Builder::from(&map);
+        annotated;
+        map.iter().collect::<Builder<_, _>>();
+        map.iter().collect::<Builder<str, u64>>();
+    }
+    assert_eq!(bytes(Builder::from(map.clone())).len(), wanted.len());
     let opened = Map::<str, u64>::open_archive(&wanted, Width::Narrow).unwrap();
     assert_eq!(opened.len(), 100);
     assert!(map
         .iter()
         .all(|(key, value)| opened.get(key) == Some(*value)));
-    assert_eq!(
-        bytes(opened.iter().collect::<Builder<_, _>>()).len(),
-        wanted.len()
-    );
+    let copied = opened.iter().collect::<Builder<_, _>>();
+    assert_eq!(bytes(copied).len(), wanted.len());
 
-    let map: BTreeMap<u32, String> = texts()
-        .into_iter()
-        .map(|(key, _)| key)
-        .zip(0..)
-        .map(|(text, n)| (n, text))
-        .collect();
+    let texts = texts().into_iter().map(|(key, _)| key);
+    let map: BTreeMap<u32, String> = (0..).zip(texts).collect();
     let wanted = pushed::<u32, str>(map.iter().map(|(key, value)| (key, value.as_str())));
-    assert_eq!(bytes(Builder::from(&map)), wanted);
-    assert_eq!(bytes(map.iter().collect::<Builder<_, _>>()), wanted);
-    assert_eq!(bytes(Builder::from(map)), wanted);
+    all_build! { wanted;
+        Builder::from(&map);
+        map.iter().collect::<Builder<_, _>>();
+        Builder::from(map);
+    }
 }
 
 #[test]
 fn lists_of_pairs_are_converted() {
     let pairs = texts();
     let wanted = pushed::<str, u64>(pairs.iter().map(|(key, value)| (key.as_str(), *value)));
-    assert_eq!(bytes(Builder::from(&pairs)), wanted);
-    assert_eq!(bytes(Builder::from(&pairs[..])), wanted);
-    assert_eq!(bytes(Builder::from(pairs.clone())), wanted);
-    assert_eq!(bytes(pairs.iter().collect::<Builder<_, _>>()), wanted);
-    assert_eq!(
-        bytes(pairs.iter().cloned().collect::<Builder<_, _>>()),
-        wanted
-    );
     let borrowed: Vec<(&str, &u64)> = pairs.iter().map(|(key, value)| (&**key, value)).collect();
-    assert_eq!(bytes(Builder::from(&borrowed)), wanted);
-    assert_eq!(bytes(Builder::from(borrowed)), wanted);
     let mut extended = Builder::new();
     extended.extend(&pairs[..30]);
     extended.extend(pairs[30..60].to_vec());
     extended.extend(pairs[60..].iter().map(|(key, value)| (key, value)));
-    assert_eq!(bytes(extended), wanted);
-
-    let wanted = pushed::<u32, u32>([(&1, 2), (&3, 4)]);
-    assert_eq!(bytes(Builder::<u32, u32>::from([(1, 2), (3, 4)])), wanted);
-    assert_eq!(bytes(Builder::<u32, u32>::from(&[(1, 2), (3, 4)])), wanted);
-    assert_eq!(bytes(Builder::from([(1_u32, 2_u32), (3, 4)])), wanted);
+    all_build! { wanted;
+        Builder::from(&pairs);
+        Builder::from(&pairs[..]);
+        Builder::from(pairs.clone());
+        pairs.iter().collect::<Builder<_, _>>();
+        pairs.iter().cloned().collect::<Builder<_, _>>();
+        Builder::from(&borrowed);
+        Builder::from(borrowed);
+        extended;
+    }
+    all_build! { pushed::<u32, u32>([(&1, 2), (&3, 4)]);
+        Builder::<u32, u32>::from([(1, 2), (3, 4)]);
+        Builder::<u32, u32>::from(&[(1, 2), (3, 4)]);
+        Builder::from([(1_u32, 2_u32), (3, 4)]);
+    }
     let wanted = pushed::<str, str>([("tea", "Tee")]);
     let owned = vec![(String::from("tea"), String::from("Tee"))];
     assert_eq!(bytes(Builder::from(&owned)), wanted);
@@ -103,54 +107,35 @@ fn lists_of_pairs_are_converted() {
 
 #[test]
 fn keys_and_values_are_of_each_type_that_has_them() {
-    let wanted = pushed::<str, str>([("tea", "Tee")]);
-    fn both<Q: AsItem<str>>(text: impl Fn(&'static str) -> Q) -> Vec<u8> {
-        bytes(Builder::from([(text("tea"), text("Tee"))]))
+    fn both<Q: AsItem<str>>(text: impl Fn(&'static str) -> Q) -> Builder<str, str> {
+        Builder::from([(text("tea"), text("Tee"))])
     }
-    assert_eq!(both(|text| text), wanted);
-    assert_eq!(both(String::from), wanted);
-    assert_eq!(both(Box::<str>::from), wanted);
-    assert_eq!(both(Rc::<str>::from), wanted);
-    assert_eq!(both(Arc::<str>::from), wanted);
-    assert_eq!(both(Cow::Borrowed), wanted);
-    assert_eq!(both(|text| Cow::<str>::Owned(text.into())), wanted);
-    assert_eq!(both(|text| Rc::new(String::from(text))), wanted);
     let (tea, mut german) = (String::from("tea"), String::from("Tee"));
-    assert_eq!(bytes(Builder::from([(&&tea, &mut german)])), wanted);
-
-    let wanted = pushed::<u64, u32>([(&(1 << 40), 7)]);
-    assert_eq!(bytes(Builder::from([(1_u64 << 40, &7_u32)])), wanted);
-    assert_eq!(
-        bytes(Builder::from([(&&(1_u64 << 40), Box::new(7_u32))])),
-        wanted
-    );
-    assert_eq!(
-        bytes(Builder::from([(
-            Cow::<u64>::Owned(1 << 40),
-            Rc::new(7_u32)
-        )])),
-        wanted
-    );
-
-    let wanted = pushed::<char, [u8]>([(&'a', &[1, 2][..])]);
-    assert_eq!(bytes(Builder::from([('a', vec![1_u8, 2])])), wanted);
-    assert_eq!(bytes(Builder::from([(&'a', [1_u8, 2])])), wanted);
-    assert_eq!(bytes(Builder::from([('a', &[1_u8, 2])])), wanted);
-    assert_eq!(
-        bytes(Builder::from([('a', Arc::<[u8]>::from(&[1, 2][..]))])),
-        wanted
-    );
-    assert_eq!(
-        bytes(Builder::from([('a', Cow::Borrowed(&[1_u8, 2][..]))])),
-        wanted
-    );
-    let wanted = pushed::<i8, bool>([(&-1, true)]);
-    assert_eq!(bytes(Builder::from([(-1_i8, &true)])), wanted);
-    let wanted = pushed::<i64, f64>([(&-1, 0.5)]);
-    assert_eq!(
-        bytes(Builder::from(BTreeMap::from([(-1_i64, 0.5_f64)]))),
-        wanted
-    );
+    all_build! { pushed::<str, str>([("tea", "Tee")]);
+        both(|text| text);
+        both(String::from);
+        both(Box::<str>::from);
+        both(Rc::<str>::from);
+        both(Arc::<str>::from);
+        both(Cow::Borrowed);
+        both(|text| Cow::<str>::Owned(text.into()));
+        both(|text| Rc::new(String::from(text)));
+        Builder::from([(&&tea, &mut german)]);
+    }
+    all_build! { pushed::<u64, u32>([(&(1 << 40), 7)]);
+        Builder::from([(1_u64 << 40, &7_u32)]);
+        Builder::from([(&&(1_u64 << 40), Box::new(7_u32))]);
+        Builder::from([(Cow::<u64>::Owned(1 << 40), Rc::new(7_u32))]);
+    }
+    all_build! { pushed::<char, [u8]>([(&'a', &[1, 2][..])]);
+        Builder::from([('a', vec![1_u8, 2])]);
+        Builder::from([(&'a', [1_u8, 2])]);
+        Builder::from([('a', &[1_u8, 2])]);
+        Builder::from([('a', Arc::<[u8]>::from(&[1, 2][..]))]);
+        Builder::from([('a', Cow::Borrowed(&[1_u8, 2][..]))]);
+    }
+    all_build! { pushed::<i8, bool>([(&-1, true)]); Builder::from([(-1_i8, &true)]); }
+    all_build! { pushed::<i64, f64>([(&-1, 0.5)]); Builder::from(BTreeMap::from([(-1_i64, 0.5_f64)])); }
 
     let mut builder = Builder::<u64, u32>::new();
     builder.push(1, 2);

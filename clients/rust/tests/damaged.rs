@@ -136,27 +136,21 @@ fn archives() -> Vec<(Width, Vec<u8>)> {
         SetBuilder::<str>::from(texts),
     );
     let characters = SetBuilder::from(['a', '\u{10ffff}']);
-    let mut archives = Vec::new();
+    let mut archives: Vec<(Width, Vec<u8>)> = Vec::new();
     for width in WIDTHS {
-        let built: [Vec<u8>; 16] = [
-            numbers.build_archive(width).unwrap().into(),
-            few.build_archive(width).unwrap().into(),
-            names.build_archive(width).unwrap().into(),
-            long_names.build_archive(width).unwrap().into(),
-            empty.build_archive(width).unwrap().into(),
-            translations.build_archive(width).unwrap().into(),
-            translations.build_index_archive(width).unwrap().into(),
-            great.build_archive(width).unwrap().into(),
-            great.build_index_archive(width).unwrap().into(),
-            bytes.build_index_archive(width).unwrap().into(),
-            letters.build_archive(width).unwrap().into(),
-            letters.build_index_archive(width).unwrap().into(),
-            bits.build_archive(width).unwrap().into(),
-            set.build_archive(width).unwrap().into(),
-            words.build_index_archive(width).unwrap().into(),
-            characters.build_index_archive(width).unwrap().into(),
-        ];
-        archives.extend(built.into_iter().map(|bytes| (width, bytes)));
+        macro_rules! built {
+            ($($builder:ident $build:ident,)*) => {
+                archives.extend([$((width, $builder.$build(width).unwrap().into())),*])
+            };
+        }
+        built! {
+            numbers build_archive, few build_archive, names build_archive,
+            long_names build_archive, empty build_archive, translations build_archive,
+            translations build_index_archive, great build_archive, great build_index_archive,
+            bytes build_index_archive, letters build_archive, letters build_index_archive,
+            bits build_archive, set build_archive, words build_index_archive,
+            characters build_index_archive,
+        }
     }
     archives
 }

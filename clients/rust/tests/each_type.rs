@@ -61,7 +61,11 @@ impl<K: Key + Sample + ?Sized, V: Value + Sample + ?Sized> Model<K, V> {
 
     /// Tests a map of a kind, which is in a container or not.
     fn check<C: Kind>(&self, map: Map<'_, K, V, C>, width: Width) {
-        assert_eq!((map.len(), map.width()), (self.pairs.len(), width));
+        let (length, is_empty) = (self.pairs.len(), self.pairs.is_empty());
+        assert_eq!(
+            (map.len(), map.is_empty(), map.width()),
+            (length, is_empty, width)
+        );
         let first = self.first();
         for (key, _) in self.pairs() {
             let found = map.get(key).map(|value| value.borrow().bits());
@@ -96,8 +100,18 @@ impl<K: Key + Sample + ?Sized, V: Value + Sample + ?Sized> Model<K, V> {
             let (found, stored, of_found) = map.get_full(key).unwrap();
             assert_eq!((found, stored.borrow()), (*index, key));
             assert_eq!(of_found.borrow().bits(), *value);
+            let (stored, of_found) = map.get_key_value(key).unwrap();
+            assert_eq!(
+                (stored.borrow(), of_found.borrow().bits()),
+                (key, value.clone())
+            );
         }
-        let absent = |key: &K::Owned| map.get_full(key.borrow()).is_none();
+        let absent = |key: &K::Owned| {
+            let key = key.borrow();
+            map.get_full(key).is_none()
+                && map.get_index_of(key).is_none()
+                && map.get_key_value(key).is_none()
+        };
         assert!(self.absent.iter().all(absent) && map.get_index(usize::MAX).is_none());
         let pair = |(key, value): (K::Ref<'_>, V::Ref<'_>)| bits(key.borrow(), value.borrow());
         assert!((0..)
@@ -112,7 +126,11 @@ impl<K: Key + Sample + ?Sized, V: Value + Sample + ?Sized> Model<K, V> {
 
     /// Tests a set of a kind of the keys, which is in a container or not.
     fn check_set<C: Kind>(&self, set: Set<'_, K, C>, width: Width) {
-        assert_eq!((set.len(), set.width()), (self.pairs.len(), width));
+        let (length, is_empty) = (self.pairs.len(), self.pairs.is_empty());
+        assert_eq!(
+            (set.len(), set.is_empty(), set.width()),
+            (length, is_empty, width)
+        );
         assert!(self.pairs().all(|(item, _)| set.contains(item)));
         assert!(!self.absent.iter().any(|item| set.contains(item.borrow())));
         let items = set.iter().map(|item| item.borrow().bits());
@@ -136,13 +154,15 @@ impl<K: Key + Sample + ?Sized, V: Value + Sample + ?Sized> Model<K, V> {
             assert_eq!(set.get(item).unwrap().borrow(), *item);
             assert_eq!(set.get_index(index).unwrap().borrow(), *item);
         }
-        assert!(self
-            .absent
-            .iter()
-            .all(|item| set.get_full(item.borrow()).is_none()));
+        for item in &self.absent {
+            let item = item.borrow();
+            assert!(set.get_full(item).is_none() && set.get_index_of(item).is_none());
+            assert!(set.get(item).is_none());
+        }
         assert!(set.get_index(items.len()).is_none());
-        assert_eq!(set.first().unwrap().borrow(), items[0]);
-        assert_eq!(set.last().unwrap().borrow(), items[items.len() - 1]);
+        let end = |item: Option<K::Ref<'_>>| item.map(|item| item.borrow().bits());
+        assert_eq!(end(set.first()), items.first().map(|item| item.bits()));
+        assert_eq!(end(set.last()), items.last().map(|item| item.bits()));
         assert!(set.iter().zip(&items).all(|(a, b)| a.borrow() == *b));
         assert!(set
             .iter()
@@ -187,19 +207,19 @@ fn check_container<K: Key + Sample + ?Sized, V: Value + Sample + ?Sized>(
 
 /// Tests the map of a kind, in containers and without.
 fn test_map<K: Key + Sample + ?Sized, V: Value + Sample + ?Sized, C: Built>(
+    model: &Model<K, V>,
     collection: Collection,
     check: impl Fn(&Model<K, V>, Map<'_, K, V, C>, Width),
 ) {
-    let model = Model::<K, V>::new();
     let builder: Builder<K, V> = model.pairs().collect();
     for width in WIDTHS {
         let archive = C::map(&builder, width, None);
         let opened = MapBuf::open_archive(archive.as_bytes(), width).unwrap();
-        check(&model, opened.as_map(), width);
+        check(model, opened.as_map(), width);
         for checksum in CHECKSUMS {
             let map = C::map(&builder, width, Some(checksum));
-            check(&model, map.as_map(), width);
-            check(&model, Map::open(map.as_bytes()).unwrap(), width);
+            check(model, map.as_map(), width);
+            check(model, Map::open(map.as_bytes()).unwrap(), width);
             check_container::<K, V>(map.as_bytes(), collection, width);
             assert_eq!(archive.to_container(checksum), map.as_bytes());
             assert_eq!(map.as_archive(), archive.as_bytes());
@@ -209,20 +229,20 @@ fn test_map<K: Key + Sample + ?Sized, V: Value + Sample + ?Sized, C: Built>(
 
 /// Tests the set of a kind, in containers and without.
 fn test_set<K: Key + Sample + ?Sized, C: Built>(
+    model: &Model<K, u8>,
     collection: Collection,
     check: impl Fn(&Model<K, u8>, Set<'_, K, C>, Width),
 ) {
-    let model = Model::<K, u8>::new();
     let mut builder = SetBuilder::<K>::new();
     model.pairs().for_each(|(item, _)| builder.push(item));
     for width in WIDTHS {
         let archive = C::set(&builder, width, None);
         let opened = SetBuf::open_archive(archive.as_bytes(), width).unwrap();
-        check(&model, opened.as_set(), width);
+        check(model, opened.as_set(), width);
         for checksum in CHECKSUMS {
             let set = C::set(&builder, width, Some(checksum));
-            check(&model, set.as_set(), width);
-            check(&model, Set::open(set.as_bytes()).unwrap(), width);
+            check(model, set.as_set(), width);
+            check(model, Set::open(set.as_bytes()).unwrap(), width);
             check_container::<K, u8>(set.as_bytes(), collection, width);
             assert_eq!(archive.to_container(checksum), set.as_bytes());
         }
@@ -259,36 +279,39 @@ fn test_writing<K: Key + Sample + ?Sized, V: Number + Sample>() {
     }
 }
 
-/// Tests the maps of each kind to values of a type.
-fn test_maps<K: Key + Sample + ?Sized, V: Value + Sample + ?Sized>() {
-    test_map::<K, V, HashKind>(Collection::Map, Model::check);
-    test_map::<K, V, IndexKind>(Collection::IndexMap, Model::check_index);
+/// Tests the maps of each kind with these pairs.
+fn test_maps<K: Key + Sample + ?Sized, V: Value + Sample + ?Sized>(model: &Model<K, V>) {
+    test_map::<K, V, HashKind>(model, Collection::Map, Model::check);
+    test_map::<K, V, IndexKind>(model, Collection::IndexMap, Model::check_index);
 }
 
-/// Tests the maps of each kind to numbers of a type, whose values are written too.
-fn test_numbers<K: Key + Sample + ?Sized, V: Number + Sample>() {
-    test_maps::<K, V>();
-    test_writing::<K, V>();
+/// Tests the sets of each kind with these items.
+fn test_sets<K: Key + Sample + ?Sized>(model: &Model<K, u8>) {
+    test_set::<K, HashKind>(model, Collection::Set, Model::check_set);
+    test_set::<K, IndexKind>(model, Collection::IndexSet, Model::check_index_set);
 }
 
-/// Tests all collections with keys of a type.
+/// The results of an expression for each type of numbers, or of values, by a name.
+macro_rules! each {
+    (number $name:ident: $result:expr) => {
+        each!($name: $result; u8 u16 u32 u64 i8 i16 i32 i64 f32 f64)
+    };
+    (value $name:ident: $result:expr) => {
+        each!($name: $result; u8 u16 u32 u64 i8 i16 i32 i64 f32 f64 bool char str [u8])
+    };
+    ($name:ident: $result:expr; $($type:ty)*) => {
+        [$({
+            type $name = $type;
+            $result
+        }),*]
+    };
+}
+
+/// Tests all collections with keys of a type, and writes the values that are numbers.
 fn test_keys<K: Key + Sample + ?Sized>() {
-    test_numbers::<K, u8>();
-    test_numbers::<K, u16>();
-    test_numbers::<K, u32>();
-    test_numbers::<K, u64>();
-    test_numbers::<K, i8>();
-    test_numbers::<K, i16>();
-    test_numbers::<K, i32>();
-    test_numbers::<K, i64>();
-    test_numbers::<K, f32>();
-    test_numbers::<K, f64>();
-    test_maps::<K, bool>();
-    test_maps::<K, char>();
-    test_maps::<K, str>();
-    test_maps::<K, [u8]>();
-    test_set::<K, HashKind>(Collection::Set, Model::check_set);
-    test_set::<K, IndexKind>(Collection::IndexSet, Model::check_index_set);
+    each!(value V: test_maps::<K, V>(&Model::new()));
+    each!(number V: test_writing::<K, V>());
+    test_sets::<K>(&Model::new());
 }
 
 macro_rules! tests {
@@ -322,22 +345,7 @@ fn wrong_types<V: Value + Sample + ?Sized, C: Kind>(container: &[u8]) -> usize {
     ];
     let wrong = Some(ErrorKind::WrongKeyType);
     assert_eq!(keys, [None, wrong, wrong]);
-    let values = [
-        kind_of(Map::<u32, u8, C>::open(container)),
-        kind_of(Map::<u32, u16, C>::open(container)),
-        kind_of(Map::<u32, u32, C>::open(container)),
-        kind_of(Map::<u32, u64, C>::open(container)),
-        kind_of(Map::<u32, i8, C>::open(container)),
-        kind_of(Map::<u32, i16, C>::open(container)),
-        kind_of(Map::<u32, i32, C>::open(container)),
-        kind_of(Map::<u32, i64, C>::open(container)),
-        kind_of(Map::<u32, bool, C>::open(container)),
-        kind_of(Map::<u32, char, C>::open(container)),
-        kind_of(Map::<u32, f32, C>::open(container)),
-        kind_of(Map::<u32, f64, C>::open(container)),
-        kind_of(Map::<u32, str, C>::open(container)),
-        kind_of(Map::<u32, [u8], C>::open(container)),
-    ];
+    let values = each!(value W: kind_of(Map::<u32, W, C>::open(container)));
     let errors: Vec<_> = values.into_iter().flatten().collect();
     assert!(errors
         .iter()
@@ -356,21 +364,42 @@ fn containers_of_each_type_open_as_it_alone() {
         assert_eq!(wrong_types::<V, IndexKind>(index_map.as_bytes()), wrong);
         wrong
     }
-    let counts = [
-        wrong::<u8>(),
-        wrong::<u16>(),
-        wrong::<u32>(),
-        wrong::<u64>(),
-        wrong::<i8>(),
-        wrong::<i16>(),
-        wrong::<i32>(),
-        wrong::<i64>(),
-        wrong::<bool>(),
-        wrong::<char>(),
-        wrong::<f32>(),
-        wrong::<f64>(),
-        wrong::<str>(),
-        wrong::<[u8]>(),
-    ];
-    assert_eq!(counts, [13; 14]);
+    assert_eq!(each!(value V: wrong::<V>()), [13; 14]);
+}
+
+/// Maps and sets of pairs whose keys repeat, of lengths at which a stride or a group is full.
+#[test]
+fn collections_of_each_length_are_those_of_std() {
+    fn test<K: Key + Sample + ?Sized>(keys: &[K::Owned], absent: &[K::Owned])
+    where
+        K::Owned: Clone,
+    {
+        let absent = absent.to_vec();
+        let pairs = keys.iter().cloned().zip(1_u64 << 50..).collect();
+        test_maps::<K, u64>(&Model {
+            pairs,
+            absent: absent.clone(),
+        });
+        let pairs = keys.iter().cloned().zip(-2_i32..).collect();
+        test_maps::<K, i32>(&Model {
+            pairs,
+            absent: absent.clone(),
+        });
+        let pairs = keys.iter().map(|key| (key.clone(), 0)).collect();
+        test_sets::<K>(&Model { pairs, absent });
+    }
+    for count in [0, 1, 2, 3, 6, 7, 8, 14, 15, 16, 50, 100, 3000] {
+        let numbers: Vec<u32> = (0..count)
+            .map(|n: u32| n.wrapping_mul(2_654_435_761) % 4000)
+            .collect();
+        test::<u32>(&numbers, &[4000, u32::MAX]);
+        let texts: Vec<_> = numbers
+            .iter()
+            .map(|n| format!("{n}ö").repeat(*n as usize % 9))
+            .collect();
+        test::<str>(
+            &texts,
+            &["ö".into(), "?".into(), "a text that is out of line".into()],
+        );
+    }
 }

@@ -56,28 +56,23 @@ fn compare<K, V, Q>(
                 builder = builder.clone();
             }
         }
-        let shown = format!("{builder:?}");
-        let pairs = model.pairs.iter();
-        let wanted: Builder<K, V> =
-            pairs
-                .map(|(k, v)| (k, v.clone()))
-                .fold(Builder::new(), |mut builder, (key, value)| {
-                    builder.push(key, as_ref(&value));
-                    builder
-                });
-        assert_eq!(shown, format!("{wanted:?}"));
-        for width in WIDTHS {
-            let (built, wanted) = (
-                builder.build_archive(width).unwrap(),
-                wanted.build_archive(width).unwrap(),
-            );
-            assert_eq!(built.as_bytes(), wanted.as_bytes());
+        let mut wanted = Builder::<K, V>::new();
+        for (key, value) in &model.pairs {
+            wanted.push(key, as_ref(value));
         }
-        let (built, wanted) = (
-            builder.build_index_archive(Width::Narrow),
-            wanted.build_index_archive(Width::Narrow),
-        );
-        assert_eq!(built.unwrap().as_bytes(), wanted.unwrap().as_bytes());
+        assert_eq!(format!("{builder:?}"), format!("{wanted:?}"));
+        let archive =
+            |builder: &Builder<K, V>, width| builder.build_archive(width).unwrap().into_bytes();
+        for width in WIDTHS {
+            assert_eq!(archive(&builder, width), archive(&wanted, width));
+        }
+        let index = |builder: &Builder<K, V>| {
+            builder
+                .build_index_archive(Width::Narrow)
+                .unwrap()
+                .into_bytes()
+        };
+        assert_eq!(index(&builder), index(&wanted));
     }
 }
 

@@ -5,10 +5,10 @@ mod common;
 
 use std::borrow::Borrow;
 
-use common::kind_of;
+use common::{kind_of, Built};
 use hodkhaki::{
-    Builder, ErrorKind, IndexMap, IndexMapMut, IndexSet, Key, Map, MapMut, Set, SetBuilder, Value,
-    Width,
+    Builder, ErrorKind, HashKind, IndexKind, IndexMap, IndexMapMut, IndexSet, Key, Map, MapMut,
+    Set, SetBuilder, Value, Width,
 };
 
 use ErrorKind::{
@@ -16,233 +16,121 @@ use ErrorKind::{
     WrongNumberOfElements,
 };
 
-/// The narrow archive of the map of 1 to 2.
-fn one_to_two() -> Vec<u8> {
-    let mut bytes = vec![1, 0, 0, 0, 2];
-    bytes.resize(16, 0);
-    bytes.extend(controls(0x28, 31));
-    bytes.extend(b"\0\xe0\xff\xff\xff\x01\0\0\0\x02\0\0\0");
+/// Control bytes of two buckets, of which the second one has this tag.
+fn controls(tag: u8) -> Vec<u8> {
+    let mut bytes = vec![0xff; 31];
+    (bytes[1], bytes[3]) = (tag, tag);
     bytes
 }
 
-/// The control bytes of two buckets, of which the second one has this tag.
-fn controls(tag: u8, count: usize) -> Vec<u8> {
-    let mut bytes = vec![0xff, tag, 0xff, tag];
-    bytes.resize(count, 0xff);
-    bytes
-}
-
-/// The wide archive of the map of the empty string to 7, with 64-bit values.
-fn empty_to_seven() -> Vec<u8> {
-    let mut bytes = vec![0xff; 16];
-    bytes.push(7);
-    bytes.resize(48, 0);
-    bytes.extend(controls(0x15, 31));
-    bytes.extend(b"\0\xe0\xff\xff\xff\xff\xff\xff\xff\x01\0\0\0\0\0\0\0\x02\0\0\0\0\0\0\0");
-    bytes
-}
-
-/// The narrow archive of the pairs 1 and "wonderful", and 1 and "x". The first string is out of line.
-fn one_to_texts() -> Vec<u8> {
-    let mut bytes = b"wonderful".to_vec();
-    bytes.resize(24, 0);
-    bytes.extend(b"\x01\0\0\0x\xff\xff\xff\xff\xff\xff\xff");
-    bytes.extend(b"\x01\0\0\0\x89\0\0\0\xd8\xff\xff\xff");
-    bytes.extend([0x28, 0x28, 0xff, 0x28, 0x28]);
-    bytes.resize(79, 0xff);
-    bytes.extend(b"\0\xe0\xff\xff\xff\x02\0\0\0\x03\0\0\0");
-    bytes
-}
-
-/// The wide archive of the empty string to "wonderful".
-fn empty_to_wonderful() -> Vec<u8> {
-    let mut bytes = vec![0xff; 16];
-    bytes.extend(b"wonderful\xff\xff\xff\xff\xff\xff\xff");
-    bytes.resize(64, 0);
-    bytes.extend(controls(0x15, 31));
-    bytes.extend(b"\0\xe0\xff\xff\xff\xff\xff\xff\xff\x01\0\0\0\0\0\0\0\x02\0\0\0\0\0\0\0");
-    bytes
-}
-
-/// The narrow archive of the set of 1.
-fn set_of_one() -> Vec<u8> {
-    let mut bytes = vec![1, 0, 0, 0, 0, 0, 0, 0];
-    bytes.extend(controls(0x28, 31));
-    bytes.extend(b"\0\xe0\xff\xff\xff\x01\0\0\0\x02\0\0\0");
-    bytes
-}
-
-/// The wide archive of the set of the empty string.
-fn set_of_empty() -> Vec<u8> {
-    let mut bytes = vec![0xff; 16];
-    bytes.resize(32, 0);
-    bytes.extend(controls(0x15, 31));
-    bytes.extend(b"\0\xe0\xff\xff\xff\xff\xff\xff\xff\x01\0\0\0\0\0\0\0\x02\0\0\0\0\0\0\0");
-    bytes
-}
-
-/// The narrow archive of the index map of the pairs 1 and 2, 5 and 6, and 1 and 9: the indices 0, 1
-/// and 2 in four buckets, 31 control bytes, the three pairs, and the header.
-fn three_pairs() -> Vec<u8> {
-    let mut bytes = vec![2, 0, 0, 0, 1];
-    bytes.resize(16, 0);
-    bytes.extend([0xff, 0x28, 0x4b, 0x28, 0xff, 0x28, 0x4b, 0x28]);
-    bytes.resize(47, 0xff);
-    bytes.extend(b"\0\x01\0\0\0\x02\0\0\0\x05\0\0\0\x06\0\0\0\x01\0\0\0\x09\0\0\0");
-    bytes.extend(b"\xc8\xff\xff\xff\x03\0\0\0\x04\0\0\0\xdc\xff\xff\xff");
-    bytes
-}
-
-/// The wide archive of the index map of the empty string to 7.
-fn index_of_empty() -> Vec<u8> {
-    let mut bytes = vec![0; 16];
-    bytes.extend(controls(0x15, 31));
-    bytes.push(0);
-    bytes.resize(64, 0xff);
-    bytes.extend(b"\x07\0\0\0\0\0\0\0\xc8\xff\xff\xff\xff\xff\xff\xff\x01\0\0\0\0\0\0\0");
-    bytes.extend(b"\x02\0\0\0\0\0\0\0\xd0\xff\xff\xff\xff\xff\xff\xff");
-    bytes
-}
-
-/// The narrow archive of the index map of 1 to "wonderful", which is out of line.
-fn index_to_text() -> Vec<u8> {
-    let mut bytes = vec![0; 8];
-    bytes.extend(controls(0x28, 31));
-    bytes.extend(b"wonderful\x01\0\0\0\x89\0\0\0\xf3\xff\xff\xff");
-    bytes.extend(b"\xcc\xff\xff\xff\x01\0\0\0\x02\0\0\0\xe8\xff\xff\xff");
-    bytes
-}
-
-/// The wide archive of the index map of the empty string to "wonderful".
-fn index_of_empty_to_text() -> Vec<u8> {
-    let mut bytes = vec![0; 16];
-    bytes.extend(controls(0x15, 31));
-    bytes.push(0);
-    bytes.resize(64, 0xff);
-    bytes.extend(b"wonderful\xff\xff\xff\xff\xff\xff\xff");
-    bytes.extend(b"\xc0\xff\xff\xff\xff\xff\xff\xff\x01\0\0\0\0\0\0\0");
-    bytes.extend(b"\x02\0\0\0\0\0\0\0\xc8\xff\xff\xff\xff\xff\xff\xff");
-    bytes
-}
-
-/// The narrow archive of the index map of the `i8` 1 to 2.
-fn index_of_i8() -> Vec<u8> {
-    let mut bytes = vec![0; 8];
-    bytes.extend(controls(0x28, 31));
-    bytes.extend(b"\x01\x02\0\0\0\xdc\xff\xff\xff\x01\0\0\0\x02\0\0\0\xef\xff\xff\xff");
-    bytes
-}
-
-/// The narrow archive of the index map of 1 to the byte string ff.
-fn index_to_bytes() -> Vec<u8> {
-    let mut bytes = vec![0; 8];
-    bytes.extend(controls(0x28, 31));
-    bytes.extend(b"\xff\x01\0\0\0\xfb\xff\xff\xff\x01\0\0\0\xd4\xff\xff\xff");
-    bytes.extend(b"\x01\0\0\0\x02\0\0\0\xe8\xff\xff\xff");
-    bytes
-}
-
-/// The narrow archive of the index set of 1.
-fn index_set_of_one() -> Vec<u8> {
-    let mut bytes = vec![0; 8];
-    bytes.extend(controls(0x28, 31));
-    bytes.extend(b"\0\x01\0\0\0\xdc\xff\xff\xff\x01\0\0\0\x02\0\0\0\xf0\xff\xff\xff");
-    bytes
-}
+/// A zero, and the headers of hash maps of one pair in two buckets.
+const NARROW: &[u8] = b"\0\xe0\xff\xff\xff\x01\0\0\0\x02\0\0\0";
+const WIDE: &[u8] = b"\0\xe0\xff\xff\xff\xff\xff\xff\xff\x01\0\0\0\0\0\0\0\x02\0\0\0\0\0\0\0";
 
 /// A number with more than 32 bits. Its hash is 789ecc4c27220a95, with the tag 3c.
 const GREAT: u64 = (1 << 32) + 1;
 
-/// The narrow archive of the map of the great number to 2, with values of 32 or of 64 bits.
-fn great_to_two() -> Vec<u8> {
-    let mut bytes = vec![1, 0, 0, 0, 1, 0, 0, 0, 2];
-    bytes.resize(32, 0);
-    bytes.extend(controls(0x3c, 31));
-    bytes.extend(b"\0\xe0\xff\xff\xff\x01\0\0\0\x02\0\0\0");
-    bytes
+/// Archives as functions of their names.
+macro_rules! archives {
+    ($($(#[$doc:meta])* $name:ident: $($piece:expr),+;)*) => {
+        $($(#[$doc])*
+        fn $name() -> Vec<u8> {
+            [$(&$piece[..]),+].concat()
+        })*
+    };
 }
 
-/// The narrow archive of the map of the great number to "wonderful", which is out of line.
-fn great_to_text() -> Vec<u8> {
-    let mut bytes = b"wonderful\0\0\0\0\0\0\0".to_vec();
-    bytes.extend(b"\x01\0\0\0\x01\0\0\0\x89\0\0\0\xe8\xff\xff\xff");
-    bytes.resize(48, 0);
-    bytes.extend(controls(0x3c, 31));
-    bytes.extend(b"\0\xe0\xff\xff\xff\x01\0\0\0\x02\0\0\0");
-    bytes
+archives! {
+    /// The narrow archive of the map of 1 to 2.
+    one_to_two: b"\x01\0\0\0\x02\0\0\0", [0; 8], controls(0x28), NARROW;
+    /// The wide archive of the map of the empty string to 7, with 64-bit values.
+    empty_to_seven: [0xff; 16], b"\x07\0\0\0\0\0\0\0", [0; 24], controls(0x15), WIDE;
+    /// The narrow archive of the pairs 1 and "wonderful", and 1 and "x". The first string is out of line.
+    one_to_texts: b"wonderful", [0; 15], b"\x01\0\0\0x\xff\xff\xff\xff\xff\xff\xff",
+        b"\x01\0\0\0\x89\0\0\0\xd8\xff\xff\xff", b"\x28\x28\xff\x28\x28", [0xff; 26],
+        b"\0\xe0\xff\xff\xff\x02\0\0\0\x03\0\0\0";
+    /// The wide archive of the empty string to "wonderful".
+    empty_to_wonderful: [0xff; 16], b"wonderful", [0xff; 7], [0; 32], controls(0x15), WIDE;
+    /// The narrow archive of the set of 1.
+    set_of_one: b"\x01\0\0\0", [0; 4], controls(0x28), NARROW;
+    /// The wide archive of the set of the empty string.
+    set_of_empty: [0xff; 16], [0; 16], controls(0x15), WIDE;
+    /// The narrow archive of the index map of the pairs 1 and 2, 5 and 6, and 1 and 9: the indices 0, 1
+    /// and 2 in four buckets, 31 control bytes, the three pairs, and the header.
+    three_pairs: b"\x02\0\0\0\x01\0\0\0", [0; 8], b"\xff\x28\x4b\x28\xff\x28\x4b\x28", [0xff; 23],
+        b"\0\x01\0\0\0\x02\0\0\0\x05\0\0\0\x06\0\0\0\x01\0\0\0\x09\0\0\0",
+        b"\xc8\xff\xff\xff\x03\0\0\0\x04\0\0\0\xdc\xff\xff\xff";
+    /// The wide archive of the index map of the empty string to 7.
+    index_of_empty: [0; 16], controls(0x15), [0], [0xff; 16],
+        b"\x07\0\0\0\0\0\0\0\xc8\xff\xff\xff\xff\xff\xff\xff\x01\0\0\0\0\0\0\0",
+        b"\x02\0\0\0\0\0\0\0\xd0\xff\xff\xff\xff\xff\xff\xff";
+    /// The narrow archive of the index map of 1 to "wonderful", which is out of line.
+    index_to_text: [0; 8], controls(0x28), b"wonderful\x01\0\0\0\x89\0\0\0\xf3\xff\xff\xff",
+        b"\xcc\xff\xff\xff\x01\0\0\0\x02\0\0\0\xe8\xff\xff\xff";
+    /// The wide archive of the index map of the empty string to "wonderful".
+    index_of_empty_to_text: [0; 16], controls(0x15), [0], [0xff; 16], b"wonderful", [0xff; 7],
+        b"\xc0\xff\xff\xff\xff\xff\xff\xff\x01\0\0\0\0\0\0\0",
+        b"\x02\0\0\0\0\0\0\0\xc8\xff\xff\xff\xff\xff\xff\xff";
+    /// The narrow archive of the index map of the `i8` 1 to 2.
+    index_of_i8: [0; 8], controls(0x28),
+        b"\x01\x02\0\0\0\xdc\xff\xff\xff\x01\0\0\0\x02\0\0\0\xef\xff\xff\xff";
+    /// The narrow archive of the index map of 1 to the byte string ff.
+    index_to_bytes: [0; 8], controls(0x28),
+        b"\xff\x01\0\0\0\xfb\xff\xff\xff\x01\0\0\0\xd4\xff\xff\xff",
+        b"\x01\0\0\0\x02\0\0\0\xe8\xff\xff\xff";
+    /// The narrow archive of the index set of 1.
+    index_set_of_one: [0; 8], controls(0x28),
+        b"\0\x01\0\0\0\xdc\xff\xff\xff\x01\0\0\0\x02\0\0\0\xf0\xff\xff\xff";
+    /// The narrow archive of the map of the great number to 2, with values of 32 or of 64 bits.
+    great_to_two: b"\x01\0\0\0\x01\0\0\0\x02\0\0\0\0\0\0\0", [0; 16], controls(0x3c), NARROW;
+    /// The narrow archive of the map of the great number to "wonderful", which is out of line.
+    great_to_text: b"wonderful", [0; 7], b"\x01\0\0\0\x01\0\0\0\x89\0\0\0\xe8\xff\xff\xff", [0; 16],
+        controls(0x3c), NARROW;
+    /// The narrow archive of the set of the great number.
+    set_of_great: b"\x01\0\0\0\x01\0\0\0", [0; 8], controls(0x3c), NARROW;
+    /// The narrow archive of the index map of the great number to 2.
+    index_of_great: [0; 8], controls(0x3c), b"\0\x01\0\0\0\x01\0\0\0\x02\0\0\0\0\0\0\0",
+        b"\xd0\xff\xff\xff\x01\0\0\0\x02\0\0\0\xe4\xff\xff\xff";
 }
 
-/// The narrow archive of the set of the great number.
-fn set_of_great() -> Vec<u8> {
-    let mut bytes = vec![1, 0, 0, 0, 1];
-    bytes.resize(16, 0);
-    bytes.extend(controls(0x3c, 31));
-    bytes.extend(b"\0\xe0\xff\xff\xff\x01\0\0\0\x02\0\0\0");
-    bytes
-}
-
-/// The narrow archive of the index map of the great number to 2.
-fn index_of_great() -> Vec<u8> {
-    let mut bytes = vec![0; 8];
-    bytes.extend(controls(0x3c, 31));
-    bytes.extend(b"\0\x01\0\0\0\x01\0\0\0\x02\0\0\0\0\0\0\0");
-    bytes.extend(b"\xd0\xff\xff\xff\x01\0\0\0\x02\0\0\0\xe4\xff\xff\xff");
-    bytes
-}
-
-/// Builds the pairs of a map, opens the bytes, and looks up and iterates. The map is a hash map whose
-/// pairs are in this order in the archive too.
-fn test_map<K: Key + ?Sized, V: Value + ?Sized>(bytes: &[u8], width: Width, pairs: &[(&K, &V)]) {
+/// Builds the pairs of a map of a kind, opens the bytes, and looks up and iterates. The pairs are in this
+/// order in the archive too.
+fn test<K: Key + ?Sized, V: Value + ?Sized, C: Built>(
+    bytes: &[u8],
+    width: Width,
+    pairs: &[(&K, &V)],
+) {
     let builder: Builder<K, V> = pairs.iter().collect();
-    assert_eq!(builder.build_archive(width).unwrap().as_bytes(), bytes);
-    let map = Map::<K, V>::open_archive(bytes, width).unwrap();
+    assert_eq!(C::map(&builder, width, None).as_bytes(), bytes);
+    let map = Map::<K, V, C>::open_archive(bytes, width).unwrap();
     assert!(map
         .iter()
         .zip(pairs)
         .all(|(a, b)| a.0.borrow() == b.0 && a.1.borrow() == b.1));
     assert_eq!((map.len(), map.iter().count()), (pairs.len(), pairs.len()));
-    let first = map.get(pairs[0].0).unwrap();
-    assert!(first.borrow() == pairs[0].1);
-}
-
-/// As `test_map` for an index map.
-fn test_index<K: Key + ?Sized, V: Value + ?Sized>(bytes: &[u8], width: Width, pairs: &[(&K, &V)]) {
-    let builder: Builder<K, V> = pairs.iter().collect();
-    assert_eq!(
-        builder.build_index_archive(width).unwrap().as_bytes(),
-        bytes
-    );
-    let map = IndexMap::<K, V>::open_archive(bytes, width).unwrap();
-    assert!(map
-        .iter()
-        .zip(pairs)
-        .all(|(a, b)| a.0.borrow() == b.0 && a.1.borrow() == b.1));
-    assert_eq!(
-        (map.len(), map.get_index_of(pairs[0].0)),
-        (pairs.len(), Some(0))
-    );
+    assert!(map.get(pairs[0].0).unwrap().borrow() == pairs[0].1);
 }
 
 #[test]
 fn known_bytes_are_opened_and_built() {
-    test_map::<u32, u32>(&one_to_two(), Width::Narrow, &[(&1, &2)]);
-    test_map::<i32, i32>(&one_to_two(), Width::Narrow, &[(&1, &2)]);
-    test_map::<str, u64>(&empty_to_seven(), Width::Wide, &[("", &7)]);
-    test_map::<str, i64>(&empty_to_seven(), Width::Wide, &[("", &7)]);
+    test::<u32, u32, HashKind>(&one_to_two(), Width::Narrow, &[(&1, &2)]);
+    test::<i32, i32, HashKind>(&one_to_two(), Width::Narrow, &[(&1, &2)]);
+    test::<str, u64, HashKind>(&empty_to_seven(), Width::Wide, &[("", &7)]);
+    test::<str, i64, HashKind>(&empty_to_seven(), Width::Wide, &[("", &7)]);
     let pairs = [(&1, "wonderful"), (&1, "x")];
-    test_map::<u32, str>(&one_to_texts(), Width::Narrow, &pairs);
-    test_map::<str, str>(&empty_to_wonderful(), Width::Wide, &[("", "wonderful")]);
-    test_map::<u64, u32>(&great_to_two(), Width::Narrow, &[(&GREAT, &2)]);
-    test_map::<u64, u64>(&great_to_two(), Width::Narrow, &[(&GREAT, &2)]);
-    test_map::<u64, str>(&great_to_text(), Width::Narrow, &[(&GREAT, "wonderful")]);
+    test::<u32, str, HashKind>(&one_to_texts(), Width::Narrow, &pairs);
+    test::<str, str, HashKind>(&empty_to_wonderful(), Width::Wide, &[("", "wonderful")]);
+    test::<u64, u32, HashKind>(&great_to_two(), Width::Narrow, &[(&GREAT, &2)]);
+    test::<u64, u64, HashKind>(&great_to_two(), Width::Narrow, &[(&GREAT, &2)]);
+    test::<u64, str, HashKind>(&great_to_text(), Width::Narrow, &[(&GREAT, "wonderful")]);
     let pairs = [(&1, &2), (&5, &6), (&1, &9)];
-    test_index::<u32, u32>(&three_pairs(), Width::Narrow, &pairs);
-    test_index::<str, u64>(&index_of_empty(), Width::Wide, &[("", &7)]);
-    test_index::<u32, str>(&index_to_text(), Width::Narrow, &[(&1, "wonderful")]);
-    test_index::<str, str>(&index_of_empty_to_text(), Width::Wide, &[("", "wonderful")]);
-    test_index::<i8, i8>(&index_of_i8(), Width::Narrow, &[(&1, &2)]);
-    test_index::<u32, [u8]>(&index_to_bytes(), Width::Narrow, &[(&1, &[0xff])]);
-    test_index::<u64, u32>(&index_of_great(), Width::Narrow, &[(&GREAT, &2)]);
+    test::<u32, u32, IndexKind>(&three_pairs(), Width::Narrow, &pairs);
+    test::<str, u64, IndexKind>(&index_of_empty(), Width::Wide, &[("", &7)]);
+    test::<u32, str, IndexKind>(&index_to_text(), Width::Narrow, &[(&1, "wonderful")]);
+    test::<str, str, IndexKind>(&index_of_empty_to_text(), Width::Wide, &[("", "wonderful")]);
+    test::<i8, i8, IndexKind>(&index_of_i8(), Width::Narrow, &[(&1, &2)]);
+    test::<u32, [u8], IndexKind>(&index_to_bytes(), Width::Narrow, &[(&1, &[0xff])]);
+    test::<u64, u32, IndexKind>(&index_of_great(), Width::Narrow, &[(&GREAT, &2)]);
 
     fn test_set<K: Key + ?Sized>(bytes: &[u8], width: Width, item: &K) {
         let mut builder = SetBuilder::<K>::new();
@@ -322,37 +210,13 @@ fn damaged<T>(
 
 #[test]
 fn damaged_bytes_fail_with_position_and_numbers() {
+    #[rustfmt::skip]
     let rows = [
-        (
-            48,
-            0,
-            (OutOfRange, Some(-224), Some((47, 0))),
-            " (position -224, 47 bytes)",
-        ),
-        (
-            48,
-            0xe1,
-            (Unaligned, Some(1), Some((4, 0))),
-            " (position 1, alignment 4)",
-        ),
-        (
-            52,
-            2,
-            (InvalidLength, None, Some((2, 2))),
-            " (2 pairs, 2 buckets)",
-        ),
-        (
-            17,
-            0xff,
-            (WrongNumberOfElements, None, Some((1, 0))),
-            " (1 pairs, 0 full buckets)",
-        ),
-        (
-            19,
-            0xff,
-            (UnwrappedControlByte, None, Some((3, 0))),
-            " (index 3)",
-        ),
+        (48, 0, (OutOfRange, Some(-224), Some((47, 0))), " (position -224, 47 bytes)"),
+        (48, 0xe1, (Unaligned, Some(1), Some((4, 0))), " (position 1, alignment 4)"),
+        (52, 2, (InvalidLength, None, Some((2, 2))), " (2 pairs, 2 buckets)"),
+        (17, 0xff, (WrongNumberOfElements, None, Some((1, 0))), " (1 pairs, 0 full buckets)"),
+        (19, 0xff, (UnwrappedControlByte, None, Some((3, 0))), " (index 3)"),
     ];
     for (index, byte, parts, text) in rows {
         let open = |bytes: &[u8]| Map::<u32, u32>::open_archive(bytes, Width::Narrow).map(drop);

@@ -4,11 +4,11 @@
 mod common;
 
 use std::borrow::Borrow;
-use std::collections::{HashMap, HashSet};
+use std::collections::HashSet;
 use std::iter::FusedIterator;
 use std::panic::{catch_unwind, AssertUnwindSafe, RefUnwindSafe, UnwindSafe};
 
-use common::{kind_of, CHECKSUMS, WIDTHS};
+use common::kind_of;
 use hodkhaki::{
     index_map, AsItem, Builder, Checksum, Error, ErrorKind, HashKind, IndexKind, IndexMap,
     IndexMapBuf, IndexMapMut, Iter, Key, Keys, Kind, Map, MapBuf, MapMut, Number, Value, Values,
@@ -19,62 +19,13 @@ use hodkhaki::{
 const PAIRS: [(u32, u32); 3] = [(1, 2), (5, 6), (1, 9)];
 
 #[test]
-fn the_first_of_equal_keys_is_found() {
-    let builder = Builder::<u32, u32>::from(PAIRS);
-    let (map, index_map) = (builder.build().unwrap(), builder.build_index().unwrap());
-    assert_eq!((map.len(), map.is_empty(), index_map.len()), (3, false, 3));
-    assert_eq!(
-        (map.get(&1), map.get(&5), map.get(&2)),
-        (Some(2), Some(6), None)
-    );
-    assert_eq!((map.contains_key(&1), map.contains_key(&2)), (true, false));
-    assert_eq!((index_map.get(&1), index_map.at(&5)), (Some(2), 6));
-    assert_eq!(index_map.get_index_of(&1), Some(0));
-    assert_eq!(
-        (index_map.get_index_of(&5), index_map.get_index_of(&2)),
-        (Some(1), None)
-    );
-    assert_eq!(
-        (index_map.get_full(&5), index_map.get_full(&2)),
-        (Some((1, 5, 6)), None)
-    );
-    assert_eq!(
-        (index_map.get_key_value(&5), index_map.get_key_value(&2)),
-        (Some((5, 6)), None)
-    );
-}
-
-#[test]
-fn pairs_of_index_maps_are_in_insertion_order() {
-    let owned = Builder::<u32, u32>::from(PAIRS).build_index().unwrap();
-    let map = owned.as_map();
-    for (index, pair) in PAIRS.iter().enumerate() {
-        assert_eq!(map.get_index(index), Some(*pair));
-    }
-    assert_eq!((map.get_index(3), map.get_index(usize::MAX)), (None, None));
-    assert_eq!((map.first(), map.last()), (Some((1, 2)), Some((1, 9))));
-    assert!(map.iter().eq(PAIRS) && map.into_iter().eq(&map));
-    assert!(map.keys().eq([1, 5, 1]) && map.values().eq([2, 6, 9]));
-    assert!(map.iter().rev().eq([(1, 9), (5, 6), (1, 2)]));
-    assert_eq!(format!("{map:?}"), "{1: 2, 5: 6, 1: 9}");
-}
-
-#[test]
 fn empty_maps_have_no_pairs() {
-    for width in WIDTHS {
-        for checksum in CHECKSUMS {
-            let builder = Builder::<u32, u32>::new();
-            let map = builder.build_with(width, checksum).unwrap();
-            assert!(map.is_empty() && map.iter().next().is_none() && map.get(&1).is_none());
-            let mut map = builder.build_index_with(width, checksum).unwrap();
-            assert!(map.is_empty() && map.iter().next().is_none());
-            assert_eq!((map.get(&1), map.first(), map.last()), (None, None, None));
-            let map = map.as_map_mut();
-            assert_eq!((map.get(&1), map.first(), map.last()), (None, None, None));
-        }
-        let map = Builder::<str, str>::new().build_archive(width).unwrap();
-        assert!(map.is_empty() && map.get("").is_none());
-    }
+    let mut map = Builder::<u32, u32>::new().build_index().unwrap();
+    let map = map.as_map_mut();
+    assert_eq!(
+        (map.get(&1), map.first(), map.last(), map.iter().next()),
+        (None, None, None, None)
+    );
 }
 
 #[test]
@@ -125,37 +76,6 @@ fn values_are_written_in_place() {
         (Some((1, u32::MAX)), Some((1, 9)))
     );
     assert_eq!(owned.get(&1), Some(u32::MAX));
-}
-
-/// The errors of keys in C are no errors here: each type takes its own numbers.
-#[test]
-fn types_take_their_own_numbers() {
-    let mut map = Builder::<i8, i16>::from([(-1, -1), (1, i16::MIN)])
-        .build()
-        .unwrap();
-    assert_eq!(
-        (map.get(&-1), map.get(&1), map.get(&-2)),
-        (Some(-1), Some(i16::MIN), None)
-    );
-    assert!(map.as_map_mut().set(&-1, i16::MAX) && !map.as_map_mut().set(&0, 1));
-    assert_eq!(map.at(&-1), i16::MAX);
-    let map = Builder::<char, bool>::from([('ä', true), ('\0', false)])
-        .build()
-        .unwrap();
-    assert_eq!(
-        (map.get(&'ä'), map.get(&'\0'), map.get(&'a')),
-        (Some(true), Some(false), None)
-    );
-    let mut map = Builder::<u8, f64>::from([(7, -0.0)]).build_index().unwrap();
-    assert!(map.at(&7).is_sign_negative() && map.as_map_mut().set(&7, f64::NAN));
-    assert!(map.at(&7).is_nan());
-    let map = Builder::<str, [u8]>::from([("a", &[0xff, 0][..]), ("b", b"")])
-        .build()
-        .unwrap();
-    assert_eq!(
-        (map.get("a"), map.get("b")),
-        (Some(&[0xff, 0][..]), Some(&b""[..]))
-    );
 }
 
 /// Compares iterators over as many pairs with those of a vector, from both sides.
@@ -245,13 +165,14 @@ fn iterators_of_maps_return_the_pairs_that_remain() {
 fn maps_are_shown_as_maps() {
     let owned = Builder::<str, u32>::from([("a", 1)]).build().unwrap();
     let map = owned.as_map();
-    let shown = format!(
-        "{owned:?} {map:?} {:?} {:?} {:?}",
-        map.iter(),
-        map.keys(),
-        map.values()
-    );
+    let (iter, keys, values) = (map.iter(), map.keys(), map.values());
+    let shown = format!("{owned:?} {map:?} {iter:?} {keys:?} {values:?}");
     assert_eq!(shown, r#"{"a": 1} {"a": 1} [("a", 1)] ["a"] [1]"#);
+    let owned = Builder::<u32, u32>::from(PAIRS).build_index().unwrap();
+    let map = owned.as_map();
+    assert_eq!(format!("{map:?}"), "{1: 2, 5: 6, 1: 9}");
+    assert!(map.iter().eq(PAIRS) && map.into_iter().eq(&map));
+    assert!(map.keys().eq([1, 5, 1]) && map.values().eq([2, 6, 9]));
 }
 
 #[test]
@@ -272,37 +193,14 @@ fn an_absent_key_panics_with_a_text() {
 #[test]
 fn errors_display_sentences() {
     use ErrorKind::*;
+    #[rustfmt::skip]
     let errors = [
-        OutOfRange,
-        Unaligned,
-        InvalidLength,
-        WrongNumberOfElements,
-        UnwrappedControlByte,
-        PlaceOutOfRange,
-        InvalidValue,
-        IsContainer,
-        NoMemory,
-        CapacityTooLarge,
-        PositionTooLarge,
-        DistanceTooLarge,
-        TextTooLong,
-        ContainerTooShort,
-        WrongMagic,
-        UnsupportedVersion,
-        UnknownCollection,
-        UnknownKeyType,
-        UnknownValueType,
-        UnknownWidth,
-        UnknownFlags,
-        UnexpectedChecksum,
-        NonzeroReserved,
-        WrongCollection,
-        WrongKeyType,
-        WrongValueType,
-        WrongWidth,
-        WrongLength,
-        WrongChecksum,
-        UnsupportedKind,
+        OutOfRange, Unaligned, InvalidLength, WrongNumberOfElements, UnwrappedControlByte,
+        PlaceOutOfRange, InvalidValue, IsContainer, NoMemory, CapacityTooLarge, PositionTooLarge,
+        DistanceTooLarge, TextTooLong, ContainerTooShort, WrongMagic, UnsupportedVersion,
+        UnknownCollection, UnknownKeyType, UnknownValueType, UnknownWidth, UnknownFlags,
+        UnexpectedChecksum, NonzeroReserved, WrongCollection, WrongKeyType, WrongValueType,
+        WrongWidth, WrongLength, WrongChecksum, UnsupportedKind,
     ];
     let mut texts = HashSet::from([Status(99).to_string()]);
     for error in errors {
@@ -355,37 +253,28 @@ fn builders_keep_their_pairs() {
     assert!(Builder::<u32, str>::default().is_empty());
 }
 
-/// The four ways to build a map return the same archive, with a container and without.
 #[test]
 fn built_maps_own_their_bytes() {
     let builder = Builder::<u32, u32>::from(PAIRS);
-    for width in WIDTHS {
-        let archive = builder.build_archive(width).unwrap();
-        let index_archive = builder.build_index_archive(width).unwrap();
-        assert_eq!(
-            (archive.as_bytes(), archive.as_ref()),
-            (archive.as_archive(), archive.as_archive())
-        );
-        for checksum in CHECKSUMS {
-            let map = builder.build_with(width, checksum).unwrap();
-            assert_eq!((map.as_archive(), map.len()), (archive.as_bytes(), 3));
-            assert_eq!(map.as_bytes(), archive.to_container(checksum));
-            assert_eq!(Vec::from(map.clone()), map.into_bytes());
-            let map = builder.build_index_with(width, checksum).unwrap();
-            assert_eq!((map.as_archive(), map.len()), (index_archive.as_bytes(), 3));
-            assert_eq!(map.as_bytes(), index_archive.to_container(checksum));
-        }
-    }
-    let default = builder
-        .build_with(Width::default(), Checksum::default())
-        .unwrap();
-    assert_eq!(builder.build().unwrap().as_bytes(), default.as_bytes());
-    let default = builder
-        .build_index_with(Width::default(), Checksum::default())
-        .unwrap();
+    let (width, checksum) = (Width::default(), Checksum::default());
+    let archive = builder.build_archive(width).unwrap();
     assert_eq!(
-        builder.build_index().unwrap().as_bytes(),
-        default.as_bytes()
+        (archive.as_bytes(), archive.as_ref()),
+        (archive.as_archive(), archive.as_archive())
+    );
+    let map = builder.build().unwrap();
+    assert_eq!(
+        map.as_bytes(),
+        builder.build_with(width, checksum).unwrap().as_bytes()
+    );
+    assert_eq!(Vec::from(map.clone()), map.into_bytes());
+    let map = builder.build_index().unwrap();
+    assert_eq!(
+        map.as_bytes(),
+        builder
+            .build_index_with(width, checksum)
+            .unwrap()
+            .as_bytes()
     );
 }
 
@@ -436,55 +325,6 @@ fn several_keys_have_the_values_that_each_has() {
         texts.get_many(words.iter().map(String::as_str)),
         [Some("Kuchen"), None, Some("Tee"), Some("Kuchen")]
     );
-}
-
-/// Compares a map with one of std that has the first value of each key.
-fn compare_with_std<K: Key + ?Sized, V: Number + Ord>(pairs: &[(&K, V)], absent: &[&K]) {
-    let mut first = HashMap::new();
-    for (key, value) in pairs {
-        first.entry(*key).or_insert(*value);
-    }
-    for width in WIDTHS {
-        let map = pairs
-            .iter()
-            .copied()
-            .collect::<Builder<K, V>>()
-            .build_archive(width)
-            .unwrap();
-        assert_eq!(map.len(), pairs.len());
-        assert!(first
-            .iter()
-            .all(|(key, value)| map.get(key) == Some(*value)));
-        assert!(absent
-            .iter()
-            .all(|key| map.get(key) == first.get(key).copied()));
-        let listed = common::sorted(map.iter().map(|(k, v)| (k.to_string(), v)));
-        let wanted = common::sorted(pairs.iter().map(|(k, v)| (k.to_string(), *v)));
-        assert_eq!(listed, wanted);
-    }
-}
-
-#[test]
-fn maps_are_those_of_std() {
-    // A sequence of numbers in which keys repeat.
-    let numbers: Vec<u32> = (0..3000_u32)
-        .map(|n| n.wrapping_mul(2_654_435_761) % 4000)
-        .collect();
-    let texts: Vec<String> = numbers
-        .iter()
-        .map(|n| format!("{n}ö").repeat(*n as usize % 9))
-        .collect();
-    for count in [0, 1, 6, 7, 8, 14, 16, 100, 3000] {
-        let pairs: Vec<_> = numbers.iter().zip(0_u32..).take(count).collect();
-        compare_with_std(&pairs, &[&4000, &u32::MAX]);
-        let pairs: Vec<_> = numbers.iter().zip(1_u64 << 50..).take(count).collect();
-        compare_with_std(&pairs, &[&4000, &u32::MAX]);
-        let names = || texts.iter().map(String::as_str);
-        let pairs: Vec<_> = names().zip(-2_i32..).take(count).collect();
-        compare_with_std(&pairs, &["ö", "", "a text that is out of line"]);
-        let pairs: Vec<_> = names().zip(1_u64 << 50..).take(count).collect();
-        compare_with_std(&pairs, &["ö", "", "a text that is out of line"]);
-    }
 }
 
 /// The sum of the values of a map of either kind, each found by its key.
@@ -558,28 +398,6 @@ fn types_are_not_recorded_without_a_container() {
         Width::Narrow,
     ));
     assert_eq!(error, Some(ErrorKind::IsContainer));
-}
-
-#[test]
-fn threads_share_a_map() {
-    let builder: Builder<u32, u64> = (0..100).map(|key| (key, u64::from(key) << 40)).collect();
-    let (map, index_map) = std::thread::spawn(move || (builder.build(), builder.build_index()))
-        .join()
-        .unwrap();
-    let (map, index_map) = (map.unwrap(), index_map.unwrap());
-    let (map, index_map) = (map.as_map(), index_map.as_map());
-    let found = |first| {
-        (first..100)
-            .step_by(2)
-            .filter_map(|key| map.get(&key))
-            .sum::<u64>()
-    };
-    let (sum, index_sum) = std::thread::scope(|scope| {
-        let even = scope.spawn(move || found(0));
-        let all = scope.spawn(move || total(index_map));
-        (found(1) + even.join().unwrap(), all.join().unwrap())
-    });
-    assert_eq!((sum, index_sum), (4950 << 40, 4950 << 40));
 }
 
 #[test]

@@ -5,58 +5,15 @@ mod common;
 use std::collections::HashSet;
 use std::panic::catch_unwind;
 
-use common::{kind_of, text_of_length, CHECKSUMS, WIDTHS};
-use hodkhaki::{
-    Builder, ErrorKind, IndexMap, IndexSet, IndexSetBuf, Kind, Map, Members, Set, SetBuf,
-    SetBuilder, Width,
-};
+use common::{kind_of, CHECKSUMS};
+use hodkhaki::{ErrorKind, IndexSet, IndexSetBuf, Kind, Members, Set, SetBuf, SetBuilder, Width};
 
 #[test]
-fn items_are_found() {
-    for width in WIDTHS {
-        let bytes = SetBuilder::<u32>::from([1])
-            .build_archive(width)
-            .unwrap()
-            .into_bytes();
-        let set = Set::<u32>::open_archive(&bytes, width).unwrap();
-        assert_eq!((set.len(), set.is_empty(), set.width()), (1, false, width));
-        assert_eq!((set.contains(&1), set.contains(&2)), (true, false));
-        assert!(set.iter().eq([1]) && set.into_iter().eq(&set));
-        assert_eq!(format!("{set:?} {:?}", set.iter()), "{1} [1]");
-        let set = SetBuilder::<str>::new().build_archive(width).unwrap();
-        assert!(set.is_empty() && !set.contains("") && set.iter().next().is_none());
-        let set = SetBuilder::<char>::new()
-            .build_index_archive(width)
-            .unwrap();
-        assert!(set.is_empty() && set.as_set().first().is_none() && set.as_set().last().is_none());
-    }
-}
-
-#[test]
-fn items_survive_in_both_widths() {
-    let texts: Vec<String> = (0..100).map(text_of_length).collect();
-    let squares: Vec<u32> = (0..1000u32).map(|n| n * n).collect();
-    for width in WIDTHS {
-        let builder = SetBuilder::from(&squares);
-        let (set, index_set) = (
-            builder.build_archive(width).unwrap(),
-            builder.build_index_archive(width).unwrap(),
-        );
-        assert!(squares
-            .iter()
-            .all(|n| set.contains(n) && index_set.contains(n)));
-        assert!(!set.contains(&2) && !index_set.contains(&2));
-        assert_eq!(
-            set.iter().collect::<HashSet<_>>(),
-            squares.iter().copied().collect()
-        );
-        assert!(set.len() == 1000 && index_set.iter().eq(squares.iter().copied()));
-
-        let set = SetBuilder::from(&texts).build_archive(width).unwrap();
-        assert!(texts.iter().all(|text| set.contains(text)) && !set.contains("another"));
-        let found: HashSet<&str> = set.iter().collect();
-        assert!(found == texts.iter().map(String::as_str).collect() && set.len() == 100);
-    }
+fn sets_are_shown_as_sets() {
+    let owned = SetBuilder::<u32>::from([1]).build().unwrap();
+    let set = owned.as_set();
+    assert!(set.iter().eq([1]) && set.into_iter().eq(&set));
+    assert_eq!(format!("{set:?} {:?}", set.iter()), "{1} [1]");
 }
 
 #[test]
@@ -135,26 +92,14 @@ fn containers_open_as_their_own_types() {
     for checksum in CHECKSUMS {
         let owned = builder.build_with(Width::Narrow, checksum).unwrap();
         let container = owned.as_bytes();
-        let set = Set::<u32>::open(container).unwrap();
-        assert!(set.contains(&1) && set.len() == 1);
-        assert_eq!(
+        let errors = [
+            kind_of(Set::<u32>::open(container)),
             kind_of(Set::<str>::open(container)),
-            Some(ErrorKind::WrongKeyType)
-        );
-        assert_eq!(
             kind_of(Set::<i32>::open(container)),
-            Some(ErrorKind::WrongKeyType)
-        );
-        assert_eq!(
-            kind_of(IndexSet::<u32>::open(container)),
-            Some(ErrorKind::WrongCollection)
-        );
-        assert_eq!(
-            kind_of(Map::<u32, u32>::open(container)),
-            Some(ErrorKind::WrongCollection)
-        );
-        let wide = Set::<u32>::open_with_width(container, Width::Wide);
-        assert_eq!(kind_of(wide), Some(ErrorKind::WrongWidth));
+            kind_of(Set::<u32>::open_with_width(container, Width::Wide)),
+        ];
+        let wrong = Some(ErrorKind::WrongKeyType);
+        assert_eq!(errors, [None, wrong, wrong, Some(ErrorKind::WrongWidth)]);
         assert!(SetBuf::<u32, _>::open_with_width(container, Width::Narrow).is_ok());
         let mut written = Vec::new();
         owned.write_container(checksum, &mut written).unwrap();
@@ -168,16 +113,6 @@ fn containers_open_as_their_own_types() {
         );
         assert_eq!(Vec::from(owned.clone()), written);
     }
-    let map = Builder::<u32, u32>::from([(1, 2)]).build_index().unwrap();
-    assert_eq!(
-        kind_of(Set::<u32>::open(map.as_bytes())),
-        Some(ErrorKind::WrongCollection)
-    );
-    assert_eq!(
-        kind_of(IndexSet::<u32>::open(map.as_bytes())),
-        Some(ErrorKind::WrongCollection)
-    );
-    assert!(IndexMap::<u32, u32>::open(map.as_bytes()).is_ok());
 }
 
 /// Code over sets of either kind.
