@@ -8,17 +8,43 @@ mod read;
 mod table;
 mod write;
 
-use crate::library::{Calls, Numbers, Ordered};
+use crate::archived::{Archive, ListedKey};
+use hodkhaki::{HashKind, IndexKind};
+
+/// The calls for maps of a type of keys and of a kind.
+pub struct Calls<Q: ListedKey, C> {
+    pub build: Option<Build<Q>>,
+    pub lookup: Option<Lookup<Q, C>>,
+    pub iterate: Option<Iterate<Q, C>>,
+}
+
+impl<Q: ListedKey, C> Calls<Q, C> {
+    /// No calls.
+    pub const NONE: Self = Calls {
+        build: None,
+        lookup: None,
+        iterate: None,
+    };
+}
+
+/// Archives keys and values into the front of a slice. Returns the archive's length.
+pub type Build<Q> = fn(&[Q], &[u32], &mut [u8]) -> usize;
+
+/// Returns the sum of the values of the keys, plus `MISS` for each key that isn't found.
+pub type Lookup<Q, C> = fn(&[Q], &Archive<'_, Q, C>) -> u64;
+
+/// Returns the sum of the values.
+pub type Iterate<Q, C> = fn(&Archive<'_, Q, C>) -> u64;
 
 /// The calls for hash maps of numbers.
-pub const OF_NUMBERS: Calls<Numbers> = Calls {
+pub const OF_NUMBERS: Calls<u32, HashKind> = Calls {
     build: Some(write::build),
     lookup: Some(read::lookup),
     iterate: Some(read::iterate),
 };
 
 /// The calls for index maps of numbers. Index maps are only looked up.
-pub const OF_INDEX_MAPS: Calls<Ordered> = Calls {
+pub const OF_INDEX_MAPS: Calls<u32, IndexKind> = Calls {
     build: None,
     lookup: Some(read::lookup_index),
     iterate: None,

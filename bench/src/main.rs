@@ -1,4 +1,5 @@
-//! Measures archived hash maps against std's `HashMap`, and prints a table in Markdown.
+//! Measures the maps of the Rust crate `hodkhaki` beside std's `HashMap` and beside `limit`, and
+//! prints a table in Markdown.
 //!
 //! With the argument `--keep-memory`, the program keeps freed memory. With `--sizes` it takes fewer
 //! measures, of maps of 100 to 10,000,000 entries. With `--count SIDE CASE SIZE REPEATS` it only
@@ -6,316 +7,207 @@
 //!
 //! It first compares `limit` with the library, and stops if their results or archives differ.
 
+mod archived;
 mod check;
 mod clock;
 mod common;
 mod count;
 mod fx;
-mod library;
 mod limit;
+mod memory;
 mod random;
+mod std_maps;
 
-use clock::now;
+use archived::{build, Archive, ListedKey, MapKind};
 use common::{flags, median, numbers, sum, text_of, time_each, COUNTS, KEYS_A_VALUE, MISS, SIZES};
 use fx::BuildFx;
-use library::{Calls, InStd, Keys, Numbers, Ordered, Texts, ValidArchive};
+use hodkhaki::HashKind;
+use limit::Calls;
 use random::{XorShift32, XorShift64};
-use std::borrow::Borrow;
 use std::collections::HashMap;
 use std::hash::{BuildHasher, Hash, RandomState};
 use std::hint::black_box;
 use std::time::Duration;
+use std_maps::Owned;
 
 #[derive(Clone, Copy, PartialEq, Eq)]
 enum Measure {
-    Hash,
     Build,
-    // As `Build`, but std's map borrows its texts, and the archive owns them.
+    // As `Build`, but std's map borrows its strings, and the archive owns them.
     BuildBorrowed,
-    Access,
+    Open,
     Hits,
     Misses,
     Iterate,
-    // Reads an archive back into a map of std's. For std's side, a new map is filled.
-    ReadBack,
 }
 
-// The measures of each kind of keys.
-
 const OF_NUMBERS: &[Measure] = &[
-    Measure::Hash,
     Measure::Build,
-    Measure::Access,
+    Measure::Open,
     Measure::Hits,
     Measure::Misses,
     Measure::Iterate,
 ];
 
 const OF_TEXTS: &[Measure] = &[
-    Measure::Hash,
     Measure::Build,
     Measure::BuildBorrowed,
-    Measure::Access,
+    Measure::Open,
     Measure::Hits,
     Measure::Misses,
     Measure::Iterate,
 ];
-
-// The measures over the number of entries.
-const BY_SIZE: &[Measure] = &[
-    Measure::Build,
-    Measure::Access,
-    Measure::Hits,
-    Measure::Misses,
-    Measure::Iterate,
-];
-
-// The hashes of an index map's keys are those of a hash map's.
-const OF_INDEX_MAPS: &[Measure] = &[
-    Measure::Build,
-    Measure::Access,
-    Measure::Hits,
-    Measure::Misses,
-    Measure::Iterate,
-];
-
-// An archived map of std's is a hash map.
-const OF_STD_MAPS: &[Measure] = &[Measure::Build, Measure::ReadBack];
 
 impl Measure {
     fn name(self) -> &'static str {
         match self {
-            Measure::Hash => "hash",
             Measure::Build => "build",
             Measure::BuildBorrowed => "build, std of `&str`",
-            Measure::Access => "access",
+            Measure::Open => "open",
             Measure::Hits => "lookup, found",
             Measure::Misses => "lookup, not found",
             Measure::Iterate => "iteration",
-            Measure::ReadBack => "read back",
         }
     }
 }
 
 #[derive(Clone, Copy, PartialEq, Eq)]
 enum Contestant {
-    Ours,
+    Crate,
+    // Lookups by `get_many` of the crate.
+    Many,
     Sip,
     Fx,
     Limit,
 }
 
-const CONTESTANTS: [Contestant; 4] = [
-    Contestant::Ours,
+const CONTESTANTS: [Contestant; 5] = [
+    Contestant::Crate,
+    Contestant::Many,
     Contestant::Sip,
     Contestant::Fx,
     Contestant::Limit,
 ];
 
-/// A key for lookups in std's maps, and the key that they own.
-trait Key: Copy + Eq + Hash {
-    type Asked: ?Sized + Eq + Hash;
-
-    type Owned: Eq + Hash + Borrow<Self::Asked>;
-
-    fn asked(&self) -> &Self::Asked;
-
-    fn own(self) -> Self::Owned;
-
-    /// Returns the number that an iteration adds for a key.
-    fn weight(key: &Self::Asked) -> u64;
-}
-
-impl Key for u32 {
-    type Asked = u32;
-
-    type Owned = u32;
-
-    fn asked(&self) -> &u32 {
-        self
-    }
-
-    fn own(self) -> u32 {
-        self
-    }
-
-    fn weight(key: &u32) -> u64 {
-        u64::from(*key)
-    }
-}
-
-impl Key for &str {
-    type Asked = str;
-
-    type Owned = String;
-
-    fn asked(&self) -> &str {
-        self
-    }
-
-    fn own(self) -> String {
-        self.to_string()
-    }
-
-    fn weight(key: &str) -> u64 {
-        key.len() as u64
-    }
-}
-
-/// Keys and values of a map, the same keys in another order for lookups, and keys that it lacks.
-struct Workload<'a, K, Q> {
-    keys: &'a K,
-    hits: &'a K,
-    misses: &'a K,
-    key_list: &'a [Q],
-    hit_list: &'a [Q],
-    miss_list: &'a [Q],
+/// Keys and values of a map, the same keys in another order, and keys that it lacks.
+struct Workload<'a, Q> {
+    keys: &'a [Q],
+    hits: &'a [Q],
+    misses: &'a [Q],
     values: &'a [u32],
 }
 
-fn workload<'a, K, Q>(
-    [keys, hits, misses]: &'a [K; 3],
-    [key_list, hit_list, miss_list]: &'a [Vec<Q>; 3],
-    values: &'a [u32],
-) -> Workload<'a, K, Q> {
-    Workload {
-        keys,
-        hits,
-        misses,
-        key_list,
-        hit_list,
-        miss_list,
-        values,
+impl<'a, Q> Workload<'a, Q> {
+    fn new([keys, hits, misses]: &'a [Vec<Q>; 3], values: &'a [u32]) -> Self {
+        Workload {
+            keys,
+            hits,
+            misses,
+            values,
+        }
     }
 }
 
-/// Returns the mean time of several calls in a row, and the result of the last one.
-fn time<T>(times: usize, mut call: impl FnMut() -> T) -> (Duration, T) {
-    let mut result = None;
-    let begin = now();
-    for _ in 0..times {
-        result = Some(black_box(call()));
-    }
-    ((now() - begin) / times as u32, result.unwrap())
-}
+/// Times of a measure, and its result: a number of entries, or a sum.
+type Taken = (Duration, u64);
 
-fn build_std<K: Eq + Hash, S: BuildHasher + Default>(
-    keys: impl ExactSizeIterator<Item = K>,
-    values: &[u32],
-) -> HashMap<K, u32, S> {
-    let mut map = HashMap::with_capacity_and_hasher(keys.len(), S::default());
-    for (key, value) in keys.zip(values) {
-        map.insert(key, *value);
-    }
-    map
-}
-
-fn measure_std<Q: Key, K, S: BuildHasher + Default>(
+fn measure_crate<Q: ListedKey, C: MapKind>(
     measure: Measure,
     times: usize,
-    work: &Workload<'_, K, Q>,
-    map: &HashMap<Q::Owned, u32, S>,
-) -> (Duration, u64) {
-    let lookup = |list: &[Q]| {
-        sum(list
-            .iter()
-            .map(|key| map.get(key.asked()).map_or(MISS, |value| u64::from(*value))))
-    };
+    work: &Workload<'_, Q>,
+    archive: &Archive<'_, Q, C>,
+) -> Taken {
+    match measure {
+        Measure::Build | Measure::BuildBorrowed => {
+            let call = || build::<Q, C>(black_box(work.keys), work.values);
+            let (taken, built) = time_each(times, call);
+            assert!(built == archive.bytes(), "another archive was built");
+            (taken, work.values.len() as u64)
+        }
+        Measure::Open => time_each(times, || {
+            Archive::<Q, C>::open(black_box(archive.bytes())).len() as u64
+        }),
+        Measure::Hits => time_each(times, || archive.get_each(black_box(work.hits))),
+        Measure::Misses => time_each(times, || archive.get_each(black_box(work.misses))),
+        Measure::Iterate => time_each(times, || black_box(archive).iterate()),
+    }
+}
+
+fn measure_many<Q: ListedKey, C: MapKind>(
+    measure: Measure,
+    times: usize,
+    work: &Workload<'_, Q>,
+    archive: &Archive<'_, Q, C>,
+) -> Taken {
+    match measure {
+        Measure::Hits => time_each(times, || archive.get_many(black_box(work.hits))),
+        Measure::Misses => time_each(times, || archive.get_many(black_box(work.misses))),
+        _ => unreachable!("it only looks up"),
+    }
+}
+
+fn measure_std<Q: ListedKey + Eq + Hash, S: BuildHasher + Default>(
+    measure: Measure,
+    times: usize,
+    work: &Workload<'_, Q>,
+    map: &HashMap<Owned<Q>, u32, S>,
+) -> Taken {
     let count = work.values.len() as u64;
     match measure {
-        Measure::Hash => time(times, || {
-            let hasher = map.hasher();
-            sum(black_box(work.key_list)
-                .iter()
-                .map(|key| hasher.hash_one(key.asked())))
-        }),
         Measure::Build => {
-            let build = || {
-                let keys = black_box(work.key_list).iter().map(|key| key.own());
-                build_std::<Q::Owned, S>(keys, work.values)
-            };
-            (time_each(times, build).0, count)
+            let call = || std_maps::build_owned::<Q, S>(black_box(work.keys), work.values);
+            (time_each(times, call).0, count)
         }
         Measure::BuildBorrowed => {
-            let build = || {
-                let keys = black_box(work.key_list).iter().copied();
-                build_std::<Q, S>(keys, work.values)
-            };
-            (time_each(times, build).0, count)
+            let keys = || black_box(work.keys).iter().copied();
+            let call = || std_maps::build::<Q, S>(keys(), work.values);
+            (time_each(times, call).0, count)
         }
-        Measure::Access => unreachable!("it has no counterpart"),
-        Measure::Hits => time(times, || lookup(black_box(work.hit_list))),
-        Measure::Misses => time(times, || lookup(black_box(work.miss_list))),
-        Measure::Iterate => time(times, || {
-            sum(black_box(map)
-                .iter()
-                .map(|(key, value)| Q::weight(key.borrow()).wrapping_add(u64::from(*value))))
-        }),
-        Measure::ReadBack => time(times, || {
-            let keys = black_box(work.key_list).iter().map(|key| key.own());
-            build_std::<Q::Owned, S>(keys, work.values).len() as u64
+        Measure::Open => unreachable!("it has no counterpart"),
+        Measure::Hits => time_each(times, || std_maps::get_each(map, black_box(work.hits))),
+        Measure::Misses => time_each(times, || std_maps::get_each(map, black_box(work.misses))),
+        Measure::Iterate => time_each(times, || {
+            sum(black_box(map).values().map(|value| u64::from(*value)))
         }),
     }
 }
 
-fn measure_ours<Q, K: Keys>(
+fn measure_limit<Q: ListedKey, C: MapKind>(
     measure: Measure,
     times: usize,
-    work: &Workload<'_, K, Q>,
-    archive: &[u8],
-    valid: &ValidArchive<'_, K>,
-    out: &mut [u8],
-) -> (Duration, u64) {
-    match measure {
-        Measure::Hash => time(times, || black_box(work.keys).hash()),
-        Measure::Build | Measure::BuildBorrowed => {
-            let (duration, len) = time_each(times, || black_box(work.keys).build(work.values, out));
-            assert!(out[..len] == *archive, "another archive was built");
-            (duration, work.values.len() as u64)
-        }
-        Measure::Access => time(times, || K::access(black_box(archive)) as u64),
-        Measure::Hits => time(times, || black_box(work.hits).lookup(valid)),
-        Measure::Misses => time(times, || black_box(work.misses).lookup(valid)),
-        Measure::Iterate => time(times, || K::iterate(black_box(valid))),
-        Measure::ReadBack => time(times, || K::read_back(black_box(valid)) as u64),
-    }
-}
-
-fn measure_limit<Q, K: Keys>(
-    measure: Measure,
-    times: usize,
-    work: &Workload<'_, K, Q>,
-    valid: &ValidArchive<'_, K>,
-    limit: &Calls<K>,
-    out: &mut [u8],
-) -> (Duration, u64) {
-    let time_lookups = |keys: &K| {
+    work: &Workload<'_, Q>,
+    archive: &Archive<'_, Q, C>,
+    limit: &Calls<Q, C>,
+) -> Taken {
+    let look_up = |keys: &[Q]| {
         let lookup = limit.lookup.expect("it looks up");
-        time(times, || lookup(black_box(keys), valid))
+        time_each(times, || lookup(black_box(keys), archive))
     };
     match measure {
         Measure::Build => {
             let build = limit.build.expect("it builds");
-            let call = || build(black_box(work.keys), work.values, out);
-            let (duration, len) = time_each(times, call);
-            assert!(out[..len] == *valid.bytes(), "another archive was built");
-            (duration, work.values.len() as u64)
+            let mut out = vec![0; archive.bytes().len()];
+            let call = || build(black_box(work.keys), work.values, &mut out);
+            let (taken, len) = time_each(times, call);
+            assert!(out[..len] == *archive.bytes(), "another archive was built");
+            (taken, work.values.len() as u64)
         }
-        Measure::Hits => time_lookups(work.hits),
-        Measure::Misses => time_lookups(work.misses),
+        Measure::Hits => look_up(work.hits),
+        Measure::Misses => look_up(work.misses),
         Measure::Iterate => {
             let iterate = limit.iterate.expect("it iterates");
-            time(times, || iterate(black_box(valid)))
+            time_each(times, || iterate(black_box(archive)))
         }
         _ => unreachable!("it has no such call"),
     }
 }
 
 /// Returns whether a contestant takes a measure.
-fn takes<K>(contestant: Contestant, measure: Measure, limit: &Calls<K>) -> bool {
+fn takes<Q: ListedKey, C>(contestant: Contestant, measure: Measure, limit: &Calls<Q, C>) -> bool {
     match (contestant, measure) {
-        (Contestant::Ours, _) => true,
-        (Contestant::Sip | Contestant::Fx, _) => measure != Measure::Access,
+        (Contestant::Crate, _) => true,
+        (Contestant::Many, _) => matches!(measure, Measure::Hits | Measure::Misses),
+        (Contestant::Sip | Contestant::Fx, _) => measure != Measure::Open,
         (Contestant::Limit, Measure::Build) => limit.build.is_some(),
         (Contestant::Limit, Measure::Hits | Measure::Misses) => limit.lookup.is_some(),
         (Contestant::Limit, Measure::Iterate) => limit.iterate.is_some(),
@@ -323,23 +215,18 @@ fn takes<K>(contestant: Contestant, measure: Measure, limit: &Calls<K>) -> bool 
     }
 }
 
-fn run<Q: Key, K: Keys>(
+fn run<Q: ListedKey + Eq + Hash, C: MapKind>(
     kind: &str,
     measures: &[Measure],
-    limit: &Calls<K>,
-    work: &Workload<'_, K, Q>,
+    limit: &Calls<Q, C>,
+    work: &Workload<'_, Q>,
     rounds: usize,
 ) {
     let count = work.values.len();
-    let mut out = vec![0; 128 * count + 1024];
-    let len = work.keys.build(work.values, &mut out);
-    assert!(len > 0, "the map isn't archived");
-    let archive = out[..len].to_vec();
-    let valid: ValidArchive<'_, K> =
-        ValidArchive::new(&archive, count).expect("the archive is valid");
-    let owned = || work.key_list.iter().map(|key| key.own());
-    let sip: HashMap<Q::Owned, u32, RandomState> = build_std(owned(), work.values);
-    let fx: HashMap<Q::Owned, u32, BuildFx> = build_std(owned(), work.values);
+    let bytes = build::<Q, C>(work.keys, work.values);
+    let archive = Archive::<Q, C>::open(&bytes);
+    let sip: HashMap<_, u32, RandomState> = std_maps::build_owned(work.keys, work.values);
+    let fx: HashMap<_, u32, BuildFx> = std_maps::build_owned(work.keys, work.values);
 
     let mut tasks: Vec<(Measure, Contestant)> = Vec::new();
     for measure in measures.iter().copied() {
@@ -352,30 +239,21 @@ fn run<Q: Key, K: Keys>(
     let mut taken: Vec<(Measure, Contestant, Duration)> = Vec::new();
     let mut random = XorShift64::new();
     let times = KEYS_A_VALUE.div_ceil(count);
-    let hit_sum = sum(work.values.iter().map(|value| u64::from(*value)));
-    let pair_sum =
-        hit_sum.wrapping_add(sum(work.key_list.iter().map(|key| Q::weight(key.asked()))));
-    let hash_sum = sum(work
-        .key_list
-        .iter()
-        .map(|key| BuildFx::default().hash_one(key.asked())));
+    let value_sum = sum(work.values.iter().map(|value| u64::from(*value)));
     for _ in 0..rounds {
         random.shuffle(&mut tasks);
         for (measure, contestant) in &tasks {
             let (duration, result) = match contestant {
-                Contestant::Ours => measure_ours(*measure, times, work, &archive, &valid, &mut out),
+                Contestant::Crate => measure_crate(*measure, times, work, &archive),
+                Contestant::Many => measure_many(*measure, times, work, &archive),
                 Contestant::Sip => measure_std(*measure, times, work, &sip),
                 Contestant::Fx => measure_std(*measure, times, work, &fx),
-                Contestant::Limit => measure_limit(*measure, times, work, &valid, limit, &mut out),
+                Contestant::Limit => measure_limit(*measure, times, work, &archive, limit),
             };
             let expected = match measure {
-                Measure::Hash if *contestant == Contestant::Sip => result,
-                Measure::Hash => hash_sum,
-                Measure::Build | Measure::BuildBorrowed | Measure::ReadBack => count as u64,
-                Measure::Access => count as u64 + 1,
-                Measure::Hits => hit_sum,
+                Measure::Build | Measure::BuildBorrowed | Measure::Open => count as u64,
+                Measure::Hits | Measure::Iterate => value_sum,
                 Measure::Misses => MISS * count as u64,
-                Measure::Iterate => pair_sum,
             };
             assert_eq!(result, expected, "{}: another result", measure.name());
             taken.push((*measure, *contestant, duration));
@@ -383,26 +261,27 @@ fn run<Q: Key, K: Keys>(
     }
     for measure in measures.iter().copied() {
         // The nanoseconds for an entry.
-        let time_of = |contestant| {
+        let times = CONTESTANTS.map(|contestant| {
             let of_task = taken
                 .iter()
                 .filter(|(m, c, _)| (*m, *c) == (measure, contestant));
             let times: Vec<Duration> = of_task.map(|(_, _, duration)| *duration).collect();
             (!times.is_empty()).then(|| median(times) / count as f64)
-        };
-        let ours = time_of(Contestant::Ours).unwrap();
-        let others = [Contestant::Sip, Contestant::Fx, Contestant::Limit].map(time_of);
-        let ratios = others.map(|time| time.map(|time| ours / time));
-        print!("| {kind} | {count} | {} | {ours:.2} |", measure.name());
-        for number in others.into_iter().chain(ratios) {
+        });
+        let [ours, many, sip, fx, limit] = times;
+        let ratio = |time: Option<f64>, other: Option<f64>| Some(time? / other?);
+        let ratios = [
+            ratio(ours, sip),
+            ratio(ours, fx),
+            ratio(many, fx),
+            ratio(ours, limit),
+            ratio(many, limit),
+        ];
+        print!("| {kind} | {count} | {} |", measure.name());
+        for number in times.into_iter().chain(ratios) {
             print_cell(number);
         }
-        if measure == Measure::Access {
-            let of_a_byte = ours * count as f64 / len as f64;
-            println!(" {of_a_byte:.3} a byte of {len} |");
-        } else {
-            println!(" |");
-        }
+        println!();
     }
 }
 
@@ -414,39 +293,11 @@ fn print_cell(number: Option<f64>) {
     }
 }
 
-fn texts(numbers: &[u32]) -> Texts {
-    let mut texts = Texts::new();
-    for number in numbers {
-        texts.push(&text_of(*number));
-    }
-    texts
-}
-
 fn load() -> String {
     match std::fs::read_to_string("/proc/loadavg") {
         Ok(load) => load.split(' ').take(3).collect::<Vec<_>>().join(", "),
         Err(_) => "unknown".to_string(),
     }
-}
-
-// Index maps, and std's maps written and read back.
-fn run_other_maps(numbers: [Numbers; 3], lists: &[Vec<u32>; 3], values: &[u32], rounds: usize) {
-    let of_index_maps = numbers.map(Ordered);
-    run(
-        "index u32",
-        OF_INDEX_MAPS,
-        &limit::OF_INDEX_MAPS,
-        &workload(&of_index_maps, lists, values),
-        rounds,
-    );
-    let of_std_maps = of_index_maps.map(|list| InStd(list.0));
-    run(
-        "std u32",
-        OF_STD_MAPS,
-        &Calls::NONE,
-        &workload(&of_std_maps, lists, values),
-        rounds,
-    );
 }
 
 /// Returns keys, the same keys in another order, absent keys, and values.
@@ -469,13 +320,8 @@ fn main() {
         }
     }
     let [by_size, keeps] = flags(["--sizes", "--keep-memory"]);
-    let (counts, of_numbers, of_texts) = if by_size {
-        (SIZES, BY_SIZE, BY_SIZE)
-    } else {
-        (COUNTS, OF_NUMBERS, OF_TEXTS)
-    };
     if keeps {
-        library::keep_memory();
+        memory::keep();
     }
     let cores = std::thread::available_parallelism().map_or(0, usize::from);
     println!(
@@ -488,31 +334,35 @@ fn main() {
         }
     );
     println!();
-    println!("| keys | entries | measure | library, ns | std SipHash, ns | std Fx, ns | limit, ns | library / SipHash | library / Fx | library / limit | |");
-    println!("|---|--:|---|--:|--:|--:|--:|--:|--:|--:|---|");
-    for (count, rounds) in counts.iter().copied() {
-        let (lists, values) = lists(count);
-        let number_keys = lists.each_ref().map(|list| Numbers(list.clone()));
-        run(
-            "u32",
-            of_numbers,
-            &limit::OF_NUMBERS,
-            &workload(&number_keys, &lists, &values),
-            rounds,
-        );
-        let text_keys = lists.each_ref().map(|list| texts(list));
-        let text_lists = text_keys
+    println!("| keys | entries | measure | crate, ns | get_many, ns | std SipHash, ns | std Fx, ns | limit, ns | crate / SipHash | crate / Fx | get_many / Fx | crate / limit | get_many / limit |");
+    println!("|---|--:|---|--:|--:|--:|--:|--:|--:|--:|--:|--:|--:|");
+    for (count, rounds) in if by_size { SIZES } else { COUNTS }.iter().copied() {
+        let (numbers, values) = lists(count);
+        let work = Workload::new(&numbers, &values);
+        run("u32", OF_NUMBERS, &limit::OF_NUMBERS, &work, rounds);
+        let texts = numbers
             .each_ref()
-            .map(|list| list.iter().collect::<Vec<&str>>());
+            .map(|list| list.iter().copied().map(text_of).collect::<Vec<_>>());
+        let texts = texts
+            .each_ref()
+            .map(|list| list.iter().map(String::as_str).collect::<Vec<_>>());
+        let of_texts = if by_size { OF_NUMBERS } else { OF_TEXTS };
+        let text_work = Workload::new(&texts, &values);
         run(
             "text",
             of_texts,
-            &Calls::NONE,
-            &workload(&text_keys, &text_lists, &values),
+            &Calls::<_, HashKind>::NONE,
+            &text_work,
             rounds,
         );
         if !by_size {
-            run_other_maps(number_keys, &lists, &values, rounds);
+            run(
+                "index u32",
+                OF_NUMBERS,
+                &limit::OF_INDEX_MAPS,
+                &work,
+                rounds,
+            );
         }
     }
     println!();

@@ -1,16 +1,17 @@
 //! Lookups and iteration.
 
 use super::table::{hash, tag, Entry, Sizes, Stride, HEADER, STRIDE, WORD};
+use crate::archived::Archive;
 use crate::common::MISS;
-use crate::library::{Numbers, Ordered, ValidArchive};
+use hodkhaki::{HashKind, IndexKind};
 
 /// The size of the header of an index map: the header of a table, and a distance.
 const INDEX_HEADER: usize = HEADER + WORD;
 
 /// Returns the sum of the values of the keys, plus 2^32 for each key that isn't found.
 #[inline(never)]
-pub(super) fn lookup(keys: &Numbers, archive: &ValidArchive<'_, Numbers>) -> u64 {
-    let (keys, archive) = (&keys.0, archive.bytes());
+pub(super) fn lookup(keys: &[u32], archive: &Archive<'_, u32, HashKind>) -> u64 {
+    let archive = archive.bytes();
     match Table::decode(archive, archive.len() - HEADER) {
         Some(table) => sum_values(keys, &Map { table }),
         None => MISS * keys.len() as u64,
@@ -19,8 +20,8 @@ pub(super) fn lookup(keys: &Numbers, archive: &ValidArchive<'_, Numbers>) -> u64
 
 /// Returns the same sum as `lookup`, of an index map.
 #[inline(never)]
-pub(super) fn lookup_index(keys: &Ordered, archive: &ValidArchive<'_, Ordered>) -> u64 {
-    let (keys, archive) = (&keys.0 .0, archive.bytes());
+pub(super) fn lookup_index(keys: &[u32], archive: &Archive<'_, u32, IndexKind>) -> u64 {
+    let archive = archive.bytes();
     let header = archive.len() - INDEX_HEADER;
     match Table::decode(archive, header) {
         Some(table) => {
@@ -31,12 +32,12 @@ pub(super) fn lookup_index(keys: &Ordered, archive: &ValidArchive<'_, Ordered>) 
     }
 }
 
-/// Returns the sum of all keys and all values.
+/// Returns the sum of the values.
 #[inline(never)]
-pub(super) fn iterate(archive: &ValidArchive<'_, Numbers>) -> u64 {
+pub(super) fn iterate(archive: &Archive<'_, u32, HashKind>) -> u64 {
     let archive = archive.bytes();
     match Table::decode(archive, archive.len() - HEADER) {
-        Some(table) => sum_entries(&Map { table }),
+        Some(table) => sum_all_values(&Map { table }),
         None => 0,
     }
 }
@@ -187,9 +188,9 @@ fn value_or_miss(map: &impl Entries, key: u32) -> u64 {
     }
 }
 
-/// Returns the sum of all keys and all values.
+/// Returns the sum of all values.
 #[inline]
-fn sum_entries(map: &impl Entries) -> u64 {
+fn sum_all_values(map: &impl Entries) -> u64 {
     let table = map.table();
     let capacity = table.sizes.capacity;
     let mut total = 0u64;
@@ -199,10 +200,8 @@ fn sum_entries(map: &impl Entries) -> u64 {
         let mut marks = stride.full(capacity - index);
         while let Some(mark) = marks.first() {
             // SAFETY: the mark is full, and it is among the control bytes below the capacity.
-            let [key, value] = unsafe { map.entry(index + mark) };
-            total = total
-                .wrapping_add(u64::from(u32::from_le_bytes(key)))
-                .wrapping_add(u64::from(u32::from_le_bytes(value)));
+            let [_, value] = unsafe { map.entry(index + mark) };
+            total = total.wrapping_add(u64::from(u32::from_le_bytes(value)));
             marks.remove_first();
         }
     }

@@ -1,7 +1,6 @@
 //! Building of archives.
 
 use super::table::{hash, tag, Entry, Sizes, Stride, EMPTY, HEADER, WORD};
-use crate::library::Numbers;
 
 /// Archives a map of the keys into the front of `out`, and returns the length of the archive.
 ///
@@ -10,8 +9,7 @@ use crate::library::Numbers;
 ///
 /// Returns 0, with `out` unchanged, if the archive doesn't fit, or is too long for a narrow one.
 #[inline(never)]
-pub(super) fn build(keys: &Numbers, values: &[u32], out: &mut [u8]) -> usize {
-    let keys = &keys.0;
+pub(super) fn build(keys: &[u32], values: &[u32], out: &mut [u8]) -> usize {
     let count = keys.len().min(values.len());
     if count == 0 {
         return build_empty(out);
