@@ -143,7 +143,7 @@ impl<'a, K: KeyElement, V: Element, H: KeyHasher, W: Width> ArchivedHashMap<'a, 
     ///     Ok(prices.get(&name).map(|price| price.to_native()))
     /// }
     /// ```
-    #[inline]
+    #[inline(always)]
     pub fn get<Q: Query<K>>(self, key: &Q) -> Option<View<'a, V>>
         ensures { GetsKey value_part self.entry
             (lookup_of H.KeyHasher K.KeyElement Q.Query key.now) result }

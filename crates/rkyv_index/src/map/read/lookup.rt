@@ -128,7 +128,7 @@ impl<'a, K: KeyElement, V: Element, H: KeyHasher, W: IndexWidth> ArchivedIndexMa
     ///
     /// A lookup in an untrusted map may read all control bytes, and may miss a key that the query
     /// matches, unless `misplaced` is 0. `FxHasher64` doesn't protect from chosen keys.
-    #[inline]
+    #[inline(always)]
     pub fn get_full<Q: Query<K>>(self, key: &Q) -> Option<(usize, View<'a, K>, View<'a, V>)>
         ensures { GetsKey full_part self.entry
             (lookup_of H.KeyHasher K.KeyElement Q.Query key.now) result }
