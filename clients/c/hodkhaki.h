@@ -49,7 +49,7 @@ extern "C" {
 
 /* The version of this header, of the Rust crate and of a release: as numbers, and as a string. */
 #define HK_VERSION_MAJOR 0
-#define HK_VERSION_MINOR 1
+#define HK_VERSION_MINOR 2
 #define HK_VERSION_PATCH 0
 #define HK_VERSION HK_VERSION_STRING_(HK_VERSION_MAJOR, HK_VERSION_MINOR, HK_VERSION_PATCH)
 #define HK_VERSION_STRING_(major, minor, patch) HK_VERSION_QUOTED_(major, minor, patch)
