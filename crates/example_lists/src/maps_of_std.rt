@@ -1,4 +1,4 @@
-//! Lookups in an archived map of std and in an archived set of std.
+//! Lookups in an archived std map and in an archived std set.
 
 ghost use Rattle.std.specs.List.{list_any};
 ghost use Rattle.std.specs.Prelude.{◌==◌, ◌≡◌, Ok};
@@ -20,22 +20,22 @@ use std::hash::{BuildHasherDefault, FoldHasher};
 /// A map of numbers in a narrow archive.
 pub type Fares = HashMapOf<u32, u64>;
 
-/// The map of std that is archived as `Fares`.
+/// The std map that is archived as `Fares`.
 pub type FareMap = Hashed<HashMap<u32, u64>>;
 
 /// A map of texts to numbers in a narrow archive.
 pub type Ages = HashMapOf<Text, u8>;
 
-/// The map of std that is archived as `Ages`.
+/// The std map that is archived as `Ages`.
 pub type AgeMap = Hashed<HashMap<String, u8>>;
 
 /// A set of numbers in a narrow archive.
 pub type Lines = HashSetOf<u32>;
 
-/// The set of std that is archived as `Lines`.
+/// The std set that is archived as `Lines`.
 pub type LineSet = Hashed<HashSet<u32>>;
 
-/// Returns the value that the archived map of std has under the key.
+/// Returns the value that the archived std map has under the key.
 ///
 /// # Errors
 ///
@@ -55,7 +55,7 @@ pub fn fare_of(table: &[u8], line: u32) -> Result<Option<u64>, VerifyError>
     }
 }
 
-/// Returns the value that the archived map of std has under the name.
+/// Returns the value that the archived std map has under the name.
 ///
 /// The keys are `String`s, and a `&str` looks them up.
 ///
@@ -78,7 +78,7 @@ pub fn age_of(table: &[u8], name: &str) -> Result<Option<u8>, VerifyError>
     }
 }
 
-/// Returns `true` if and only if the archived set of std has the number.
+/// Returns `true` if and only if the archived std set has the number.
 ///
 /// # Errors
 ///

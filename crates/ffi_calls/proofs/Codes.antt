@@ -29,6 +29,6 @@ opened_of : (o : Option Collection) (b : List ℕ) (result : Explanation)
 opened_of None b result h = ap (λ r. r.status) h
 opened_of (Some c) b result h = opened h
 
--- the status of the explanation by codes is that of opening by these codes
+-- the status of the explanation by codes is the status of opening by these codes
 pub opened_by_codes : (codes : Codes) (b : List ℕ) (result : Explanation) → ExplainsByCodes codes b result → OpensByCodes codes b result.status
 opened_by_codes codes = opened_of (collection_of codes)

@@ -32,7 +32,7 @@ module _ {I V : Type 0} (Fits : I → Type 0) (IsOf : I → V → Type 0) (fits_
 
 -- `items`: the items. `IsOf`: the value of an item
 module _ {I V Z : Type 0} (IsOf : I → V → Type 0) (items : List I) where
-  -- the values are those of the first `n` items; the vector has room for the others
+  -- the values are the values of the first `n` items; the vector has room for the others
   abbrev pub Collecting : ℕ → Vec V Z → Type 0
   Collecting n values = AllZip IsOf (take n items) values.items × (vec_len values ≡ n) × (length items ≤ vec_capacity values)
 

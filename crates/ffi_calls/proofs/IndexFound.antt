@@ -25,6 +25,6 @@ module _ {K V H W : Type 0} {ks : Specs K} {vs : Specs V} {wt : Words W} (m : Ar
   pub key_there : {X : Type 0} (reads : List ℕ → ℕ → X → Type 0) (i : ℕ) (key : View K) (x : X) → reads key.archive.now key.pos x → IsKeyOf m i key → reads (index_bytes m) (pair_pos_at (index_at m) i) x
   key_there reads i key x read is = there (λ b q. reads b q x) key.archive _ key.pos _ (index_bytes m) is.at.0 refl is.at.1 read
 
-  -- a value at the view of a value is at that of its pair
+  -- a value at the view of a value is at the value of its pair
   pub value_there : {Y : Type 0} (reads : List ℕ → ℕ → Y → Type 0) (i : ℕ) (value : View V) (y : Y) → reads value.archive.now value.pos y → IsValueOf m i value → reads (index_bytes m) (value_pos_at (index_at m) i) y
   value_there reads i value y read is = there (λ b q. reads b q y) value.archive _ value.pos _ (index_bytes m) is.at.0 refl is.at.1 read

@@ -43,7 +43,7 @@ module _ {N : Type 0} (w : Width) (k v : ElementSpec) (e : Encoding N) (key_hash
       pub index_kept : (limit : ℕ) → IsValidArchive limit (index_map w k v) b → Viewable (index_map w k v) b p → length c ≡ length b → IsValidArchive limit (index_map w k v) c
       index_kept limit accepted viewable same = accepted_again limit (index_map w k v) b c p accepted at same (viewable_after (index_at p) set viewable)
 
-      -- the decoded header stays that of the map
+      -- the decoded header stays the header of the map
       pub index_keeps_header : length c ≡ length b → KeepsHeader (index_in w k v b) (index_in w k v c)
       index_keeps_header same header is =
           let here = subst (λ q. IsDecoded w b q header) (sym at) is in

@@ -10,7 +10,7 @@ use Rattle.ffi_calls.specs.declared.any_value.AnyValue.{AnyValue}
 use Rattle.ffi_calls.specs.declared.any_value.LookedUp.{LookedUp}
 
 module _ (t : Types AnyValue) (b : List ℕ) (before : List LookedUp) where
-  -- the first `n` results of `now` are those of the keys, and the others are as in `before`
+  -- the first `n` results of `now` are the results of the keys, and the others are as in `before`
   pub record Found (n : ℕ) (now : List LookedUp) : Type 0 where
     pub same : length now ≡ length before
     pub each : (i : ℕ) (old new : LookedUp) → i < n → slice_get before i ≡ Some old → slice_get now i ≡ Some new → IsLookedUp t b old new

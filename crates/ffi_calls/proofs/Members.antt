@@ -8,7 +8,7 @@ use Rattle.rkyv_keys.specs.{first_value}
 use Rattle.ffi_calls.specs.{IsAny}
 use Rattle.ffi_calls.specs.declared.any_value.IndexedValue.{IndexedValue}
 
--- pairs with the unit value are those of their keys
+-- pairs with the unit value are the pairs of their keys
 pub with_units_of_keys : {A : Type 0} (pairs : List (A × Unit {0})) → with_units (map (λ (pair : A × Unit {0}). pair.0) pairs) ≡ pairs
 with_units_of_keys [] = refl
 with_units_of_keys (x ∷ xs) = ap (λ pairs. x ∷ pairs) (with_units_of_keys xs)

@@ -9,7 +9,7 @@ use Rattle.rkyv_container.specs.declared.errors.ContainerError.TheVariants as co
 use Rattle.ffi_calls.specs.{Explains, Opens, container_status, explain, explain_container_error, explained, verify_status}
 use Rattle.ffi_calls.specs.declared.explanation.Explanation.{Explanation}
 
--- the status of an error's explanation is that of the error
+-- the status of an error's explanation is the status of the error
 explained_status : (e : VerifyError) → (explain e).status ≡ verify_status e
 unfolding explain verify_status
 explained_status (verify.OutOfRange pos size) = refl
@@ -25,11 +25,11 @@ opened_by : (limit : ℕ) (s : ElementSpec) (b : List ℕ) (result : Explanation
 opened_by limit s b result (inl h) = inl (h.0, ap (λ r. r.status) h.1)
 opened_by limit s b result (inr h) = inr (h.0, h.1, ap (λ r. r.status) h.2 ∙ explained_status h.0)
 
--- the status of the explanation is that of opening the archive
+-- the status of the explanation is the status of opening the archive
 pub opened : {limit : ℕ} {s : ElementSpec} {b : List ℕ} {result : Explanation} → Explains limit s b result → Opens limit s b result.status
 opened {limit} {s} {b} {result} e = opened_by limit s b result e.explains
 
--- the status of the explanation of a container's error is that of the error
+-- the status of the explanation of a container's error is the status of the error
 pub explained_container_status : (e : ContainerError) → (explain_container_error e).status ≡ container_status e
 unfolding explain_container_error container_status
 explained_container_status (container.TooShort len) = refl
@@ -49,7 +49,7 @@ explained_container_status (container.WrongWidth expected found) = refl
 explained_container_status (container.WrongLength expected found) = refl
 explained_container_status (container.WrongChecksum expected found) = refl
 
--- no status of a container's error is that of success
+-- no status of a container's error is the status of success
 pub container_status_above_0 : (e : ContainerError) → container_status e ≡ 0 → ⊥
 unfolding container_status
 container_status_above_0 (container.TooShort len) e = omega (arith, e)

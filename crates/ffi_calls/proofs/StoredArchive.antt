@@ -5,7 +5,7 @@ use Rattle.std.specs.declared.vec.Vec.{Vec}
 use Rattle.ffi_calls.specs.{Outputs}
 use Rattle.ffi_calls.specs.declared.building.Built.{Built}
 
--- what is output of the bytes of an archive, or of the status of an error
+-- the output: the bytes of an archive, or the status of an error
 abbrev Leaks : {Z : Type 0} → Built → ℕ → Built → Result (Vec ℕ Z) ℕ → Type 0
 Leaks before status after result = MatchResult result (λ v. (status ≡ 0) × (after.bytes.now ≡ v.items)) (λ error. (status ≡ error) × (after ≡ before))
 

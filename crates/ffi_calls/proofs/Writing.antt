@@ -33,7 +33,7 @@ module _ {N : Type 0} (w : Width) (k v : ElementSpec) (e : Encoding N) (key_hash
   viewable_after_set None h there = subst (λ x. Viewable (map_spec w k v) x p) (sym h.1) there
   viewable_after_set (Some q) h there = h.2.3.valid
 
-  -- the decoded header of the map is that of the map after the overwrite
+  -- the decoded header of the map is the header of the map after the overwrite
   header_after_set : (target : Option ℕ) → SetsFound w k v e key_hash b p value result c target → (header : Decoded) → IsDecoded w b p header → IsDecoded w c p header
   header_after_set None h header is = subst (λ x. IsDecoded w x p header) (sym h.1) is
   header_after_set (Some q) h header is = decoded_again w b c p h.2.3.table.header header is
@@ -60,7 +60,7 @@ module _ {N : Type 0} (w : Width) (k v : ElementSpec) (e : Encoding N) (key_hash
   pub set_kept : (limit : ℕ) → IsValidArchive limit (map_spec w k v) b → Viewable (map_spec w k v) b p → length c ≡ length b → IsValidArchive limit (map_spec w k v) c
   set_kept limit accepted viewable same = accepted_again limit (map_spec w k v) b c p accepted at same (viewable_after_set w k v e key_hash b p value result c (pos_at p) set viewable)
 
-  -- the decoded header stays that of the map
+  -- the decoded header stays the header of the map
   pub set_keeps_header : length c ≡ length b → KeepsHeader (map_in w k v b) (map_in w k v c)
   set_keeps_header same header is =
       let here = subst (λ q. IsDecoded w b q header) (sym at) is in

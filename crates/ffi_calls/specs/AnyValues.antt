@@ -7,8 +7,8 @@ use mir.Val.{bits}
 use Rattle.rkyv_base.specs.{Encoding, IsTextOf, byte_string_at, text_at, value_at}
 use Rattle.ffi_calls.specs.declared.any_value.AnyValue.{AnyValue}
 
--- A stored value at a position is that of the native value that the bytes there represent.
--- `reads`: the stored value at a position, `is_of`: a stored value is that of a native value
+-- A stored value at a position is the stored form of the native value that the bytes represent.
+-- `reads`: the stored value at a position, `is_of`: a stored value is of a native value
 abbrev pub Agrees : {X B : Type 0} → (List ℕ → ℕ → X → Type 0) → (List ℕ → ℕ → B → Type 0)
     → (X → B → Type 0) → Type 0
 Agrees {X} {B} reads represents is_of = (b : List ℕ) (p : ℕ) (out : X) (value : B)

@@ -36,7 +36,7 @@ most_of = by_flag 4_294_967_295 4_611_686_018_427_387_904
 abbrev pub IsMapArchive : Width → ℕ → ElementSpec → ElementSpec → List ℕ → Type 0
 IsMapArchive w limit k v b = IsValidArchive limit (map_spec w k v) b
 
--- `b` is valid and the status is 0, or the status is that of the first validation error
+-- `b` is valid and the status is 0, or the status is the first validation error's
 abbrev pub Opens : ℕ → ElementSpec → List ℕ → ℕ → Type 0
 Opens limit s b status = (IsValidArchive limit s b × (status ≡ 0))
     ⊎ ((e : VerifyError) × AccessFails limit s b e × (status ≡ verify_status e))

@@ -33,7 +33,7 @@ module _ {A B : Type 0} (a : Taken A AnyValue) (b : Taken B AnyValue) where
   abbrev pub HasPair : AnyPair → Type 0
   HasPair item = a.is_value item.key × b.is_value item.value
 
-  -- `item` has a native key and a native value, those of `pair`
+  -- `item` has a native key and a native value, which are in `pair`
   abbrev pub IsPairOf : AnyPair → A × B → Type 0
   IsPairOf item pair = HasPair item × a.shows item.key pair.0 × b.shows item.value pair.1
 

@@ -132,7 +132,7 @@ abbrev pub IsValidByCodes : Codes → List ℕ → Type 0
 IsValidByCodes codes b = IsSomeAnd (collection_of codes)
     (λ c. IsValidArchive (limit_of c.wide) (collection_spec c) b)
 
--- `b` is valid and the status is 0, or the status is that of the first validation error.
+-- `b` is valid and the status is 0, or the status is the first validation error's.
 -- It is 7 if the library has no collection with the codes.
 abbrev pub OpensByCodes : Codes → List ℕ → ℕ → Type 0
 OpensByCodes codes b status = MatchOption (collection_of codes) (status ≡ 7)

@@ -49,7 +49,7 @@ WritesContainerHeader codes checked a before status after =
     ((status ≡ 7) × (after ≡ before))
 
 -- The status is 0 and `after` is whether the header in `b` has the greater width.
--- Or it is that of the first error of the header, and `after` is `before`.
+-- Or it is the status of the first error of the header, and `after` is `before`.
 abbrev pub ReadsWidth : List ℕ → Bool → ℕ → Bool → Type 0
 ReadsWidth b before status after =
     ((h : Header) × IsHeader h b × (status ≡ 0) × (h.contents.width ≡ container_width_by after))
@@ -57,7 +57,7 @@ ReadsWidth b before status after =
     × (after ≡ before))
 
 -- The status is 0, and `after` has the archive of the container `b` with these contents.
--- Or the status is that of the first error of the container, and `after` is `before`.
+-- Or the status is of the first error of the container, and `after` is `before`.
 abbrev pub OpensAs : Contents → List ℕ → Opened → ℕ → Opened → Type 0
 OpensAs contents b before status after =
     (IsContainerOf contents after.archive.now b × (status ≡ 0))
@@ -70,7 +70,7 @@ OpensOwn expected b status = (contents : Contents) (a : List ℕ) → IsContaine
     → (status ≡ 0) ↔ (contents ≡ expected)
 
 -- The status is 0, and `after` has the archive of the container `b`, whose contents have the codes.
--- Or the status is that of the first error of the container, or 7 if no contents have the codes,
+-- Or the status is of the first error of the container, or 7 if no contents have the codes,
 -- and `after` is `before`.
 abbrev pub OpensContainer : Codes → List ℕ → Opened → ℕ → Opened → Type 0
 OpensContainer codes b before status after =
@@ -81,9 +81,9 @@ abbrev pub OpensOwnCodes : Codes → List ℕ → ℕ → Type 0
 OpensOwnCodes codes b status = (contents : Contents) (a : List ℕ) → IsContainerOf contents a b
     → (status ≡ 0) ↔ HasCodes codes contents
 
--- The container `before` becomes that of the bytes behind its header, and the status is 0.
+-- The container `before` becomes a container of the bytes behind its header, and the status is 0.
 -- Its contents, its length and whether it has a checksum stay. If the header has an error, or
--- another length, the status is that of the first error, and no byte is changed.
+-- another length, the status is of the first error, and no byte is changed.
 abbrev pub UpdatesContainer : List ℕ → ℕ → List ℕ → Type 0
 UpdatesContainer before status after =
     ((h : Header) × IsHeader h before × (h.len ≡ length (drop 32 before)) × (status ≡ 0)

@@ -1,4 +1,4 @@
--- Index maps that represent lists of pairs, in terms of the lists alone.
+-- Index maps that represent lists of pairs, in terms of only the lists.
 use Rattle.std.specs.Prelude.{◌≡◌, ℕ, ◌+◌, ◌-◌, ◌<◌, List, MatchOption, None, Option, Some, length}
 use Rattle.std.specs.Prelude.{min, slice_get}
 use Rattle.rkyv_keys.specs.{NativePairs}
@@ -23,7 +23,7 @@ HasValueAt {A} {B} is_of pairs i stored =
     (pair : A × B) × (slice_get pairs i ≡ Some pair) × is_of stored pair.1
 
 -- In an index map of a list, `result` has the index and the value of the first pair whose key is
--- accepted. Without one it is `None`. `is_of`: a stored value is that of a native one
+-- accepted. Without one it is `None`. `is_of`: a stored value is of a native one
 abbrev pub FindsFirstIndexed : {A B : Type 0} → MapAt → ValueQuery A
     → (List ℕ → ℕ → B → Type 0) → (AnyValue → B → Type 0) → Option IndexedValue → Type 0
 FindsFirstIndexed {A} {B} m a value is_of result = (factor : ℕ × ℕ) (pairs : List (A × B))
@@ -33,7 +33,7 @@ FindsFirstIndexed {A} {B} m a value is_of result = (factor : ℕ × ℕ) (pairs 
     × HasValueAt is_of pairs found.index found.value)
 
 -- `after` begins with the pairs from index `from` of the list on, at most as many as `before` has,
--- and `count` is their number. `key` and `value`: a stored key or value is that of a native one
+-- and `count` is their number. `key` and `value`: a stored key or value is of a native one
 abbrev pub StoresListed : {A B : Type 0} → MapAt → NativePairs A B → (AnyValue → A → Type 0)
     → (AnyValue → B → Type 0) → ℕ → List AnyItem → ℕ → List AnyItem → Type 0
 StoresListed {A} {B} m native key value from before count after =

@@ -51,7 +51,7 @@ module _ {A B : Type 0} (m : MapAt) (a : ValueQuery A) (value : List ℕ → ℕ
       (λ x. (q : ℕ) × (target ≡ Some q) × value m.bytes q x)
 
   -- `result` has the value of the first pair whose key is accepted, and the index 0. Without one
-  -- it is `None`. `IsValue`: a stored value is that of a native one
+  -- it is `None`. `IsValue`: a stored value is of a native one
   abbrev pub FindsFirstValue : (AnyValue → B → Type 0) → Option IndexedValue → Type 0
   FindsFirstValue IsValue result = (factor : ℕ × ℕ) (pairs : List (A × B))
       → PairsRepresent m query_pairs factor pairs

@@ -45,7 +45,7 @@ module _ {P : Type 0} (t : Types P) (b : List ℕ) where
         (query_of_key t.key.represents t.key.key_calls (t.key.eq key)) t.value.represents
         t.value.is_of result
 
-  -- `result` is that of the lookup of `key` in an index map if the flag is `true`, and in a hash
+  -- `result` is of the lookup of `key` in an index map if the flag is `true`, and in a hash
   -- map if it is `false`
   abbrev pub FindsKey : Bool → t.key.Native → Option IndexedValue → Type 0
   FindsKey false key result = FindsInMap key result
@@ -62,7 +62,7 @@ module _ {P : Type 0} (t : Types P) (b : List ℕ) where
   LooksUpIn key result = MatchResult result (FindsShown key) (t.key.is_none key)
 
   -- The status is 0 and the lookup of `key` finds `after`. Otherwise `after` is `before`: the
-  -- status is 1 and the lookup finds none, or it is that of a key that no native key has as its
+  -- status is 1 and the lookup finds none, or it is of a key that no native key has as its
   -- form.
   abbrev pub ReturnsIn : P → IndexedValue → ℕ → IndexedValue → Type 0
   ReturnsIn key before status after = ((status ≡ 0) × FindsShown key (Some after))
@@ -73,7 +73,7 @@ module _ (t : Types AnyValue) (b : List ℕ) where
   abbrev pub IsLookedUp : LookedUp → LookedUp → Type 0
   IsLookedUp old new = ReturnsIn t b old.found.value old.found new.status new.found
 
-  -- each lookup of `after` is that of `before` with its result
+  -- each lookup of `after` is the lookup of `before` with its result
   pub record StoresLookups (before after : List LookedUp) : Type 0 where
     pub number : length after ≡ length before
     pub each : (i : ℕ) (old new : LookedUp) → slice_get before i ≡ Some old

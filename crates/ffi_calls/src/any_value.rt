@@ -61,7 +61,7 @@ pub struct IndexedValue<'a> {
 pub struct LookedUp<'a> {
     /// The status of the lookup.
     pub status: u32,
-    /// The value is the key at first. If the status is 0, it is that of the pair, beside its index.
+    /// The value is the key at first. If the status is 0, it is the pair's value, beside its index.
     pub found: IndexedValue<'a>,
 }
 

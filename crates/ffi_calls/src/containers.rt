@@ -155,7 +155,7 @@ pub fn explain_container(bytes: &[u8], codes: Codes) -> Explanation
 
 /// Writes the header of a container anew after its archive was changed in place.
 ///
-/// The contents and the length stay. The checksum, if there is one, becomes that of the archive.
+/// The contents and the length stay. The checksum, if there is one, becomes the archive's.
 ///
 /// # Errors
 ///

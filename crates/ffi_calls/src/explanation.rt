@@ -8,7 +8,7 @@ use rkyv_container::ContainerError;
 
 /// The status of an error, its position and its other numbers.
 ///
-/// The numbers are those of the error, in order. A kind, a type or a width is its code.
+/// The numbers are the numbers of the error, in order. A kind, a type or a width is its code.
 /// A number that the error doesn't have is 0.
 #[repr(C)]
 #[derive(Clone, Copy)]

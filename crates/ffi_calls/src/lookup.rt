@@ -59,7 +59,7 @@ fn find_key<
 
 /// Looks up the key in `lookup`, and stores its result in place.
 ///
-/// The errors are those of `get`.
+/// It has the errors of `get`.
 #[inline]
 fn look_up<
     'a,

@@ -44,7 +44,7 @@ fn set_kind<'a, A: KeyFrom<AnyValue<'a>, K, W>, K: StoredKey<A>, V: Value, W: In
 
 /// Overwrites the value of a key, by the type of the values too.
 ///
-/// The errors are those of `set_value`.
+/// It has the errors of `set_value`.
 fn set_key<'a, A: KeyFrom<AnyValue<'a>, K, W>, K: StoredKey<A>, W: IndexWidth>(
     archive: &mut [u8],
     of: Collection,
@@ -73,7 +73,7 @@ fn set_key<'a, A: KeyFrom<AnyValue<'a>, K, W>, K: StoredKey<A>, W: IndexWidth>(
 
 /// Overwrites the value of a key of the type `A` in the form of calls.
 ///
-/// The errors are those of `set_value`.
+/// It has the errors of `set_value`.
 fn set_shown<'a, A: KeyFrom<AnyValue<'a>, K, W>, K: StoredKey<A>, W: IndexWidth>(
     archive: &mut [u8],
     of: Collection,
@@ -95,7 +95,7 @@ fn set_shown<'a, A: KeyFrom<AnyValue<'a>, K, W>, K: StoredKey<A>, W: IndexWidth>
 
 /// Overwrites the value of a key, by the type of the keys too.
 ///
-/// The errors are those of `set_value`.
+/// It has the errors of `set_value`.
 fn set_in_width<W: IndexWidth>(
     archive: &mut [u8],
     of: Collection,
@@ -121,7 +121,7 @@ fn set_in_width<W: IndexWidth>(
 
 /// Overwrites the value of a key of a collection.
 ///
-/// The errors are those of `set_value`.
+/// It has the errors of `set_value`.
 fn set_of(archive: &mut [u8], of: Collection, key: AnyValue<'_>, value: u64) -> u32
     requires { IsValidArchive (limit_of of.wide) (collection_spec of) archive.old }
     ensures keeps { KeepsCollection of archive.old archive.new }

@@ -43,7 +43,7 @@ fn pos_before(controls_pos: usize, bucket: usize, size: usize) -> u64
 
 /// Returns the first full bucket from `from` on, with the position of its pair.
 ///
-/// The buckets are those of the map in a valid archive.
+/// The buckets are the buckets of the map in a valid archive.
 #[inline]
 fn next_bucket<K: Element, V: Element, W: Width>(
     archive: &[u8],

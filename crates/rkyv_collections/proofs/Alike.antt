@@ -1,4 +1,4 @@
--- Maps whose keys feed no `usize` and no `isize`, under hashers that differ in these alone.
+-- Maps whose keys feed no `usize` and no `isize`, under hashers that differ only in these.
 use Rattle.std.proofs.lemmas.Grind.{common_steps}
 use Rattle.std.proofs.Common.{◌≡◌, ℕ, ◌<◌, ◌∙◌, arith, sym, ap, subst, Bool, List, length, map, slice_index}
 use Rattle.std.specs.Int.{Width}

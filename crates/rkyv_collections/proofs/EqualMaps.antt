@@ -41,7 +41,7 @@ module _ (w : Width) (k v : ElementSpec) (kl : IsElement k) (vl : IsElement v) (
     other_valid : (j : ℕ) → j < length others → ValidAt k c (pair_at w k v c r others j)
     other_valid = key_valid w k v kl vl key_hash c r others second.valid second.written
 
-    -- the value of the pair `i` of the first map is the same as that of the pair at `key_pos`
+    -- the value of the pair `i` of the first map is the same as the value of the pair at `key_pos`
     same_at : ℕ → ℕ → Bool
     same_at i key_pos = same_value b (pair_at w k v b p homes i + value_offset k v) c (key_pos + value_offset k v)
 
@@ -101,7 +101,7 @@ module _ (w : Width) (k v : ElementSpec) (kl : IsElement k) (vl : IsElement v) (
               matches_is i h ∙ rw some.1 (subst (λ z. same_at i z ≡ true) here both.1)
         ]
 
-    -- the pairs of the first map are matched with those of the second, no two with the same one
+    -- the pairs of the first map are matched with the second map's, no two with the same one
     matching : EachIsIn w k v key_hash same_key same_value b p homes c r others
         → IsMatching (length homes) (length others) (λ i j. entry_same k v same_key same_value b (pair_at w k v b p homes i) c (pair_at w k v c r others j))
     matching each = record {

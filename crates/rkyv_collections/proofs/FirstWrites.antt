@@ -17,7 +17,7 @@ use Rattle.rkyv_collections.proofs.ValueWrites.{written_value_represents}
 use Rattle.rkyv_collections.proofs.WrittenPairs.{pair_valid, pos_of_pair}
 
 module _ {A B : Type 0} (accept_value : A → Bool) (change : B → B) where
-  -- the found position is that of the pair `n`, which is the first accepted one of both lists
+  -- the found position is the position of the pair `n`, the first accepted one of both lists
   pub record IsNth (xs : List ℕ) (ys : List (A × B)) (found : Option ℕ) : Type 0 where
     pub n : ℕ
     pub pair : A × B

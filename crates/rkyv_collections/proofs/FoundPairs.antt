@@ -46,7 +46,7 @@ module _ {A B : Type 0} (k v : ElementSpec) (key : List ℕ → ℕ → A → Ty
   pub contains_listed : (key_pos : Option ℕ) (o : Option (A × B)) (result : Bool) → IsPosOfPair k v key value b key_pos o → IsFoundAt result key_pos → result ≡ is_some o
   contains_listed found o result t e = grind (arith, common_steps, true≢false)
 
--- the first accepted key is that of the first accepted pair
+-- the first accepted key is the key of the first accepted pair
 pub first_listed : (w : Width) (k v : ElementSpec) (kl : IsElement k) (vl : IsElement v) {A B : Type 0} (key : List ℕ → ℕ → A → Type 0) (value : List ℕ → ℕ → B → Type 0) (hash : List ℕ → ℕ → ℕ)
     (factor : ℕ × ℕ) (b : List ℕ) (p : ℕ) (pairs : List (A × B)) → Viewable (map_spec w k v) b p → (accept : ℕ → Bool) (accept_value : A → Bool) → AgreesOnKeys k key b accept accept_value
     → (h : MapRepresents w k v key value hash factor b p pairs)

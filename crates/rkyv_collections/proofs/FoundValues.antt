@@ -16,7 +16,7 @@ pub read_at : {K V H W : Type 0} {ks : Specs K} {vs : Specs V} {wt : Words W} (m
 read_at {K} {V} {H} {W} m v b p e at =
     (ap (λ (x : View (HashMapOf K V H W)). x.archive.now) e ∙ ap (λ (a : Bor (List ℕ)). a.now) at.0, ap (λ (x : View (HashMapOf K V H W)). x.pos) e ∙ at.1)
 
--- a found number is that of the list, and the list has none if none is found
+-- a found number is the list's, and the list has none if none is found
 pub number_listed : {V : Type 0} (num : List ℕ → ℕ → ℕ) (view : View V) (n : ℕ) (o : Option ℕ) → num view.archive.now view.pos ≡ n → IsFoundValue (λ b p v. num b p ≡ v) (Some view) o → Some n ≡ o
 number_listed num view n found e h = grind (arith, common_steps)
 

@@ -84,7 +84,7 @@ module _ {T S BK BV A B : Type 0} (inner : T → S) (steps : S → Option (BK ×
                 (mapped_fails (pair_of key value) (pair_format k v kf vf) w (entry_spec k v) factor xs o o' limit e h.3),
           )
 
-      -- the result of writing the table of the hashed pairs is that of writing the map
+      -- writing the table of the hashed pairs has the result of writing the map
       pub writes_as_map : (result : Result TableResolver (WriteError F))
           → MatchResult result (WroteItems (Drains KeyedStep s) len factor max TableOf o o' limit) (WriteItemsFails (Drains KeyedStep s) len factor max TableOf o o' limit (YieldsOtherCount KeyedStep len s))
           → MatchResult result (WroteItems (Drains steps (inner s)) len factor max MapOf o o' limit) (WriteItemsFails (Drains steps (inner s)) len factor max MapOf o o' limit (YieldsOtherCount steps len (inner s)))

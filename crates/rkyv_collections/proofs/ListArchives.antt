@@ -45,7 +45,7 @@ pub scalar_at_root : {K N H W : Type 0} {ks : Specs K} {vs : Specs N} {wt : Word
     (pos_found generic_kind wt.word (entry_spec ks.spec vs.spec).size archive.now (map_root wt.word ks.spec vs.spec archive.now) hash (fits archive.now))
 scalar_at_root {ks = ks} {vs = vs} {wt = wt} e m root archive hash fits found view at walked finds = grind (arith, scalar_behind, moved)
 
--- In the map at the root of an archive that represents a list of pairs, the first key that fits is that of the first pair with an equal key
+-- In the map at the root of an archive that represents a list of pairs, the first key that fits is in the first pair with an equal key
 pub record FirstInRoot {A B : Type 0} (w : Width) (k v : ElementSpec) (key : List ℕ → ℕ → A → Type 0) (value : List ℕ → ℕ → B → Type 0) (hash : List ℕ → ℕ → ℕ) (b : List ℕ) (p : ℕ)
     (accept : ℕ → Bool) (first : Option (A × B)) : Type 0 where
   pub homes : List ℕ
@@ -69,7 +69,7 @@ at_view : {K V H W : Type 0} {ks : Specs K} {vs : Specs V} {wt : Words W} (m : A
     → m.view ≡ root → IsAt root archive p → IsAt m.view archive p
 at_view m root archive p view at = (ap (λ x. x.archive) view ∙ at.0, ap (λ x. x.pos) view ∙ at.1)
 
--- the value that a lookup finds in it is that of the first pair
+-- the value that a lookup finds in it is the first pair's value
 pub found_listed : {A Q B K V W : Type 0} (H : Type 0) (wt : Words W) (ks : Specs K) (vs : Specs V) (keys : NativeKeys A Q) → FitsItsEqual ks.spec keys.represents keys.equal keys.fits
     → (values : FoundValues V B) → FindsByView values → FoundAreListed H wt ks vs keys values
 found_listed H wt ks vs keys native values by = λ m root archive factor pairs query found view at is walked finds_first.

@@ -19,7 +19,7 @@ use Rattle.rkyv_table.proofs.RawWalks.{walk_count}
 use Rattle.rkyv_collections.specs.{IsKeyPosAt, MapWrittenAt, RepeatedKeysAreMisplaced, map_misplaced, map_spec, pair_at}
 use Rattle.rkyv_collections.proofs.WrittenPairs.{hash_of_pair, len_is_count, pair_valid}
 
--- the number of repeated items is that of repeated positions
+-- the number of repeated items is the number of repeated positions
 module _ (at : ℕ → ℕ) (same : ℕ → ℕ → Bool) (homes : List ℕ) where
   any_earlier : (x : ℕ) (is : List ℕ) → list_any (λ j. same x (at j)) is ≡ list_any (same x) (map at is)
   any_earlier x [] = refl

@@ -1,4 +1,4 @@
--- Lookups in an archive of a map of std.
+-- Lookups in an archive of a std map.
 use Rattle.std.proofs.Common.{arith, ◌≡◌, ℕ, ◌+◌, refl, sym, ap, ◌∙◌, cond, ◌↔◌, Bool, true, List, [], ◌∷◌, None, Option, Some}
 use Rattle.std.proofs.lemmas.Grind.{common_steps}
 use Rattle.std.specs.Int.{Width}
@@ -77,7 +77,7 @@ module _ {State : Type 0} (hasher : Hasher State) (small : NumbersFit hasher) (w
       (sym (query.same_calls q b (pair_at w k v b p st.homes i) (valid_key kl vl b (pair_at w k v b p st.homes i) (pair_valid w k v kl vl hash b p st.homes view st.written i h)) accepted))) in
       grind (arith, common_steps, first_listed w k v kl vl key value hash factor b p entries view accept accept_value agrees st, first_looked_up accept_value entries, value_behind)
 
-  -- in any archive with the written bytes of a map of std
+  -- in any archive with the written bytes of a std map
   looked_up : IsArchiveWord w → (equal : A → A → Bool) {R : Type 0} (f : Format (List (A × B)) R)
       → IsFormat (map_spec w k v) (MapRepresents w k v key value (hash_at hasher key_calls) factor) f
       → IsFormat (map_spec w k v) (FindsEntries w k (hash_of hasher calls) fits key v value) (of_entries equal f)

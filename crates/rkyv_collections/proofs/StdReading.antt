@@ -1,4 +1,4 @@
--- Deserializing a map of std, pair by pair.
+-- Deserializing a std map, pair by pair.
 use Rattle.std.proofs.Common.{◌≡◌, ◌<◌, ℕ, arith, length, refl, ap, ◌∙◌, Bool, true, cond, subst, sym, List, [], ◌∷◌, ◌++◌, append_assoc, append-nil, Option, Some, None}
 use Rattle.std.proofs.lemmas.Grind.{common_steps}
 use Rattle.std.specs.Borrow.{Bor}
@@ -43,7 +43,7 @@ module _ {A B : Type 0} (w : Width) (k v : ElementSpec) (key : List ℕ → ℕ 
   abbrev pub all_positions : List ℕ
   all_positions = item_positions w (entry_spec k v).size archive.now p
 
-  -- The pairs before those of a walk over the archived map at `p` were inserted in order into an empty map.
+  -- The pairs before a walk over the archived map at `p` were inserted in order into an empty map.
   -- A lookup in it finds the values `found`, and the stored keys are `stored`
   pub record WalksOn (left : ItemsLeft) (found : A → Option B) (stored : List A) : Type 0 where
     pub same_archive : left.archive ≡ archive

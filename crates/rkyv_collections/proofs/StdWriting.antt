@@ -1,4 +1,4 @@
--- The result of writing exactly the values of a list, or the pairs of a map of std.
+-- The result of writing exactly the values of a list, or the pairs of a std map.
 use Rattle.std.proofs.Common.{◌≡◌, ℕ, sym, ap, ◌∙◌, Bool, List, length, map, Result, MatchResult, arith}
 use Rattle.std.proofs.lemmas.Grind.{common_steps}
 use Rattle.std.specs.Iterator.{Drains, YieldsFirstBy}

@@ -91,7 +91,7 @@ module _ {A B : Type 0} (w : Width) (k v : ElementSpec) (key : List ℕ → ℕ 
     positions : List ℕ
     positions = home_positions w (entry_spec k v).size b p represents.homes
 
-    -- the positions of the walk are those of the home buckets, in another order
+    -- the positions of the walk are the home buckets' positions, in another order
     walk_moved : IsPermutation positions (key_positions_at w k v b p)
     unfolding positions
     walk_moved =

@@ -36,7 +36,7 @@ module _ (w : Width) (k v : ElementSpec) (kl : IsElement k) (vl : IsElement v) (
   pub pos_of_pair : (i : ℕ) → i < length homes → slice_index (home_positions w (entry_spec k v).size b p homes) i ≡ pair_at w k v b p homes i
   pos_of_pair i h = home_pos w (entry_spec k v).size b p homes i h
 
-  -- the hash with the number `i` is that of the key with that number
+  -- the hash with the number `i` is the hash of the key with that number
   pub hash_of_pair : (i : ℕ) → i < length homes
       → slice_index (map (key_hash b) (home_positions w (entry_spec k v).size b p homes)) i ≡ key_hash b (pair_at w k v b p homes i)
   unfolding hashes positions

@@ -1,4 +1,4 @@
--- Lemmas that the laws of traits and implementations need. A law imports from specs/ alone.
+-- Lemmas that the laws of traits and implementations need. A law only imports from specs/.
 pub mod MapLaws
 pub mod MapSound
 pub mod SetSound

@@ -79,26 +79,26 @@ module _ {K V H W : Type 0} {ks : Specs K} {vs : Specs V} {wt : Words W} where
   abbrev pub IsKeyPos : ArchivedHashMap K V H W ks vs wt → ℕ → Type 0
   IsKeyPos m q = IsKeyPosAt wt.word ks.spec vs.spec (map_bytes m) (map_pos m) q
 
-  -- the view is that of a key of the map
+  -- the view is the view of a key of the map
   pub record IsKeyIn (m : ArchivedHashMap K V H W ks vs wt) (key : View K) : Type 0 where
     pub archive : archive_of key ≡ map_archive m
     pub viewable : IsValidView ks.spec key
     pub key_pos : IsKeyPos m (pos_of key)
 
-  -- the view is that of the value behind a key of the map
+  -- the view is the view of the value behind a key of the map
   pub record IsValueIn (m : ArchivedHashMap K V H W ks vs wt) (value : View V) : Type 0 where
     pub viewable : IsValidView vs.spec value
     pub key : ℕ
     pub walked : IsKeyPos m key
     pub at : IsAt value (map_archive m) (key + value_offset ks.spec vs.spec)
 
-  -- the views are those of a key of the map and of the value behind it
+  -- the views are the views of a key of the map and of the value behind it
   pub record IsPairIn (m : ArchivedHashMap K V H W ks vs wt) (pair : View K × View V) : Type 0 where
     pub key : IsKeyIn m pair.0
     pub viewable : IsValidView vs.spec pair.1
     pub at : IsAt pair.1 (map_archive m) (pos_of pair.0 + value_offset ks.spec vs.spec)
 
-  -- the view is that of an entry of the map
+  -- the view is the view of an entry of the map
   abbrev pub IsEntryIn : ArchivedHashMap K V H W ks vs wt → View (Entry K V) → Type 0
   IsEntryIn m entry = (archive_of entry ≡ map_archive m)
       × IsValidView (entry_spec ks.spec vs.spec) entry × IsKeyPos m (pos_of entry)
@@ -167,7 +167,7 @@ module _ {K V H W : Type 0} {ks : Specs K} {vs : Specs V} {wt : Words W}
       (accept : ℕ → Bool) → ComparesKeysBy post accept → AreUnderHash hash key_hash accept
       → FindsFirstKey key_hash accept P
 
--- the position is that of the found view, or there is neither
+-- the position is the found view's, or there is neither
 abbrev pub IsViewAt : {E : Type 0} → Option (View E) → Option ℕ → Type 0
 IsViewAt result key_pos = pos_of_found result ≡ key_pos
 
@@ -175,7 +175,7 @@ IsViewAt result key_pos = pos_of_found result ≡ key_pos
 abbrev pub key_pos_found : {K V : Type 0} → Option (View K × View V) → Option ℕ
 key_pos_found {K} {V} result = option_map (λ (pair : View K × View V). pos_of pair.0) result
 
--- the position is that of the key of the found pair, or there is neither
+-- the position is the position of the found pair's key, or there is neither
 abbrev pub IsPairAt : {K V : Type 0} → Option (View K × View V) → Option ℕ → Type 0
 IsPairAt result key_pos = key_pos_found result ≡ key_pos
 

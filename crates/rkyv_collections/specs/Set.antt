@@ -20,12 +20,12 @@ use Rattle.rkyv_collections.specs.Map.Misplaced.{CountsKeysUpTo, misplaced_keys}
 use Rattle.rkyv_collections.specs.declared.map.HashMapOf.{HashMapOf}
 use Rattle.rkyv_collections.specs.declared.set.ArchivedHashSet.{ArchivedHashSet}
 
--- the element of a set: that of a map to the unit value
+-- the element of a set: the element of a map to the unit value
 abbrev pub set_spec : Width → ElementSpec → ElementSpec
 set_spec w k = map_spec w k unit_spec
 
 module _ {K H W : Type 0} {ks : Specs K} {wt : Words W} where
-  -- the view of the set's header, as that of the map of the keys
+  -- the view of the set's header, as the view of the map of the keys
   abbrev pub set_view : ArchivedHashSet K H W ks wt → View (HashMapOf K (Unit {0}) H W)
   set_view s = map_view s.map
 

@@ -1,4 +1,4 @@
--- Definitions on maps and sets of std: represented, compared, looked up, read back.
+-- Definitions on std maps and sets: represented, compared, looked up, read back.
 pub mod StdMap
 pub mod StdEquality
 pub mod StdSet

@@ -1,4 +1,4 @@
--- Index maps whose keys feed no `usize` and no `isize`, under hashers that differ in these alone.
+-- Index maps whose keys feed no `usize` and no `isize`, under hashers that differ only in these.
 use Rattle.std.proofs.Common.{◌≡◌, ℕ, ◌<◌, ◌∙◌, sym, ap, Bool, List, rules}
 use Rattle.std.specs.Int.{Width}
 use Rattle.std.specs.List.{find}

@@ -81,7 +81,7 @@ none_left i n above = let z : n - i ≡ 0 = omega arith in ap (range_with_len i)
 pub all_left : (n : ℕ) → range_with_len 0 (n - 0) ≡ range_with_len 0 n
 all_left n = let z : n - 0 ≡ n = omega arith in ap (range_with_len 0) z
 
--- the indices of the full buckets are below `n` if those of all buckets are
+-- the indices of the full buckets are below `n` if the indices of all buckets are
 module _ (w : Width) (kind : IsArchiveWord w) (b : List ℕ) (p n begin : ℕ) (v : Viewable (table_spec w (stored_index_spec w)) b p) (at : 0 < cap_at w b p → begin ≡ controls_pos w b p - cap_at w b p * byte_len w) where
   bucket_below : AreBelow w b begin (cap_at w b p) n → (i : ℕ) → IsWalked w b p i → number_at w b (item_at w (byte_len w) b p i) < n
   bucket_below all i walked =

@@ -81,7 +81,7 @@ module _ {K Q : Type 0} (m : Index K) (kind : IsArchiveWord m.word) (kl : IsElem
   key_valid : (i : ℕ) → i < len → ValidAt k b (at i)
   key_valid i below = valid_key kl vl b (at i) (entry_viewable w kind s law b p view i below).valid
 
-  -- a found index is that of a key that fits
+  -- a found index is the index of a key that fits
   found_fits : (i : ℕ) → index_found w b p (hash_of_calls hasher (calls q)) accept ≡ Some i → (i < len) × (accept i ≡ true)
   found_fits i e =
       let f = option_map_some (number_at w b) _ i e in

@@ -20,7 +20,7 @@ module _ (P : ℕ → Bool) (count i n all : ℕ) (exact : count + length (filte
   pub count_is_all : n ≤ i → count ≡ all
   count_is_all end = let none = ap (λ (xs : List ℕ). length (filter P xs)) (none_left i n end) in omega (arith, exact, none)
 
--- the strides of the remaining indices are those of the next one, and of those behind it
+-- the strides of the remaining indices are the next index's, and the strides of the others
 module _ (f : ℕ → ℕ) (i n : ℕ) where
   pub sum_first : sum_by f (range_with_len 0 (n - 0)) ≡ sum_by f (range_with_len 0 n)
   sum_first = ap (sum_by f) (all_left n)

@@ -1,4 +1,4 @@
--- The first accepted index of a range is that of the first accepted pair of a list.
+-- The first accepted index of a range is the index of the first accepted pair of a list.
 use Rattle.std.proofs.Common.{◌≡◌, ℕ, ◌<◌, ◌∙◌, arith, inl, inr, sym, Bool, true, false, List, None, Option, Some, length}
 use Rattle.std.specs.List.{find, list_any, range_with_len, slice_get}
 use Rattle.std.proofs.lemmas.Bool.{both_ways, false_from_ne_true}

@@ -47,7 +47,7 @@ module _ (w : Width) (kind : IsArchiveWord w) (k v : ElementSpec) (kl : IsElemen
   abbrev first_fitting : Option ℕ
   first_fitting = find (fits_in w k v b p fits) (indices_of (len_at w b p))
 
-  -- it is that of the first pair with an accepted key
+  -- it is the index of the first pair with an accepted key
   is_first : (found : Option ℕ) → found ≡ first_fitting → IsFirst accept pairs found
   is_first found is = first_listed (fits_in w k v b p fits) accept pairs (λ i pair e.
       let below = listed_below pairs (len_at w b p) i pair st.len e in

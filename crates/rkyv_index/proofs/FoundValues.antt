@@ -29,7 +29,7 @@ module _ {K : Type 0} {m : Index K} where
     pub found_by_at : {hashes : LookupHashes} {post : View K → Bool → Type 0} → FoundByHas m hashes post (IsIndex found) → FoundByHas m hashes post P
     found_by_at t = grind arith
 
--- the bytes of a view are those of the reference that it was made from
+-- the bytes of a view are the bytes of the reference that it was made from
 pub bytes_read : {X : Type 0} {v w : View X} {a : Bor (List ℕ)} → v ≡ w → w.archive ≡ a → v.archive.now ≡ a.now
 bytes_read e at = ap (λ v. v.archive.now) e ∙ ap (λ a. a.now) at
 

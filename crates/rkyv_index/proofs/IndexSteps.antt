@@ -45,7 +45,7 @@ module _ (F : Type 0) {P X : Type 0} (w : Width) (ps : ElementSpec) (e : Encodin
         inl (own_counted (length xs) factor max (YieldsOtherCount (YieldsFirst rest) (length xs) state) NoOther (λ k g. no_other_drained rest (length xs) state n k g) err h.0, h.1)
     indices_not_written err (inr h) = inr (subst (λ l. SerializeFails limit TableOf l o o1 err) (drained rest h.1 state h.2.0 ∙ there) h.3)
 
-    -- the result of writing the table is that of writing the indices
+    -- writing the table has the result of writing the indices
     pub indices_result : (result : Result TableResolver (WriteError F))
         → MatchResult result (WroteItems DrainsRest (length xs) factor max TableOf o o1 limit) (WriteItemsFails DrainsRest (length xs) factor max TableOf o o1 limit (YieldsOtherCount (YieldsFirst rest) (length xs) state))
         → MatchResult result (Serialized limit TableOf Indices o o1) (OwnOrSerializeFails (length xs) factor max NoOther limit TableOf Indices o o1)

@@ -1,4 +1,4 @@
--- Writing an index map of owned or borrowed items is writing that of the values.
+-- Writing an index map of owned or borrowed items is writing an index map of the values.
 use Rattle.std.proofs.Common.{◌≡◌, ℕ, ◌+◌, refl, ap, sym, subst, ◌∙◌, inl, inr, List, [], ◌∷◌, map, take, length, Some, Result, Ok, Err, MatchResult, arith, rules}
 use Rattle.std.proofs.lemmas.Grind.{common_steps}
 use Rattle.std.specs.Int.{Width}

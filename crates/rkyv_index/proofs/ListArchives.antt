@@ -56,7 +56,7 @@ module _ {A B : Type 0} (P : ℕ → Bool) (accept : A → Bool) where
         | inr f ↦ rw (e, f) (later from x xs (find P (range_with_len (from + 1) (length xs))) (first_pair accept xs) rest)
       ]
 
--- the value that is found at an index is that of the first pair
+-- the value that is found at an index is the first pair's value
 found_at : {A B K V H W : Type 0} {ks : Specs K} {vs : Specs V} {wt : Words W} (m : ArchivedIndexMap K V H W ks vs wt) (key : List ℕ → ℕ → A → Type 0) (value : List ℕ → ℕ → B → Type 0) (pairs : List (A × B))
     → ((i : ℕ) (pair : A × B) → slice_get pairs i ≡ Some pair → PairRepresents ks.spec vs.spec key value (index_bytes m) (key_pos m i) pair)
     → (index : Option ℕ) (found : Option (View V)) (first : Option (A × B)) → IsValueAt m found index → IsFirstAt pairs 0 index first → IsFoundValue value found (option_map (λ pair. pair.1) first)

@@ -35,7 +35,7 @@ module _ {K V H W P N : Type 0} {ks : Specs K} {vs : Specs V} {ts : Specs P} {wt
   bytes_same : table_bytes t ≡ index_bytes m
   bytes_same = ap (λ (x : Bor (List ℕ)). x.now) at.0
 
-  -- a function of the size, the bytes and the position of the table is one of those of the map
+  -- a function of the size, the bytes and the position of the table is a function of the map's
   table_is : {X : Type 0} (F : ℕ → List ℕ → ℕ → X) → F ts.spec.size (table_bytes t) (table_pos t) ≡ F (byte_len w) (index_bytes m) (index_pos m)
   table_is F = ap (λ n. F n (table_bytes t) (table_pos t)) size_is ∙ ap (λ (x : List ℕ). F (byte_len w) x (table_pos t)) bytes_same ∙ ap (F (byte_len w) (index_bytes m)) at.1
 

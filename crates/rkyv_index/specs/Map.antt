@@ -212,7 +212,7 @@ MatchesAt {X} Related result index =
 abbrev pub fits_in : Width → ElementSpec → ElementSpec → List ℕ → ℕ → (List ℕ → ℕ → Bool) → ℕ → Bool
 fits_in w k v b p fits i = fits b (pair_pos w (entry_spec k v).size b p i)
 
--- An index map for lookups: one that is read, one at a seal, or that of an index set.
+-- An index map for lookups: one that is read, one at a seal, or an index set's.
 -- `bytes`: bytes of the archive, `pos`: position of the header.
 -- `is_key i v`: `v` is a view of the key at index `i`.
 pub record Index (K : Type 0) : Type 1 where

@@ -1,4 +1,4 @@
--- Lookups in maps and sets of std that are values of maps of std.
+-- Lookups in std maps and sets that are values of std maps.
 use Rattle.std.specs.Prelude.{ℕ, ◌==◌, Bool, Option}
 use Rattle.std.specs.HashMap.{HashMap}
 use Rattle.std.specs.HashSet.{HashSet}

@@ -1,4 +1,4 @@
--- A map of std equals its archived form.
+-- A std map equals its archived form.
 use Rattle.std.proofs.Common.{◌≡◌, ℕ, zero, suc, ◌+◌, ◌<◌, ◌^◌, refl, sym, ap, subst, ◌∙◌, arith}
 use Rattle.std.proofs.Common.{Bool, true, false, List, [], ◌∷◌, map, length, slice_get, slice_index}
 use Rattle.std.proofs.Common.{Some, get_or}
@@ -127,7 +127,7 @@ module _ (w : Width) (k v : ElementSpec) (kl : IsElement k) (vl : IsElement v) {
         subst (λ o. IsSomeAnd o (λ q. equals b (q + value_offset k v) y.1)) (sym (pair_found n y e))
         (pair_represents n y (omega (arith, h, homes_count st)) e).1
 
-  -- in any archive with the written bytes of a map of std, the map there equals it
+  -- in any archive with the written bytes of a std map, the map there equals it
   pub written_equal : {R : Type 0} (kind : IsArchiveWord w) (f : Format (List (A × B)) R)
       → IsFormat (map_spec w k v) (MapRepresents w k v key equals there factor) f
       → IsFormat (map_spec w k v) (EntriesEqual w k v own fits equals) (of_entries equal f)

@@ -1,4 +1,4 @@
--- Lemmas: archives that were written from a map or a set of std represent the list of its entries.
+-- Lemmas: archives that were written from a std map or set represent the list of its entries.
 use Rattle.std.proofs.Common.{ℕ, Bool, List, true, ◌≡◌}
 use Rattle.std.specs.Int.{Width}
 use Rattle.rkyv_scan.specs.{Hasher, HasherCall}

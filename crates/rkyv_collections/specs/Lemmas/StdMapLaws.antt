@@ -1,4 +1,4 @@
--- Written bytes of a map of std represent that map, and so do copies of these bytes.
+-- Written bytes of a std map represent that map, and so do copies of these bytes.
 use Rattle.std.proofs.lemmas.Grind.{common_steps}
 use Rattle.std.proofs.Common.{◌≡◌, ℕ, zero, suc, ◌+◌, ◌-◌, ◌*◌, ◌<◌, ◌≤◌, refl, sym, ap, subst}
 use Rattle.std.proofs.Common.{◌∙◌, arith, inl, inr, ◌⊎◌, Bool, true, false, cond, eqb, List, []}
@@ -134,7 +134,7 @@ module _ {A B : Type 0} (equal : A → A → Bool) (laws : IsEquivalence equal) 
   picked_found i y h q e = sym (lookup_from_place laws pairs h.0 y.0 y.1 apart h.3)
       ∙ same_lookup y.0 q e
 
-  -- a found key is that of the pair in some home bucket
+  -- a found key is the key of the pair in some home bucket
   Hits : A → Type 0
   Hits q = (i : ℕ) × Contains homes i × ((y : A × B) → Picks i y → equal y.0 q ≡ true)
 
@@ -241,7 +241,7 @@ module _ (k v : ElementSpec) (kl : IsElement k) (vl : IsElement v) (w : Width) {
     {key : List ℕ → ℕ → A → Type 0} {value : List ℕ → ℕ → B → Type 0}
     (equal : A → A → Bool) (laws : IsEquivalence equal) (hash : List ℕ → ℕ → ℕ) (factor : ℕ × ℕ)
   where
-    -- a written map of distinct keys represents a map of std with the same lookups as its pairs
+    -- a written map of distinct keys represents a std map with the same lookups as its pairs
     module _ (b : List ℕ) (p : ℕ) (pairs : List (A × B))
         (st : MapRepresents w k v key value hash factor b p pairs)
         (apart : IsDistinct equal (keys_of pairs)) where

@@ -1,4 +1,4 @@
--- The laws of the format of maps and sets of std.
+-- The laws of the format of std maps and sets.
 use Rattle.std.proofs.Common.{ℕ, Bool, List}
 use Rattle.std.specs.Cmp.{IsEquivalence}
 use Rattle.std.specs.Int.{Width}
@@ -13,7 +13,7 @@ use Rattle.rkyv_collections.specs.Lemmas.MapSound.{listed_map_sound}
 use Rattle.rkyv_collections.specs.Lemmas.StdEqualLaws.{entries_equal}
 use Rattle.rkyv_collections.specs.Lemmas.StdMapLaws.{entries_sound}
 
--- written bytes of a map of std represent its entries. `entries`: those of a value
+-- written bytes of a std map represent its entries. `entries`: entries of a value
 pub std_map_sound : {X A B State R Q : Type 0} (entries : X → List (A × B)) (hasher : Hasher State)
     (w : Width) {k v : ElementSpec} (kl : IsElement k) (vl : IsElement v)
     {key : List ℕ → ℕ → A → Type 0} {value : List ℕ → ℕ → B → Type 0} {same : Comparison}
@@ -33,7 +33,7 @@ std_map_sound entries hasher w {k} {v} kl vl {key} {value} {same} {key_calls} ma
     (entries_sound k v kl vl w equal laws (hash_at hasher key_calls) (7, 8) kind whole
     (listed_map_sound hasher w kl vl (7, 8) max kind query native laws.refl kw vw))
 
--- the map there equals its entries too. `equals`: whether a value equals one of std
+-- the map there equals its entries too. `equals`: whether a value equals a std value
 pub std_map_equal : {X A B State R Q : Type 0} (entries : X → List (A × B)) (hasher : Hasher State)
     (w : Width) {k v : ElementSpec} (kl : IsElement k) (vl : IsElement v)
     {key : List ℕ → ℕ → A → Type 0} {equals : List ℕ → ℕ → B → Type 0} {same : Comparison}

@@ -1,4 +1,4 @@
--- The maps of std that one archived map represents are equal.
+-- The std maps that one archived map represents are equal.
 use Rattle.std.proofs.Common.{◌≡◌, ℕ, ◌+◌, refl, sym, ap, ◌∙◌, inl, inr, arith, Bool, true}
 use Rattle.std.proofs.Common.{cond, List, [], ◌∷◌, Option, Some, None}
 use Rattle.std.proofs.lemmas.Grind.{common_steps}

@@ -1,4 +1,4 @@
--- Lemmas: sets of std, as their keys, each with the unit value.
+-- Lemmas: std sets, as their keys, each with the unit value.
 use Rattle.std.proofs.lemmas.Grind.{common_steps}
 use Rattle.std.specs.Prelude.{◌≡◌, ℕ, Bool, List, [], ◌∷◌, length}
 use Rattle.std.proofs.Common.{refl, ap, ◌∙◌, arith, cond, Some, None}
@@ -29,7 +29,7 @@ all_units P (x ∷ xs) all =
     All-cons (λ key. P (key, tt)) x xs (All-head P (x, tt) (with_units xs) all)
     (all_units P xs (All-tail P (x, tt) (with_units xs) all))
 
--- a set that equals the keys, each with the unit value, equals the set of std
+-- a set that equals the keys, each with the unit value, equals the std set
 pub set_equal_entries : {A : Type 0} (w : Width) (k : ElementSpec) (hash : A → ℕ)
     (fits : A → List ℕ → ℕ → Bool) (b : List ℕ) (p : ℕ) (keys : List A)
     → EntriesEqual w k unit_spec hash fits unit_represents b p (with_units keys)
@@ -40,7 +40,7 @@ set_equal_entries w k hash fits b p keys h = (
   all_units (FindsPair w k unit_spec hash fits unit_represents b p) keys h.1,
 )
 
--- a set of std equals its archived form
+-- a std set equals its archived form
 pub set_equal_written : {X A R : Type 0} (w : Width) (k s : ElementSpec) (hash : A → ℕ) (fits : A
     → List ℕ
     → ℕ → Bool) (model : X → List A) (f : Format X R)

@@ -57,7 +57,7 @@ text_map_format e factor = listed narrow_limit factor
     (written_as (λ text. text.now) (text_format w32)) (scalar_format e)
     (hash_of (fx_hasher low_halves) (λ text. text_calls text.now)) factor)
 
--- `b`: archive of the pairs alone under the load factor 7 / 8. It is valid, represents them,
+-- `b`: archive of only the pairs under the load factor 7 / 8. It is valid, represents them,
 -- and has no other bytes
 abbrev pub IsTextMapOf : {N : Type 0} → Encoding N → TextPairs N → List ℕ → Type 0
 IsTextMapOf e pairs b =
@@ -69,7 +69,7 @@ abbrev pub TextMapFails : {F N : Type 0} → Encoding N → TextPairs N → Writ
 TextMapFails e pairs why =
     ToBytesFails narrow_limit (text_map_spec e) (text_map_format e (7, 8)) pairs why
 
--- the result of archiving the pairs under the load factor 7 / 8: the archive of the pairs alone,
+-- the result of archiving the pairs under the load factor 7 / 8: the archive of only the pairs,
 -- or an error
 abbrev pub TextMapResult : {F N Z : Type 0} → Encoding N → TextPairs N
     → Result (Vec ℕ Z) (WriteError F) → Type 0

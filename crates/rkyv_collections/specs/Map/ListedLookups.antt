@@ -1,4 +1,4 @@
--- Lookups in a map that represents a list of pairs, in terms of the list alone.
+-- Lookups in a map that represents a list of pairs, in terms of only the list.
 use Rattle.rkyv_base.specs.declared.element.HasSpec.{Ghosts as Specs}
 use Rattle.rkyv_base.specs.declared.width.Word.{Ghosts as Words}
 use Rattle.std.specs.Prelude.{◌≡◌, ℕ, Bool, IfSome, List, None, Option, Some}
@@ -21,7 +21,7 @@ AgreesOnKeys {A} k key b accept accept_value = (a : A) (q : ℕ) → ValidAt k b
 
 module _ {A B : Type 0} (k v : ElementSpec) (key : List ℕ → ℕ → A → Type 0)
     (value : List ℕ → ℕ → B → Type 0) where
-  -- the position is that of the pair, or there is neither
+  -- the position is the position of the pair, or there is neither
   abbrev pub IsPosOfPair : List ℕ → Option ℕ → Option (A × B) → Type 0
   IsPosOfPair b None None = Unit {0}
   IsPosOfPair b (Some q) (Some pair) = PairRepresents k v key value b q pair

@@ -13,8 +13,8 @@ use Rattle.rkyv_collections.specs.Map.{IsValueIn, map_bytes}
 use Rattle.rkyv_collections.specs.Map.Misplaced.{FindsOneKey}
 use Rattle.rkyv_collections.specs.declared.map.ArchivedHashMap.{ArchivedHashMap}
 
--- What a lookup in `M` returns of the pair that it finds. `In m x`: `x` is of a pair of `m`,
--- `At result key_pos`: the result is that of the key at `key_pos`, or there is neither
+-- The part of a found pair that a lookup in `M` returns. `In m x`: `x` is of a pair of `m`,
+-- `At result key_pos`: the result is for the key at `key_pos`, or there is neither
 pub record Part (M X : Type 0) : Type 1 where
   pub In : M → X → Type 0
   pub At : Option X → Option ℕ → Type 0
@@ -70,14 +70,14 @@ module _ {K V H W : Type 0} {ks : Specs K} {vs : Specs V} {wt : Words W} where
       pub first : FindsFirstBy m post hashes.hash hashes.key_hash (part.At result)
 
 module _ {K V : Type 0} (k v : ElementSpec) where
-  -- the pair is that of the entry, or there is neither
+  -- the pair is the pair of the entry, or there is neither
   abbrev pub IsPairOfEntry : Option (View K × View V) → Option (View (Entry K V)) → Type 0
   IsPairOfEntry result found = MatchOption found (result ≡ None) (λ entry.
       (pair : View K × View V) × (result ≡ Some pair)
       × IsAt pair.0 (archive_of entry) (pos_of entry) × IsValidView k pair.0
       × IsAt pair.1 (archive_of entry) (pos_of entry + value_offset k v) × IsValidView v pair.1)
 
-  -- the value is that of the entry, or there is neither
+  -- the value is the value of the entry, or there is neither
   abbrev pub IsValueOfEntry : Option (View V) → Option (View (Entry K V)) → Type 0
   IsValueOfEntry result found = MatchOption found (result ≡ None) (λ entry.
       (value : View V) × (result ≡ Some value)

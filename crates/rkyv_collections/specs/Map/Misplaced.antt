@@ -38,7 +38,7 @@ CountsKeysUpTo {ks = ks} {vs = vs} {wt = wt} m keys limit result =
     map_strides wt.word ks.spec vs.spec keys.hash keys.same (map_bytes m) (map_pos m) in
     MatchOption result (limit < strides) (λ n. (strides ≤ limit) × (n ≡ misplaced_keys m keys))
 
--- in a valid written map, the number of misplaced keys is that of keys
+-- in a valid written map, the number of misplaced keys is the number of keys
 -- that are the same as an earlier key
 abbrev pub RepeatedKeysAreMisplaced : Width → ElementSpec → ElementSpec → ArchivedKeys → Type 0
 RepeatedKeysAreMisplaced w k v keys =

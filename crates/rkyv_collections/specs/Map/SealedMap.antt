@@ -23,7 +23,7 @@ abbrev pub IsMapSeal : {K V H W : Type 0} → Width → ElementSpec → ElementS
     → Type 0
 IsMapSeal w k v a = Viewable (map_spec w k v) (archive_in a) (pos_in a)
 
--- the view is that of a key of the map at `p`, in the same bytes
+-- the view is the view of a key of the map at `p`, in the same bytes
 pub record IsKeyAt {K : Type 0} (w : Width) (k v : ElementSpec) (b : List ℕ) (p : ℕ) (key : View K)
     : Type 0 where
   pub bytes : bytes_of key ≡ b
@@ -98,7 +98,7 @@ WritesFoundBy m hashes post Writes result c =
     FoundValueByHasAt m hashes post (Writes m.bytes result c)
 
 -- `q`: position of the key in bucket `i` of the map at `p`, with the value behind it.
--- Each write of the value alone that keeps it valid keeps the map: its header, its control bytes,
+-- Each write of only the value that keeps it valid keeps the map: its header, its control bytes,
 -- all keys and all other values
 pub record IsPairPos (w : Width) (k v : ElementSpec) (b : List ℕ) (p i q : ℕ) : Type 0 where
   pub walked : IsWalked w b p i
@@ -109,7 +109,7 @@ pub record IsPairPos (w : Width) (k v : ElementSpec) (b : List ℕ) (p i q : ℕ
 
 module _ {K V H W : Type 0} (w : Width) (k v : ElementSpec) (a : ArchiveSeal
     (HashMapOf K V H W)) where
-  -- the view and the seal are those of a pair of the map
+  -- the view and the seal are of a pair of the map
   abbrev pub IsPairSeal : View K × Seal V → Type 0
   IsPairSeal pair = (i : ℕ)
       × LendsPair k v (archive_in a) (IsPairPos w k v (archive_in a) (pos_in a) i) pair
@@ -121,7 +121,7 @@ module _ {K V H W : Type 0} (w : Width) (k v : ElementSpec) (a : ArchiveSeal
     pub pair : IsPairPos w k v (archive_in a) (pos_in a) bucket key
     pub at : SealAt value (archive_ref a) (value_pos k v key)
 
--- the position is that of the key of the found pair, or there is neither
+-- the position is the position of the found pair's key, or there is neither
 abbrev pub IsPairSealAt : {K V : Type 0} → Option (View K × Seal V) → Option ℕ → Type 0
 IsPairSealAt {K} {V} result key_pos =
     option_map (λ (pair : View K × Seal V). pos_of pair.0) result ≡ key_pos

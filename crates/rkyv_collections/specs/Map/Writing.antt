@@ -9,7 +9,7 @@ use Rattle.rkyv_collections.specs.Map.MapFormat.{map_format}
 use Rattle.rkyv_collections.specs.Set.SetFormat.{set_format}
 
 module _ {F : Type 0} (w : WidthMembers) where
-  -- the pairs that the items lend are written as a map, under the hashes of the keys
+  -- the pairs that the items have are written as a map, under the hashes of the keys
   -- and the load factor. The result is its resolver, or an error
   abbrev pub WritesMap : {X A B R Q : Type 0} → PairFormat A B R Q → ItemsToWrite X (A × B) → Output
       → Output → Result TableResolver (WriteError F) → Type 0

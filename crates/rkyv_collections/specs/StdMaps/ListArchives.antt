@@ -1,4 +1,4 @@
--- Archives that were written from a map or a set of std, as archives of the list of its entries.
+-- Archives that were written from a std map or set, as archives of the list of its entries.
 use Rattle.rkyv_base.specs.{ElementMembers, ElementSpec, Format, IsFormat, IsValidArchive}
 use Rattle.rkyv_base.specs.{RootBytes, narrow_limit, wide_limit}
 use Rattle.std.specs.Prelude.{ℕ, ◌-◌, List, length}
@@ -40,7 +40,7 @@ abbrev pub with_relation : {B C : Type 0} → ElementMembers B → (List ℕ →
     → ElementMembers C
 with_relation v related = record { spec = v.spec; laws = v.laws; represents = related }
 
--- the map at `p` represents the list of the entries of a map of std, under the load factor 7 / 8
+-- the map at `p` represents the list of the entries of a std map, under the load factor 7 / 8
 abbrev pub IsListOfEntries : {A B S H : Type 0} → Width → ElementMembers A → ElementMembers B
     → (List ℕ → ℕ → ℕ) → List ℕ → ℕ → Hashed (HashMap A B S) H → Type 0
 IsListOfEntries w k v hash b p x =
@@ -52,27 +52,27 @@ abbrev pub IsListOfRelated : {A B C S H : Type 0} → Width → ElementMembers A
 IsListOfRelated w k v related hash b p x =
     IsListOfEntries w k (with_relation v related) hash b p x
 
--- the set at `p` represents the list of the keys of a set of std, under the load factor 7 / 8
+-- the set at `p` represents the list of the keys of a std set, under the load factor 7 / 8
 abbrev pub IsListOfKeys : {A S H : Type 0} → Width → ElementMembers A → (List ℕ → ℕ → ℕ)
     → List ℕ → ℕ → Hashed (HashSet A S) H → Type 0
 IsListOfKeys w k hash b p x =
     SetRepresents w k.spec k.represents hash (7, 8) b p (inner_keys x)
 
--- The root of an archive with the written bytes of a map of std represents the list of its entries.
+-- The root of an archive with the written bytes of a std map represents the list of its entries.
 -- `k`, `v`: its keys and values, `hash`: hash of the key at a position
 abbrev pub WrittenMapsAreLists : {A B S H R : Type 0} → Width → ElementMembers A
     → ElementMembers B → (List ℕ → ℕ → ℕ) → Format (Hashed (HashMap A B S) H) R → Type 0
 WrittenMapsAreLists w k v hash format =
     WrittenRootsAre (map_spec w k.spec v.spec) (IsListOfEntries w k v hash) format
 
--- The root of an archive with the written bytes of a set of std represents the list of its keys.
+-- The root of an archive with the written bytes of a std set represents the list of its keys.
 -- `k`: its keys, `hash`: hash of the key at a position
 abbrev pub WrittenSetsAreLists : {A S H R : Type 0} → Width → ElementMembers A → (List ℕ → ℕ → ℕ)
     → Format (Hashed (HashSet A S) H) R → Type 0
 WrittenSetsAreLists w k hash format =
     WrittenRootsAre (set_spec w k.spec) (IsListOfKeys w k hash) format
 
--- In any archive with the written bytes of a map of std, the map represents the list
+-- In any archive with the written bytes of a std map, the map represents the list
 -- of its entries, whose values have the relation `related`. `k`, `v`: its keys and values,
 -- `hash`: hash of the key at a position
 abbrev pub WrittenMapsListEntries : {A B C S H R : Type 0} → Width → ElementMembers A

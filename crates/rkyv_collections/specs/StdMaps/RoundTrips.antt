@@ -20,13 +20,13 @@ ArchivesRoundTrip {V} limit s represents equals format equal =
     → equals b (length b - s.size) value
     × ((back : V) → represents b (length b - s.size) back → equal back value ≡ true)
 
--- in any archive with the written bytes of a map of std, the archived map equals it
+-- in any archive with the written bytes of a std map, the archived map equals it
 abbrev pub WrittenMapsAreEqual : {A B S H R : Type 0} → Width → ElementSpec → ElementSpec
     → Queried A → (List ℕ → ℕ → B → Type 0) → Format (Hashed (HashMap A B S) H) R → Type 0
 WrittenMapsAreEqual w k v queries equals f = IsFormat (map_spec w k v)
     (λ b p x. StdMapEquals w k v queries.hash queries.fits equals b p x.map) f
 
--- in any archive with the written bytes of a set of std, the archived set equals it
+-- in any archive with the written bytes of a std set, the archived set equals it
 abbrev pub WrittenSetsAreEqual : {A S H R : Type 0} → Width → ElementSpec → Queried A
     → Format (Hashed (HashSet A S) H) R → Type 0
 WrittenSetsAreEqual w k queries f = IsFormat (set_spec w k)

@@ -1,4 +1,4 @@
--- The equality of an archived map and a map of std.
+-- The equality of an archived map and a std map.
 use Rattle.rkyv_base.specs.declared.element.HasSpec.{Ghosts as Specs}
 use Rattle.rkyv_base.specs.declared.width.Word.{Ghosts as Words}
 use Rattle.std.specs.Prelude.{◌≡◌, ℕ, ◌+◌, List, length, Bool, IsSomeAnd}
@@ -23,7 +23,7 @@ module _ {A B : Type 0} (w : Width) (k v : ElementSpec) (hash : A → ℕ) (fits
   abbrev pub EntriesEqual : List ℕ → ℕ → List (A × B) → Type 0
   EntriesEqual b p entries = (len_at w b p ≡ length entries) × All (FindsPair b p) entries
 
-  -- the map at `p` equals a map of std
+  -- the map at `p` equals a std map
   abbrev pub StdMapEquals : {S : Type 0} → List ℕ → ℕ → HashMap A B S → Type 0
   StdMapEquals b p m = EntriesEqual b p m.entries
 
@@ -34,7 +34,7 @@ module _ {A B K V H W : Type 0} {ks : Specs K} {vs : Specs V} {wt : Words W}
   FindsPairIn pair = FindsPair wt.word ks.spec vs.spec q.hash q.fits equals (map_bytes m)
       (map_pos m) pair
 
-  -- the map equals a map of std
+  -- the map equals a std map
   abbrev pub StdMapEqualsIn : {S : Type 0} → HashMap A B S → Type 0
   StdMapEqualsIn other = StdMapEquals wt.word ks.spec vs.spec q.hash q.fits equals (map_bytes m)
       (map_pos m) other

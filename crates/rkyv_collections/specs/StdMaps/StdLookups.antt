@@ -1,4 +1,4 @@
--- Lookups in an archive of a map or a set of std.
+-- Lookups in an archive of a std map or set.
 use Rattle.rkyv_base.specs.{ElementMembers, ElementSpec, Format, IsFormat, entry_spec, unit_spec}
 use Rattle.rkyv_base.specs.{value_offset}
 use Rattle.rkyv_base.specs.declared.element.HasSpec.{Ghosts as Specs}
@@ -64,7 +64,7 @@ FindsFirstAcceptedIn {ks = ks} {vs = vs} {wt = wt} m queries value q accept_valu
     FindsFirstAccepted wt.word ks.spec queries.hash queries.fits vs.spec value (map_bytes m)
     (map_pos m) q accept_value entries
 
--- In any archive with the written bytes of a map of std, each query finds the value
+-- In any archive with the written bytes of a std map, each query finds the value
 -- that the map has. `k`, `v`: what represents the keys and the values
 abbrev pub FindsInWrittenMap : {A B S H R Q : Type 0} → Width → ElementMembers A
     → ElementMembers B → Queried Q → Format (Hashed (HashMap A B S) H) R → Type 0
@@ -73,7 +73,7 @@ FindsInWrittenMap w k v queries f = IsFormat (map_spec w k.spec v.spec)
     b p (inner_entries x))
     f
 
--- In any archive with the written bytes of a set of std, each query is looked up.
+-- In any archive with the written bytes of a std set, each query is looked up.
 -- It is found if and only if the set has an accepted key
 abbrev pub FindsInWrittenSet : {A S H R Q : Type 0} → Width → ElementMembers A → Queried Q
     → Format (Hashed (HashSet A S) H) R → Type 0

@@ -1,4 +1,4 @@
--- Maps of std: the archived maps that represent them, and their format.
+-- Std maps: the archived maps that represent them, and their format.
 use denote.Ref.{Bor}
 use Rattle.std.specs.Prelude.{◌≡◌, ℕ, ◌<◌, ◌⊎◌, Bool, List, [], ◌∷◌, ◌++◌, MatchResult, None}
 use Rattle.std.specs.Prelude.{Result, Some}
@@ -31,7 +31,7 @@ inner_keys hashed = hashed.map.keys
 abbrev pub with_inner : {M H : Type 0} → Hashed M H → M → Hashed M H
 with_inner hashed map = record { map = map; hasher = hashed.hasher }
 
--- the wrapper of the map or set of std that a wrapped reference refers to
+-- the wrapper of the std map or set that a wrapped reference refers to
 abbrev pub referent : {M H : Type 0} → Hashed (Bor M) H → Hashed M H
 referent hashed = record { map = hashed.map.now; hasher = hashed.hasher }
 
@@ -52,12 +52,12 @@ module _ {A B : Type 0} (k v : ElementSpec) (key : List ℕ → ℕ → A → Ty
         × IsDistinct equal (keys_of entries)
     pub stored : (q : A) → find (equal q) (keys_of entries) ≡ find (equal q) (keys_of pairs)
 
-  -- the map at `p` represents a map of std: its pairs, inserted in bucket order
+  -- the map at `p` represents a std map: its pairs, inserted in bucket order
   abbrev pub StdMapRepresents : {S : Type 0} → Width → (A → A → Bool) → List ℕ → ℕ → HashMap A B S
       → Type 0
   StdMapRepresents w equal b p m = EntriesRepresent w equal b p m.entries
 
--- the format of entries with distinct keys: that of a list of pairs
+-- the format of entries with distinct keys: the format of a list of pairs
 abbrev pub of_entries : {A B R : Type 0} → (A → A → Bool) → Format (List (A × B)) R
     → Format (List (A × B)) R
 of_entries equal f = record {
@@ -88,7 +88,7 @@ std_map_fails w k v b p e =
     (entry_deserialize_fails k v) b
     (item_positions w (entry_spec k.spec v.spec).size b p) e
 
--- `result`: map of std that the view represents, with the hash state `state`, or an error
+-- `result`: std map that the view represents, with the hash state `state`, or an error
 abbrev pub ReadsStdMap : {A B S T : Type 0} → (List ℕ → ℕ → HashMap A B S → Type 0)
     → DeserializeErrors → View T → S → Result (HashMap A B S) ReadError → Type 0
 ReadsStdMap represents deserialize_fails view state result = MatchResult result

@@ -1,4 +1,4 @@
--- Sets of std, as their keys, each with the unit value.
+-- Std sets, as their keys, each with the unit value.
 use Rattle.rkyv_base.specs.declared.element.HasSpec.{Ghosts as Specs}
 use Rattle.rkyv_base.specs.declared.width.Word.{Ghosts as Words}
 use Rattle.std.specs.Prelude.{◌≡◌, ℕ, ◌<◌, ◌⊎◌, Bool, true, List, MatchResult, Result}
@@ -16,7 +16,7 @@ use Rattle.rkyv_collections.specs.StdMaps.StdEquality.{FindsPair}
 use Rattle.rkyv_collections.specs.declared.set.ArchivedHashSet.{ArchivedHashSet}
 use Rattle.rkyv_collections.specs.StdMaps.StdMap.{AddsKey, EntriesRepresent, ReadInOrderFails}
 
--- the set at `p` represents a set of std: its keys, each with the unit value
+-- the set at `p` represents a std set: its keys, each with the unit value
 abbrev pub StdSetRepresents : {A S : Type 0} → ElementSpec → (List ℕ → ℕ → A → Type 0) → Width
     → (A → A → Bool) → List ℕ → ℕ → HashSet A S → Type 0
 StdSetRepresents k key w equal b p s =
@@ -41,20 +41,20 @@ std_set_fails w k b p e =
     ⊎ ReadInOrderFails k.represents k.deserialize_fails b
     (item_positions w (entry_spec k.spec unit_spec).size b p) e
 
--- `result`: set of std that the view represents, with the hash state `state`, or an error
+-- `result`: std set that the view represents, with the hash state `state`, or an error
 abbrev pub ReadsStdSet : {A S T : Type 0} → (List ℕ → ℕ → HashSet A S → Type 0)
     → DeserializeErrors → View T → S → Result (HashSet A S) ReadError → Type 0
 ReadsStdSet represents deserialize_fails view state result = MatchResult result
     (λ s. AtView represents view s × (hasher_of s ≡ state)) (AtView deserialize_fails view)
 
--- the set at `p` has as many keys as the set of std, and each of these is found in it
+-- the set at `p` has as many keys as the std set, and each of these is found in it
 abbrev pub StdSetEquals : {A S : Type 0} → Width → ElementSpec → (A → ℕ) → (A → List ℕ → ℕ → Bool)
     → List ℕ → ℕ → HashSet A S → Type 0
 StdSetEquals w k hash fits b p s =
     (len_at w b p ≡ hash_set_len s)
     × All (λ key. FindsPair w k unit_spec hash fits unit_represents b p (key, tt)) s.keys
 
--- the set equals a set of std
+-- the set equals a std set
 abbrev pub StdSetEqualsIn : {A S K H W : Type 0} {ks : Specs K} {wt : Words W}
     → ArchivedHashSet K H W ks wt → Queried A → HashSet A S → Type 0
 StdSetEqualsIn {ks = ks} {wt = wt} s q other =

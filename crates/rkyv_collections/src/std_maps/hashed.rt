@@ -20,7 +20,7 @@ use std::marker::PhantomData;
 /// ```rust
 /// type Ages = HashMap<String, u8>;
 ///
-/// // Archives a map of std's, and reads it back.
+/// // Archives a std map, and reads it back.
 /// fn ages_round_trip(alloc: Global, ages: &Ages) -> Result<Ages, Fail> {
 ///     let ages: Hashed<&Ages> = Hashed::new(ages);
 ///     let archive = to_bytes(alloc, &ages)?;

@@ -46,7 +46,7 @@ impl<W: Width, B: Archive<W>> WrittenRelation<W, B> for ValueRelation {
 
 /// The relation of maps that represent the entries of a std map, each value by the relation `R`.
 ///
-/// For a std map of std maps, it is `EntriesRelation<EntriesRelation<ValueRelation>>`.
+/// For a std std map maps, it is `EntriesRelation<EntriesRelation<ValueRelation>>`.
 pub struct EntriesRelation<R> {
     values: PhantomData<R>,
 }

@@ -93,7 +93,7 @@ not_below_exclusive w b n (q ∷ qs) e h (inl f) = let k = All-head (λ x. numbe
 not_below_exclusive w b n (q ∷ qs) e h (inr f) = not_below_exclusive w b n qs e
     (All-tail (λ x. number_at w b x < n) q qs h) f.1
 
--- the first index that isn't below `n` has one error alone
+-- the first index that isn't below `n` has only one error
 not_below_one : (w : Width) (b : List ℕ) (n : ℕ) (qs : List ℕ) (e e' : VerifyError)
     → FirstNotBelow w b n qs e → FirstNotBelow w b n qs e' → e ≡ e'
 not_below_one w b n [] e e' f g = absurd f

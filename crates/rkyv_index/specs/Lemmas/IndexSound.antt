@@ -54,7 +54,7 @@ module _ {X P : Type 0} (own : X → ℕ) (v : ℕ → P) where
   index_there i (x ∷ xs) (suc j) h =
       grind (arith, common_steps, index_there (i + 1) xs j (omega (arith, h)))
 
-  -- the hashes of the items are those of the values at the indices
+  -- the hashes of the items are the hashes of the values at the indices
   hashes_there : (at hash : ℕ → ℕ) (i : ℕ) (xs : List X) → ((j : ℕ) (x : X) → slice_get xs j
       ≡ Some x → own x ≡ hash (at (i + j)))
       → hashes_of (indices_from own v i xs) ≡ map (λ k. hash (at k)) (range_with_len i (length xs))

@@ -1,4 +1,4 @@
--- Lookups under two hashers that differ in `usize` and `isize` alone.
+-- Lookups under two hashers that differ only in `usize` and `isize`.
 use Rattle.std.specs.Prelude.{◌≡◌, ℕ, All, Bool, List, Option}
 use Rattle.std.specs.Int.{Width}
 use Rattle.rkyv_scan.specs.{HasherCall, IsFixed, SizeWords, fx_hash}

@@ -1,11 +1,11 @@
--- The header of an index map: that of its table of indices, and then the distance to its entries.
+-- The header of an index map: its table of indices' header, and then the distance to its entries.
 use Rattle.std.specs.Prelude.{◌≡◌, ℕ, ◌⊎◌, ℤ, pos, ◌-ℤ◌, FitsSigned, List, ◌++◌, MatchResult}
 use Rattle.std.specs.Prelude.{Result}
 use Rattle.std.specs.Int.{Width, cast_unsigned, to_le_bytes}
 use Rattle.rkyv_table.specs.{HeaderOverflows, IsHeader, TableResolver, capacity}
 use Rattle.rkyv_index.specs.Map.IndexLayout.{distance_pos}
 
--- the resolver of an index map: that of its table of indices, and the position of its entries
+-- the resolver of an index map: its table of indices' resolver, and the position of its entries
 pub record IndexResolver : Type 0 where
   pub table : TableResolver
   pub entries : ℕ

@@ -26,7 +26,7 @@ distance_pos w p = p + 3 * byte_len w
 abbrev pub decode_entries : Width → List ℕ → ℕ → ℤ
 decode_entries w b p = pos (distance_pos w p) +ℤ signed_at w b (distance_pos w p)
 
--- the position of entry `i` of a row of entries from `begin` on
+-- the position of entry `i` of contiguous entries from `begin` on
 abbrev pub entry_at : ℕ → ℕ → ℕ → ℕ
 entry_at size begin i = begin + i * size
 

@@ -1,4 +1,4 @@
--- Lookups in an index map that represents a list of pairs, in terms of the list alone.
+-- Lookups in an index map that represents a list of pairs, in terms of only the list.
 use Rattle.rkyv_base.specs.declared.element.HasSpec.{Ghosts as Specs}
 use Rattle.rkyv_base.specs.declared.width.Word.{Ghosts as Words}
 use Rattle.std.specs.Prelude.{◌≡◌, ℕ, ◌<◌, Bool, true, false, List, None, Option, Some, slice_get}
@@ -16,7 +16,7 @@ abbrev pub AgreesOnKeys : {A : Type 0} → ElementSpec → (List ℕ → ℕ →
 AgreesOnKeys {A} k key b fits accept = (a : A) (q : ℕ) → ValidAt k b q → key b q a
     → fits b q ≡ accept a
 
--- the index is that of the first pair with an accepted key, or no pair has one
+-- the index is the index of the first pair with an accepted key, or no pair has one
 abbrev pub IsFirst : {A B : Type 0} → (A → Bool) → List (A × B) → Option ℕ → Type 0
 IsFirst {A} {B} accept pairs None =
     (i : ℕ) (pair : A × B) → slice_get pairs i ≡ Some pair → accept pair.0 ≡ false
@@ -27,7 +27,7 @@ IsFirst {A} {B} accept pairs (Some n) =
 module _ {A B K V H W : Type 0} {ks : Specs K} {vs : Specs V} {wt : Words W}
     (native : NativePairs A B) (m : ArchivedIndexMap K V H W ks vs wt) where
   -- The index map was written from the list. `first`: the index of a lookup's clause `first` is
-  -- that of the first pair with an accepted key. `each`: each pair is at its index
+  -- the index of the first pair with an accepted key. `each`: each pair is at its index
   pub record FindsListed (fits : List ℕ → ℕ → Bool) (accept : A → Bool) (pairs : List (A × B)) :
       Type 0 where
     pub homes : List ℕ

@@ -27,7 +27,7 @@ pub record FoundByHas {K : Type 0} (m : Index K) (hashes : LookupHashes)
   pub finds : FindsBy m post hashes.hash P
   pub first : FindsFirstBy m post hashes.hash hashes.key_hash P
 
--- What a lookup in `M` returns of the pair that it finds. `In m x`: `x` is of a pair of `m`
+-- The part of a found pair that a lookup in `M` returns. `In m x`: `x` is of a pair of `m`
 -- whose index is in the table, `At m result index`: the result is of the pair at the index,
 -- or there is neither
 pub record Part (M X : Type 0) : Type 1 where

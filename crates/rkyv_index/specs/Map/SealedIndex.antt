@@ -48,7 +48,7 @@ abbrev pub index_in : {K V H W : Type 0} → Width → ElementSpec → ElementSp
 index_in w k v a = index_at w k v (archive_in a) (pos_in a)
 
 -- `q`: position of the pair at index `i` of the map at `p`, with a valid key and value.
--- A write of the value alone that keeps it valid keeps the index map
+-- A write of only the value that keeps it valid keeps the index map
 pub record IsPairPos (w : Width) (k v : ElementSpec) (b : List ℕ) (p i q : ℕ) : Type 0 where
   pub below : i < len_at w b p
   pub pos : q ≡ pair_at w k v b p i

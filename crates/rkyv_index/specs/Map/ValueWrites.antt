@@ -24,7 +24,7 @@ module _ (w : Width) (k v : ElementSpec) where
     pub others : (j : ℕ) → j < len_at w b p → j ≢ i
         → SameValue (entry_spec k v) b c (pair_at b p j)
 
-  -- each write of the value at index `i` alone that keeps it valid keeps the index map
+  -- each write of only the value at index `i` that keeps it valid keeps the index map
   abbrev pub KeptByWrites : List ℕ → ℕ → ℕ → Type 0
   KeptByWrites b p i = (c : List ℕ) → WritesValue k v b c (pair_at b p i) → KeepsEntries b c p i
 

@@ -13,7 +13,7 @@ use Rattle.rkyv_index.specs.Map.IndexLayout.{index_spec}
 use Rattle.rkyv_index.specs.declared.map.ArchivedIndexMap.{ArchivedIndexMap}
 use Rattle.rkyv_index.specs.declared.set.ArchivedIndexSet.{ArchivedIndexSet}
 
--- the spec of an index set: that of an index map to the unit value
+-- the spec of an index set: the spec of an index map to the unit value
 abbrev pub index_set_spec : Width → ElementSpec → ElementSpec
 index_set_spec w k = index_spec w (entry_spec k unit_spec)
 

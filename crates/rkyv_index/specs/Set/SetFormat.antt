@@ -1,4 +1,4 @@
--- The format of a list as an index set: that of an index map of the items to the unit value.
+-- The format of a list as an index set: as an index map of the items to the unit value.
 use Rattle.std.specs.Prelude.{ℕ, List}
 use Rattle.std.specs.Int.{Width}
 use Rattle.rkyv_base.specs.{ElementSpec, Encoding, Format, IsFormat, unit_format, unit_represents}

@@ -1,4 +1,4 @@
-//! Maps and sets of std that are archived, and read back.
+//! Std maps and sets that are archived, and read back.
 
 use rkyv_base::access::access;
 use rkyv_base::{
@@ -80,7 +80,7 @@ fn an_archive_succeeds(rt: HostRuntime) {
     expect_eq!(rt; written(rt.alloc()), Some(Ok(true)));
 }
 
-// Returns whether the map of std that is read back has the four pairs, or the error.
+// Returns whether the std map that is read back has the four pairs, or the error.
 fn read_back(alloc: Global) -> Result<Result<bool, ReadError>, VerifyError> {
     let bytes = four_pairs();
     let root = ArchivedHashMap::of(access::<HashMapOf<i8, i8>>(&bytes)?);
@@ -121,7 +121,7 @@ fn two_texts() -> [u8; 120] {
     archive(&buckets, &two_controls())
 }
 
-// Returns whether the map of std that is read back has the two texts, or the error.
+// Returns whether the std map that is read back has the two texts, or the error.
 fn texts_back(alloc: Global) -> Result<Result<bool, ReadError>, VerifyError> {
     let bytes = two_texts();
     let root = ArchivedHashMap::of(access::<HashMapOf<Text, Text>>(&bytes)?);
@@ -143,7 +143,7 @@ fn two_words() -> [u8; 80] {
     archive(&buckets, &two_controls())
 }
 
-// Returns whether the set of std that is read back has the two words, or the error.
+// Returns whether the std set that is read back has the two words, or the error.
 fn words_back(alloc: Global) -> Result<Result<bool, ReadError>, VerifyError> {
     let bytes = two_words();
     let root = ArchivedHashSet::of(access::<HashSetOf<Text>>(&bytes)?);
@@ -154,7 +154,7 @@ fn words_back(alloc: Global) -> Result<Result<bool, ReadError>, VerifyError> {
     Ok(back.map(|set| root.eq_std(&set)))
 }
 
-// Returns whether the map of std that is read back has the two maps, or the error.
+// Returns whether the std map that is read back has the two maps, or the error.
 fn maps_back(alloc: Global) -> Result<Result<bool, ReadError>, VerifyError> {
     let bytes = archives::two_maps();
     let archived = archived_maps(&bytes)?;

@@ -1,4 +1,4 @@
-//! Lookups in maps and sets of std that are values of maps of std, or parts of such values.
+//! Lookups in std maps and sets that are values of std maps, or parts of such values.
 
 ghost use Rattle.std.specs.Prelude.{◌==◌, ◌≡◌, Ok};
 ghost use Rattle.rkyv_collections.specs.{IsNarrowWritten, inner_entries, map_bytes, map_pos};
@@ -33,7 +33,7 @@ type CityMap = Hashed<HashMap<u32, FareMap>>;
 
 type FareRelation = EntriesRelation<ValueRelation>;
 
-// Returns the value that a map of std has under the key, if the archived map is one.
+// Returns the value that a std map has under the key, if the archived map is one.
 fn fare_in(fares: ArchivedHashMap<'_, u32, u64>, line: u32) -> Option<u64>
     ensures { let r = ⟦<FareRelation as WrittenRelation<Narrow, FareMap>>⟧ in
         (map : _) → r.related (map_bytes fares.entry) (map_pos fares.entry) map
@@ -46,7 +46,7 @@ fn fare_in(fares: ArchivedHashMap<'_, u32, u64>, line: u32) -> Option<u64>
     }
 }
 
-// Returns the value that an archived map of maps of std has under the two keys.
+// Returns the value that an archived std map maps has under the two keys.
 fn fare_of(table: &[u8], city: u32, line: u32) -> Result<Option<u64>, VerifyError>
     ensures { (cities : _) → IsNarrowWritten ⟦<Cities as Represents<CityMap>>⟧
         ⟦<CityMap as Archive<Narrow>>⟧.format table.now cities
@@ -93,7 +93,7 @@ type Lines = HashMapOf<u32, HashSetOf<u32>>;
 
 type LineMap = Hashed<HashMap<u32, LineSet>>;
 
-// Returns whether the set that an archived map of sets of std has under `city` has the line.
+// Returns whether the set that an archived std map sets has under `city` has the line.
 fn has_line(table: &[u8], city: u32, line: u32) -> Result<Option<bool>, VerifyError>
     ensures { (cities : _) → IsNarrowWritten ⟦<Lines as Represents<LineMap>>⟧
         ⟦<LineMap as Archive<Narrow>>⟧.format table.now cities

@@ -23,7 +23,7 @@ use std::test::Fail;
 
 type Ages = HashMap<String, u8>;
 
-// Returns a map of std's with two pairs.
+// Returns a std map with two pairs.
 fn two_ages(alloc: Global) -> Result<Ages, Fail> {
     let mut ages = HashMap::new(alloc);
     ages.insert(String::from_str(alloc, "ann")?, 41)?;
@@ -31,7 +31,7 @@ fn two_ages(alloc: Global) -> Result<Ages, Fail> {
     Ok(ages)
 }
 
-// Archives a map of std's, and reads it back.
+// Archives a std map, and reads it back.
 fn ages_round_trip(alloc: Global, ages: &Ages) -> Result<Ages, Fail> {
     let ages: Hashed<&Ages> = Hashed::new(ages);
     let archive = to_bytes(alloc, &ages)?;
@@ -47,7 +47,7 @@ fn a_map_of_std(rt: HostRuntime) -> Result<(), Fail> {
     Ok(())
 }
 
-// Archives a set of std's, and reads it back with a state of its own.
+// Archives a std set, and reads it back with a state of its own.
 fn primes_round_trip(alloc: Global, state: RandomState) -> Result<HashSet<u32, RandomState>, Fail> {
     let mut primes = HashSet::new(alloc);
     primes.insert(2)?;

@@ -1,4 +1,4 @@
-//! Tests of maps and sets of std that are archived by a reference.
+//! Tests of std maps and sets that are archived by a reference.
 
 use crate::tests::std_maps::one_of;
 use crate::tests::std_sets::set_of_one;

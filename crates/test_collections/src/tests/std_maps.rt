@@ -85,7 +85,7 @@ fn hundred(alloc: Global) -> Result<HashMap<String, u32>, AllocError> {
     Ok(map)
 }
 
-// Returns whether an archived map equals a map of std's, by the calls of both sides.
+// Returns whether an archived map equals a std map, by the calls of both sides.
 fn equals_small(bytes: &[u8], map: &HashMap<i8, i8>) -> Result<(bool, bool), VerifyError> {
     let root = ArchivedHashMap::of(access::<HashMapOf<i8, i8>>(bytes)?);
     Ok((root.eq_std(map), map.eq_archived(root)))
@@ -152,7 +152,7 @@ fn a_map_in_a_map(rt: HostRuntime) -> Result<(), Fail> {
     Ok(())
 }
 
-// Returns whether an archived map equals a map of std's, by `eq_native` and by `eq_std`.
+// Returns whether an archived map equals a std map, by `eq_native` and by `eq_std`.
 fn equals_nested(bytes: &[u8], map: &Nested) -> Result<[bool; 2], VerifyError> {
     let root = access::<ArchivedNested>(bytes)?;
     let native = <ArchivedNested as MatchesNative<Nested>>::eq_native(root, map);
@@ -233,7 +233,7 @@ fn texts_to_texts(rt: HostRuntime) -> Result<(), Fail> {
     Ok(())
 }
 
-// Returns the number of pairs of an archived map that a map of std's has, and of pairs of the map
+// Returns the number of pairs of an archived map that a std map has, and of pairs of the map
 // of std's that the archived map has.
 fn found_both_ways(
     root: ArchivedHashMap<'_, Text, u32>,

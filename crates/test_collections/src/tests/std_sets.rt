@@ -52,7 +52,7 @@ fn sets_of_the_unit_value(rt: HostRuntime) -> Result<(), Fail> {
     Ok(())
 }
 
-// Returns the number of archived texts that a set of std's has, and of its texts that the archived
+// Returns the number of archived texts that a std set has, and of its texts that the archived
 // set has.
 fn members_both_ways(root: ArchivedHashSet<'_, Text>, words: &HashSet<String>) -> (usize, usize) {
     let (mut in_std, mut in_archive) = (0usize, 0usize);

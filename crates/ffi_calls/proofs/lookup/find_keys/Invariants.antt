@@ -2,7 +2,7 @@ use Rattle.ffi_calls.specs.{index_width, key_members, types_by, value_members}
 use Rattle.ffi_calls.proofs.Lookups.{Found}
 use Rattle.ffi_calls.proofs.lookup.find_keys.Given as goal
 
--- the first results are those of the keys, and the others are unchanged
+-- the first results are the results of the keys, and the others are unchanged
 abbrev pub invariant-loop-count : goal.invariant-loop-count
 invariant-loop-count g l =
     let width = index_width record { word = g.W.Word.word; kind = g.W.Word.kind; LIMIT = g.W.Width.LIMIT; ALIGN = g.W.Width.ALIGN; MAX_CAPACITY = g.W.Width.MAX_CAPACITY; TABLE_SIZE = g.W.Width.TABLE_SIZE; INDEX_SIZE = g.W.Width.INDEX_SIZE; TEXT_SIZE = g.W.Width.TEXT_SIZE; TEXT_LIMIT = g.W.Width.TEXT_LIMIT } g.W.Index.HasSpec.spec g.W.Index.Scalar.encoding in

@@ -1,7 +1,7 @@
 //! Writing contiguous values: first their parts, and then their own bytes.
 //!
-//! If the own bytes of all values fit within the limit, those of several small values are one
-//! piece. Otherwise those of each value are one piece.
+//! If the own bytes of all values fit within the limit, several small values' bytes are one
+//! piece. Otherwise each value's bytes are one piece.
 
 ghost use Rattle.std.specs.Prelude.{◌≡◌, ◌+◌, ◌*◌, ◌<◌, ◌≤◌, ◌^◌, [], MatchResult, drop, length};
 ghost use Rattle.std.specs.Prelude.{take, vec_capacity};
@@ -80,7 +80,7 @@ fn resolve_at<W: IndexWidth, U: Archive<W>>(
     value.resolve(resolver, pos, &mut chunk[at..at + size])
 }
 
-// Writes the own bytes of values that fit within the limit, those of several as one piece.
+// Writes the own bytes of values that fit within the limit, several values' as one piece.
 #[inline]
 fn write_chunks<W: IndexWidth, S: Writer, U: Archive<W>>(
     values: &[U],

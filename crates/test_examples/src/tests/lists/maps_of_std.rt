@@ -1,4 +1,4 @@
-//! A map of std and a set of std.
+//! A std map and a std set.
 
 use super::{out_of_range, without_first};
 use example_lists::maps_of_std::{AgeMap, FareMap, LineSet, age_of, fare_of, has_line};
@@ -41,7 +41,7 @@ fn lines(alloc: Global) -> Result<Vec<u8>, Fail> {
 
 #[test]
 fn entries_of_std_collections_are_found(rt: HostRuntime) -> Result<(), Fail> {
-    // A map of std keeps one value of a key, the last one that is inserted.
+    // A std map keeps one value of a key, the last one that is inserted.
     let archive = fares(rt.alloc())?;
     let bytes = archive.as_slice();
     let found = [fare_of(bytes, 12)?, fare_of(bytes, 31)?, fare_of(bytes, 0)?];

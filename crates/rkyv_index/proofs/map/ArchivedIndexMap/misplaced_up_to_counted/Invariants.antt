@@ -6,7 +6,7 @@ use Rattle.rkyv_index.specs.{index_len, index_misplaced, index_of, is_misplaced,
 use Rattle.rkyv_index.proofs.map.ArchivedIndexMap.misplaced_up_to_counted.Given as goal
 
 -- the number of misplaced keys is the count and the number of those that remain,
--- and the strides of all keys are those that were read and those of the remaining keys
+-- and the strides of all keys are the strides that were read and the remaining keys' strides
 abbrev pub invariant-loop-index : goal.invariant-loop-index
 invariant-loop-index g l =
     let m = index_of l.fn.self in

@@ -7,7 +7,7 @@ use Rattle.rkyv_index.proofs.Checking.{decoded_is}
 use Rattle.rkyv_index.proofs.ValidIndexMap.{entries_decoded, entries_inside}
 use Rattle.rkyv_index.proofs.map.read.accessors.begin.Goals as goal
 
--- the position at which the entries begin is that of the header
+-- the position at which the entries begin is the position in the header
 pub decode_pos-requires : goal.decode_pos-requires
 decode_pos-requires g c =
     let w = g.W.Word.word in
