@@ -531,7 +531,7 @@ static void opening_errors(open_call *open, bool container) {
 /* Each call fails with a handle that is null, and with one of no open collection, before its other
  * arguments are tested. */
 static void handles(void) {
-    hk_map closed = {NULL, NULL, 0, {0, 0, 0, 0}, {0, 0, 0, 0, 0}};
+    hk_map closed = {NULL, NULL, 0, {0, 0, 0, 0}, {false, false, 0, 0, {0, 0, 0, 0, 0}}};
     for (int i = 0; i < 2; i++) {
         hk_map *map = i == 0 ? NULL : &closed;
         const hk_status wanted = i == 0 ? HK_NULL : HK_CLOSED;
